@@ -1,0 +1,106 @@
+-- From the session's run to what is said of the report.
+use Rattle.std.proofs.Common.{◌≡◌, ℕ, zero, suc, ◌+◌, ◌<◌, ◌≤◌, Bool, true, false, List, [], ◌∷◌, length, refl, sym, ap, ◌∙◌, subst, arith, slice_index_or, true≢false, Option, None}
+use Rattle.std.specs.Prelude.{◌&&◌, nat_le, IfOk, Result, Ok, Err}
+use Rattle.std.specs.List.{list_all, All}
+use Rattle.qc_sql.specs.declared.tables.Column.{Column}
+use Rattle.qc_sql.specs.declared.tables.RowOp.{RowOp}
+use Rattle.qc_sql.specs.declared.tables.RowOp.TheVariants as op
+use Rattle.qc_model.specs.declared.events.Event.{Event}
+use Rattle.qc_model.specs.declared.events.Event.TheVariants as event
+use Rattle.qc_model.specs.declared.events.How.TheVariants as how
+use Rattle.qc_model.specs.declared.events.Reason.TheVariants as reason
+use Rattle.qc_model.specs.declared.reports.Report.{Report}
+use Rattle.qc_model.specs.declared.reports.Script.{Script}
+use Rattle.qc_model.specs.declared.reports.SessionReport.{SessionReport}
+use Rattle.qc_model.specs.Journal.{Journal}
+use Rattle.qc_model.specs.Cache.{cache}
+use Rattle.qc_model.specs.Agrees.{Agrees}
+use Rattle.qc_model.specs.ScriptLines.{most_script}
+use Rattle.qc_script.specs.ShortNames.{HasShortNames, HasShortColumns, HasShortName, MakesShortColumns}
+use Rattle.qc_sessions.specs.Runs.{report_of}
+use Rattle.qc_app.specs.Words.{without_cache}
+use Rattle.qc_app.specs.Stage.{first_machine}
+use Rattle.qc_app.specs.Inputs.{IsSmall, total}
+use Rattle.qc_app.specs.Run.{is_simple, is_short, makes_short_names}
+use Rattle.qc_app.specs.Ran.{IsReportOf}
+use Rattle.qc_app.proofs.Ends.{one_session, no_session}
+use Rattle.qc_app.proofs.Journals.{cache_empty}
+
+both : (a b : Bool) → (a && b) ≡ true → (a ≡ true) × (b ≡ true)
+both true b h = (refl, h)
+both false b h = absurd (true≢false (sym h))
+
+-- ---- the names
+
+all_of : {X : Type 0} (p : X → Bool) (P : X → Type 0) → ((x : X) → p x ≡ true → P x) → (xs : List X) → list_all p xs ≡ true → All P xs
+all_of p P f [] h k d lt = absurd (omega (arith, lt))
+all_of p P f (x ∷ xs) h zero d lt = f x (both (p x) (list_all p xs) h).0
+all_of p P f (x ∷ xs) h (suc k) d lt = all_of p P f xs (both (p x) (list_all p xs) h).1 k d (omega (arith, lt))
+
+column_short : (c : Column) → is_short c.name ≡ true → HasShortName c
+column_short c h = grind (arith)
+
+op_short : (o : RowOp) → makes_short_names o ≡ true → MakesShortColumns o
+op_short (op.CreateTable t columns) h = all_of (λ c. is_short c.name) HasShortName column_short columns h
+op_short (op.Put t row) h = tt
+op_short (op.Del t key) h = tt
+op_short (op.DropTable t) h = tt
+op_short (op.CreateDb name) h = tt
+op_short (op.DropDb name) h = tt
+
+event_short : (e : Event) → is_simple e ≡ true → HasShortColumns e
+event_short (event.Commit who ops) h = all_of makes_short_names MakesShortColumns op_short ops (both _ (list_all makes_short_names ops) h).1
+event_short (event.Run who x) h = tt
+event_short (event.Done serial) h = tt
+event_short (event.Gone serial why) h = tt
+event_short (event.Prune serial need largest) h = tt
+event_short (event.Reset who) h = tt
+event_short (event.Flush who) h = tt
+
+pub names_are_short : (options : Rattle.qc_types.specs.declared.options.Options.Options) (sessions : List SessionReport) (J : Journal) → list_all is_simple J ≡ true → HasShortNames (report_of options sessions J)
+names_are_short options sessions J h = all_of is_simple HasShortColumns event_short J h
+
+-- ---- the one session
+
+only : {X : Type 0} (xs : List X) (x : X) → 1 ≤ length xs → length xs < 2 → x ≡ slice_index_or xs 0 x → xs ≡ x ∷ []
+only [] x h g e = absurd (omega (arith, h))
+only (y ∷ []) x h g e = ap (λ z. z ∷ []) (sym e)
+only (y ∷ z ∷ ys) x h g e = absurd (omega (arith, g))
+
+pub the_script : (script : Script) (input : List ℕ) → script.setup ≡ None → 1 ≤ length script.sessions → length script.sessions < 2 → input ≡ slice_index_or script.sessions 0 input → script ≡ record { setup = None; sessions = input ∷ [] }
+the_script script input none h g e = by script.setup script.sessions none (only script.sessions input h g e)
+  where
+    by : (setup : Option (List ℕ)) (sessions : List (List ℕ)) → setup ≡ None → sessions ≡ input ∷ [] → ◌≡◌ {A = Script} (record { setup = setup; sessions = sessions }) (record { setup = None; sessions = input ∷ [] })
+    by setup sessions p q = rw (p, q) refl
+
+pub input_is_small : (script : Script) (input : List ℕ) → IsSmall most_script script → 1 ≤ length script.sessions → input ≡ slice_index_or script.sessions 0 input → length input < 4294967296
+input_is_small script input small h e =
+    let few : total script.sessions ≤ most_script = small.bytes in
+    let one = only script.sessions input h (omega (arith, small.one)) e in
+    omega (arith, few, ap total one)
+
+pub run_agrees : (script : Script) (input : List ℕ) (report : Report) → script ≡ record { setup = None; sessions = input ∷ [] } → IsReportOf without_cache input report → Agrees first_machine script without_cache report
+run_agrees script input report same is =
+    let s = is.session in
+    subst (λ (x : Script). Agrees first_machine x without_cache report) (sym same)
+    (subst (λ (r : Report). Agrees first_machine (record { setup = None; sessions = input ∷ [] }) without_cache r) (sym is.same)
+    (one_session input s.lines is.ending s.events s.db s.database is.ran.taken.fit.sound is.ran.taken.runs is.ran.same_ending))
+
+pub run_names : (input : List ℕ) (report : Report) → IsReportOf without_cache input report → HasShortNames report
+run_names input report is =
+    subst HasShortNames (sym is.same) (names_are_short without_cache (record { session = 1; lines = is.session.lines; ending = is.ending } ∷ []) is.session.events is.ran.taken.fit.sound.simple)
+
+-- ---- no session
+
+pub none_agrees : (script : Script) → script.setup ≡ None → length script.sessions ≤ 1 → ((1 ≤ length script.sessions) → ⊥) → Agrees first_machine script without_cache (report_of without_cache [] [])
+none_agrees script none few h = by script.setup script.sessions none few h
+  where
+    by : (setup : Option (List ℕ)) (sessions : List (List ℕ)) → setup ≡ None → length sessions ≤ 1 → ((1 ≤ length sessions) → ⊥) → Agrees first_machine (record { setup = setup; sessions = sessions }) without_cache (report_of without_cache [] [])
+    by setup [] p f g = subst (λ (o : Option (List ℕ)). Agrees first_machine (record { setup = o; sessions = [] }) without_cache (report_of without_cache [] [])) (sym p) no_session
+    by setup (x ∷ xs) p f g = absurd (g (omega arith))
+
+-- ---- in a result
+
+pub if_ok : {X E : Type 0} (P Q : X → Type 0) → ((x : X) → P x → Q x) → (r : Result X E) → IfOk r P → IfOk r Q
+if_ok P Q f (Ok x) h = f x h
+if_ok P Q f (Err e) h = tt

@@ -1,0 +1,189 @@
+-- From what a command does to what it answers: its event, its line, and where the session then stands.
+use Rattle.std.proofs.Common.{◌≡◌, ℕ, ◌+◌, Bool, true, false, not, List, [], ◌∷◌, ◌++◌, length, take, refl, sym, ap, ◌∙◌, subst, arith, take_all, true≢false, Option, Some, None, Ok, MatchOption}
+use Rattle.std.specs.Prelude.{◌&&◌, ◌==◌, codes, is_some, is_ok, nat_le, nat_lt}
+use Rattle.std.specs.List.{list_all}
+use Rattle.qc_sql.specs.declared.commands.Command.{Command}
+use Rattle.qc_sql.specs.declared.commands.Command.TheVariants as command
+use Rattle.qc_sql.specs.declared.replies.Reply.{Reply}
+use Rattle.qc_sql.specs.declared.replies.Reply.TheVariants as reply
+use Rattle.qc_sql.specs.declared.tables.RowOp.{RowOp}
+use Rattle.qc_sql.specs.declared.statements.Statement.TheVariants as statement
+use Rattle.qc_sql.specs.Database.{Name, Database, Tables, Table, tables_of, apply_one}
+use Rattle.qc_sql.specs.Errors.{not_supported}
+use Rattle.qc_sql.specs.Effects.{effect, effect_of}
+use Rattle.qc_sql.specs.Grammar.{meaning, trimmed}
+use Rattle.qc_sql.specs.Rows.{Rows, rows, rows_over}
+use Rattle.qc_model.specs.declared.events.Event.{Event}
+use Rattle.qc_model.specs.declared.events.Event.TheVariants as event
+use Rattle.qc_model.specs.declared.events.How.TheVariants as how
+use Rattle.qc_model.specs.declared.events.Reason.TheVariants as reason
+use Rattle.qc_model.specs.declared.events.Who.{Who}
+use Rattle.qc_model.specs.declared.reports.ReportLine.{ReportLine}
+use Rattle.qc_model.specs.declared.reports.Word.TheVariants as word
+use Rattle.qc_model.specs.Journal.{Journal, present, before}
+use Rattle.qc_model.specs.Cache.{cache}
+use Rattle.qc_model.specs.Session.{State, rows_reply}
+use Rattle.qc_model.specs.Licence.{IsLicensed, MayDecide, MayCommit, op_fits, is_within_rows, most_rows}
+use Rattle.qc_model.specs.Machine.{Local, Executes, ExecutesText, full_table, full_in, local, refused}
+use Rattle.qc_model.specs.Needs.{HasOwnNeeds}
+use Rattle.qc_model.specs.Agrees.{line, who_of, word_of, key_of_command, fill_ends}
+use Rattle.qc_sessions.specs.Runs.{Stand, stand, own, Answers, HasItsEvent, HasNoEvent}
+use Rattle.qc_sessions.proofs.Steps.{one_more, before_it}
+use Rattle.qc_parse.specs.declared.form.Form.{Form}
+use Rattle.qc_parse.specs.declared.form.Form.TheVariants as form
+use Rattle.qc_parse.specs.Forms.{form_of}
+use Rattle.qc_parse.specs.Laws.{FormsAreGrammatical, tree_of, select_tree}
+use Rattle.qc_execute.specs.Outcomes.{is_executed, first_flags}
+use Rattle.qc_app.specs.Stage.{takes, first_machine}
+use Rattle.qc_app.specs.Words.{without_cache}
+use Rattle.qc_app.specs.Run.{next_who, form_refusal, state_in, is_simple, IsSound, IsInOrder}
+use Rattle.qc_app.proofs.Journals.{present_more, lawful_more, simple_more, cache_empty, own_length, event_count_is, fill_is_none, by_event, is_first}
+
+-- ---- no table is too full
+
+not_above : (n m : ℕ) → nat_le n m ≡ true → nat_lt m n ≡ false
+not_above n m h = grind (arith)
+
+first_true : (a b : Bool) → (a && b) ≡ true → (a ≡ true) × (b ≡ true)
+first_true true b h = (refl, h)
+first_true false b h = absurd (true≢false (sym h))
+
+none_full_in : (db : Name) (ts : Tables) → list_all (λ entry. nat_le (length entry.1.rows) most_rows) ts ≡ true → full_in db ts ≡ None
+none_full_in db [] h = refl
+none_full_in db (t ∷ ts) h =
+    let p = first_true (nat_le (length t.1.rows) most_rows) _ h in
+    rw (not_above (length t.1.rows) most_rows p.0) (none_full_in db ts p.1)
+
+none_full : (d : Database) → is_within_rows d ≡ true → full_table d ≡ None
+none_full [] h = refl
+none_full (x ∷ d) h =
+    let p = first_true (list_all (λ entry. nat_le (length entry.1.rows) most_rows) x.1) _ h in
+    rw (none_full_in x.0 x.1 p.0) (none_full d p.1)
+
+-- ---- one event more
+
+pub may_decide : (J : Journal) → list_all is_simple J ≡ true → MayDecide J (next_who J)
+may_decide J h = record {
+  next = ap (λ n. n + 1) (sym (event_count_is J h));
+  not_filling = rw (cache_empty J h) refl;
+}
+
+simple_needs : (earlier : Journal) (key : List ℕ) (e : Event) → is_simple e ≡ true → HasOwnNeeds without_cache earlier key e
+simple_needs earlier key = by_event (HasOwnNeeds without_cache earlier key) (λ who ops h. tt) (λ who h. tt) (λ who h. tt)
+
+-- a command that is taken, with its event
+pub taken : (J : Journal) (db after : Name) (c : Command) (e : Event) (r : Reply) → list_all is_simple J ≡ true → is_simple e ≡ true
+    → takes (state_in db) J c ≡ true → local (state_in db) c ≡ None → Executes without_cache (next_who J) (state_in db) c J e r (state_in after)
+    → Answers first_machine without_cache 1 (stand J (state_in db) (length J)) c (line (length J + 1) (word_of e) r) (stand (J ++ e ∷ []) (state_in after) (length J + 1))
+taken J db after c e r simple one takes_it no_local does =
+    let whole : take (length J) J ≡ J = take_all (length J) J (omega arith) in
+    let at : 1 + length J + length {A = Event} [] ≡ length J + 1 = omega arith in
+    let its : own 1 (J ++ e ∷ []) ≡ own 1 J ++ (length J + 1, e) ∷ [] = subst (λ n. own 1 (J ++ e ∷ []) ≡ own 1 J ++ (n, e) ∷ []) at (one_more 1 J J [] [] e refl refl (is_first e one) refl) in
+    let earlier : J ≡ before (length J + 1) (J ++ e ∷ []) = sym (subst (λ n. before n (J ++ e ∷ []) ≡ J ++ []) at (before_it J [] [] e) ∙ append_nil J) in
+    let count : length J ≡ length (own 1 J) = sym (own_length J simple) in
+    let executed : Executes without_cache (who_of 1 (length (own 1 J) + 1)) (state_in db) c (before (length J + 1) (J ++ e ∷ [])) e r (state_in after)
+    = subst (λ n. Executes without_cache (who_of 1 (n + 1)) (state_in db) c (before (length J + 1) (J ++ e ∷ [])) e r (state_in after)) count
+    (subst (λ (j : Journal). Executes without_cache (next_who J) (state_in db) c j e r (state_in after)) earlier does) in
+    let seen : first_machine.without_event (state_in db) (take (length J) J) c ≡ first_machine.without_event (state_in db) J c = ap (λ (j : Journal). first_machine.without_event (state_in db) j c) whole in
+    let rest : first_machine.without_event (state_in db) J c ≡ None = rw takes_it no_local in
+    let from : Stand = stand J (state_in db) (length J) in
+    let to : Stand = stand (J ++ e ∷ []) (state_in after) (length J + 1) in
+    let l : ReportLine = line (length J + 1) (word_of e) r in
+    record {
+      begins = (e ∷ [], refl);
+      place = refl;
+      does = subst (λ (o : Local). MatchOption o (HasItsEvent first_machine without_cache 1 from c l to) (HasNoEvent 1 from l to)) (sym (seen ∙ rest))
+          (e, r, its, executed, refl, simple_needs (before (length J + 1) (J ++ e ∷ [])) (key_of_command (state_in db) c) e one, fill_is_none (J ++ e ∷ []) e one);
+    }
+  where
+    append_nil : (xs : Journal) → xs ++ [] ≡ xs
+    append_nil [] = refl
+    append_nil (x ∷ xs) = ap (λ ys. x ∷ ys) (append_nil xs)
+
+-- a command that isn't taken leaves all as it is
+pub not_taken : (J : Journal) (db : Name) (c : Command) → takes (state_in db) J c ≡ false
+    → Answers first_machine without_cache 1 (stand J (state_in db) (length J)) c (line (length J) word.Local (form_refusal)) (stand J (state_in db) (length J))
+not_taken J db c h =
+    let whole : take (length J) J ≡ J = take_all (length J) J (omega arith) in
+    let seen : first_machine.without_event (state_in db) (take (length J) J) c ≡ first_machine.without_event (state_in db) J c = ap (λ (j : Journal). first_machine.without_event (state_in db) j c) whole in
+    let rest : first_machine.without_event (state_in db) J c ≡ Some (form_refusal, state_in db) = rw h refl in
+    let from : Stand = stand J (state_in db) (length J) in
+    let l : ReportLine = line (length J) word.Local (form_refusal) in
+    record {
+      begins = ([], sym (append_nil J));
+      place = refl;
+      does = subst (λ (o : Local). MatchOption o (HasItsEvent first_machine without_cache 1 from c l from) (HasNoEvent 1 from l from)) (sym (seen ∙ rest))
+          (refl, refl, refl);
+    }
+  where
+    append_nil : (xs : Journal) → xs ++ [] ≡ xs
+    append_nil [] = refl
+    append_nil (x ∷ xs) = ap (λ ys. x ∷ ys) (append_nil xs)
+
+-- ---- what the forms execute
+
+-- a form that changes the database
+abbrev pub is_change : Form → Bool
+is_change (form.Select column table) = false
+is_change _ = true
+
+tree_executes : (J : Journal) (db : Name) (text : List ℕ) (f : Form) (at : ℕ) (o : RowOp) (n : ℕ) → is_change f ≡ true → is_within_rows (present J) ≡ true
+    → effect (tree_of f 0) (present J) db 1 ≡ Ok (effect_of (o ∷ []) n)
+    → ExecutesText without_cache (next_who J) (state_in db) text J (Ok (tree_of f at)) (event.Commit (next_who J) (o ∷ [])) (reply.Ok n 2) (state_in db)
+tree_executes J db text (form.CreateDatabase name) at o n c within e = rw (none_full (present J) within, e) (refl, refl, refl)
+tree_executes J db text (form.CreateTable table column) at o n c within e = rw (none_full (present J) within, e) (refl, refl, refl)
+tree_executes J db text (form.Insert table value) at o n c within e = rw e (refl, refl, refl)
+tree_executes J db text (form.Select column table) at o n c within e = absurd (true≢false (sym c))
+
+select_executes : (J : Journal) (db : Name) (text column table : List ℕ) (at : ℕ) (r : Rows) → rows (select_tree column table at) (present J) db first_flags 1 ≡ Ok r
+    → ExecutesText without_cache (next_who J) (state_in db) text J (Ok (tree_of (form.Select column table) at)) (event.Run (next_who J) (how.Plain reason.Off)) (rows_reply first_flags r) (state_in db)
+select_executes J db text column table at r e = record { chosen = (how.Plain reason.Off, refl, rw e refl); answered = rw e refl; same = refl }
+
+-- where the item stands makes no difference
+place_is_free : (column table : List ℕ) (at : ℕ) (d : Database) (db : Name) → rows (select_tree column table at) d db first_flags 1 ≡ rows (select_tree column table 0) d db first_flags 1
+unfolding rows rows_over
+place_is_free column table at d db = refl
+
+-- a text of a form has its tree, and so has its own event
+local_none : (J : Journal) (db : Name) (text : List ℕ) (f : Form) (at : ℕ) → meaning (trimmed text) false ≡ Ok (tree_of f at) → local (state_in db) (command.Query text) ≡ None
+local_none J db text (form.CreateDatabase name) at e = rw e refl
+local_none J db text (form.CreateTable table column) at e = rw e refl
+local_none J db text (form.Insert table value) at e = rw e refl
+local_none J db text (form.Select column table) at e = rw e refl
+
+change_taken : (f : Form) (d : Database) (db : Name) (o : RowOp) (n : ℕ) → is_change f ≡ true → effect (tree_of f 0) d db 1 ≡ Ok (effect_of (o ∷ []) n) → is_executed d db f ≡ true
+change_taken (form.CreateDatabase name) d db o n c e = rw e refl
+change_taken (form.CreateTable table column) d db o n c e = rw e refl
+change_taken (form.Insert table value) d db o n c e = rw e refl
+change_taken (form.Select column table) d db o n c e = absurd (true≢false (sym c))
+
+-- ---- the commands
+
+module _ (grammatical : FormsAreGrammatical) where
+  pub changes : (J : Journal) (db : Name) (text : List ℕ) (f : Form) (o : RowOp) (n : ℕ) → list_all is_simple J ≡ true → is_simple (event.Commit (next_who J) (o ∷ [])) ≡ true
+      → is_within_rows (present J) ≡ true → form_of text ≡ Some f → is_change f ≡ true → effect (tree_of f 0) (present J) db 1 ≡ Ok (effect_of (o ∷ []) n)
+      → Answers first_machine without_cache 1 (stand J (state_in db) (length J)) (command.Query text) (line (length J + 1) word.Other (reply.Ok n 2)) (stand (J ++ event.Commit (next_who J) (o ∷ []) ∷ []) (state_in db) (length J + 1))
+  changes J db text f o n simple one within is c e =
+      let g = grammatical text f is in
+      let takes_it : takes (state_in db) J (command.Query text) ≡ true = rw is (change_taken f (present J) db o n c e) in
+      let does : Executes without_cache (next_who J) (state_in db) (command.Query text) J (event.Commit (next_who J) (o ∷ [])) (reply.Ok n 2) (state_in db)
+      = rw g.1 (tree_executes J db text f g.0 o n c within e) in
+      taken J db db (command.Query text) (event.Commit (next_who J) (o ∷ [])) (reply.Ok n 2) simple one takes_it (local_none J db text f g.0 g.1) does
+
+  pub selects : (J : Journal) (db : Name) (text column table : List ℕ) (r : Rows) → list_all is_simple J ≡ true
+      → form_of text ≡ Some (form.Select column table) → rows (select_tree column table 0) (present J) db first_flags 1 ≡ Ok r
+      → Answers first_machine without_cache 1 (stand J (state_in db) (length J)) (command.Query text) (line (length J + 1) word.Plain (rows_reply first_flags r)) (stand (J ++ event.Run (next_who J) (how.Plain reason.Off) ∷ []) (state_in db) (length J + 1))
+  selects J db text column table r simple is e =
+      let g = grammatical text (form.Select column table) is in
+      let here : rows (select_tree column table g.0) (present J) db first_flags 1 ≡ Ok r = place_is_free column table g.0 (present J) db ∙ e in
+      let takes_it : takes (state_in db) J (command.Query text) ≡ true = rw is (rw e refl) in
+      let does : Executes without_cache (next_who J) (state_in db) (command.Query text) J (event.Run (next_who J) (how.Plain reason.Off)) (rows_reply first_flags r) (state_in db)
+      = rw g.1 (select_executes J db text column table g.0 r here) in
+      taken J db db (command.Query text) (event.Run (next_who J) (how.Plain reason.Off)) (rows_reply first_flags r) simple refl takes_it (local_none J db text (form.Select column table) g.0 g.1) does
+
+pub uses : (J : Journal) (db name : Name) (ts : Tables) → list_all is_simple J ≡ true → tables_of name (present J) ≡ Some ts
+    → Answers first_machine without_cache 1 (stand J (state_in db) (length J)) (command.InitDb name) (line (length J + 1) word.Other (reply.Ok 0 2)) (stand (J ++ event.Run (next_who J) how.Other ∷ []) (state_in name) (length J + 1))
+uses J db name ts simple there =
+    let takes_it : takes (state_in db) J (command.InitDb name) ≡ true = rw there refl in
+    let does : Executes without_cache (next_who J) (state_in db) (command.InitDb name) J (event.Run (next_who J) how.Other) (reply.Ok 0 2) (state_in name) = rw there (refl, refl, refl) in
+    taken J db name (command.InitDb name) (event.Run (next_who J) how.Other) (reply.Ok 0 2) simple refl takes_it refl does

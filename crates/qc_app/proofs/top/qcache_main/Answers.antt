@@ -1,0 +1,55 @@
+use Rattle.std.proofs.Common.{◌≡◌, sym, ap, ◌∙◌, subst, map, string_bytes, Global, Ok, Err, Result, List, ℕ}
+use Rattle.std.specs.Option.{IfSome}
+use Rattle.qc_model.specs.declared.reports.Report.{Report}
+use Rattle.qc_model.specs.Agrees.{Agrees}
+use Rattle.qc_model.specs.ScriptLines.{script_of}
+use Rattle.qc_app.specs.declared.top.Ended.{Ended}
+use Rattle.qc_app.specs.Reading.{ReadsEnough}
+use Rattle.qc_app.specs.Stage.{first_machine}
+use Rattle.qc_app.specs.Top.{RefusesInput, IsRunOf}
+use Rattle.qc_app.specs.Words.{without_cache, options_of}
+use Rattle.qc_app.proofs.Inputs.{script_is_small}
+use Rattle.qc_app.proofs.Tops.{words_are, refusal_is, not_taken, not_refused, run_is, if_some, given, given_refusal}
+use Rattle.qc_app.proofs.top.qcache_main.Goals as goal
+
+pub returns-in-Err-Other-clause-refusal : goal.returns-in-Err-Other-clause-refusal
+returns-in-Err-Other-clause-refusal g c =
+    let left = g.S.Source.left in
+    let refusal = c.in-Err-Other.refusal in
+    let means = given_refusal c.read_script.result c.in-Err-Other.field-0 refusal (script_of c.deref.result.now) c.in-Err-Other.is c.in-Err-Other.field-0-is c.read_script.ensures in
+    let read = c.in-Ok.ensures.bytes in
+    subst (λ (e : Ended). IfSome e.bad (RefusesInput (left c.args.input.now))) (sym c.refused.ensures)
+    (subst (RefusesInput (left c.args.input.now)) (sym c.in-Err-Other.refusal-is)
+    (refusal_is (left c.args.input.now) (left c.read_input.new.input) c.in-Ok.bytes.items refusal read (ap script_of (sym c.deref.ensures.value) ∙ means)))
+
+pub returns-in-Err-Other-clause-completes : goal.returns-in-Err-Other-clause-completes
+returns-in-Err-Other-clause-completes g c = λ chosen tells quiet still.
+    let left = g.S.Source.left in
+    let refusal = c.in-Err-Other.refusal in
+    let means = given_refusal c.read_script.result c.in-Err-Other.field-0 refusal (script_of c.deref.result.now) c.in-Err-Other.is c.in-Err-Other.field-0-is c.read_script.ensures in
+    not_taken (left c.args.input.now) (left c.read_input.new.input) c.in-Ok.bytes.items refusal c.in-Ok.ensures.bytes (ap script_of (sym c.deref.ensures.value) ∙ means) tells
+
+pub run_script-requires-clause-small : goal.run_script-requires-clause-small
+run_script-requires-clause-small g c =
+    script_is_small c.deref.result.now c.in-Ok-read_script.script
+    (given c.read_script.result c.in-Ok-read_script.script (script_of c.deref.result.now) c.in-Ok-read_script.is c.read_script.ensures)
+
+pub returns-in-Ok-run_script-clause-agrees : goal.returns-in-Ok-run_script-clause-agrees
+returns-in-Ok-run_script-clause-agrees g c =
+    let words = map (string_bytes {Z = Global}) c.args.words.now in
+    let left = g.S.Source.left in
+    let script = c.in-Ok-read_script.script in
+    let report = c.in-Ok-run_script.report in
+    let means = given c.read_script.result script (script_of c.deref.result.now) c.in-Ok-read_script.is c.read_script.ensures in
+    if_some (λ (r : Report). r ≡ report) (IsRunOf words (left c.args.input.now) (left c.read_input.new.input))
+    (λ r same. subst (IsRunOf words (left c.args.input.now) (left c.read_input.new.input)) (sym same)
+    (run_is words (left c.args.input.now) (left c.read_input.new.input) c.in-Ok.bytes.items script c.in-Some.options report c.in-Ok.ensures.bytes
+    (ap script_of (sym c.deref.ensures.value) ∙ means) (sym c.read_words.ensures ∙ c.in-Some.is) c.in-Ok-run_script.ensures.agrees))
+    c.write_report.result.report c.write_report.ensures.same
+
+pub returns-in-Ok-run_script-clause-refuses : goal.returns-in-Ok-run_script-clause-refuses
+returns-in-Ok-run_script-clause-refuses g c = λ chosen tells quiet.
+    let left = g.S.Source.left in
+    let script = c.in-Ok-read_script.script in
+    let means = given c.read_script.result script (script_of c.deref.result.now) c.in-Ok-read_script.is c.read_script.ensures in
+    not_refused (left c.args.input.now) (left c.read_input.new.input) c.in-Ok.bytes.items script c.in-Ok.ensures.bytes (ap script_of (sym c.deref.ensures.value) ∙ means) tells

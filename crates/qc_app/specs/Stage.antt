@@ -1,0 +1,25 @@
+-- The machine of this stage: the commands that are taken so far. All others get the form refusal, and change nothing.
+use Rattle.std.specs.Prelude.{Bool, false, Option, Some, None, is_some}
+use Rattle.qc_sql.specs.declared.commands.Command.{Command}
+use Rattle.qc_sql.specs.declared.commands.Command.TheVariants as command
+use Rattle.qc_sql.specs.Database.{tables_of}
+use Rattle.qc_model.specs.Journal.{Journal}
+use Rattle.qc_model.specs.Session.{State, base}
+use Rattle.qc_model.specs.Agrees.{Machine, machine_taking}
+use Rattle.qc_parse.specs.declared.form.Form.{Form}
+use Rattle.qc_parse.specs.Forms.{form_of}
+use Rattle.qc_execute.specs.Outcomes.{is_executed}
+
+-- a text of one of the four forms that isn't refused
+abbrev pub takes_text : State → Journal → Option Form → Bool
+takes_text state journal None = false
+takes_text state journal (Some f) = is_executed (base state journal) state.db f
+
+-- a query of such a text, or the choice of a database that is there
+abbrev pub takes : State → Journal → Command → Bool
+takes state journal (command.Query text) = takes_text state journal (form_of text)
+takes state journal (command.InitDb name) = is_some (tables_of name (base state journal))
+takes state journal _ = false
+
+abbrev pub first_machine : Machine
+first_machine = machine_taking takes

@@ -1,0 +1,173 @@
+//! A session that runs by itself, command by command.
+
+ghost use Rattle.std.specs.Prelude.{◌≡◌, ◌+◌, true, [], ◌∷◌, ◌++◌, length, IfOk, OnOk};
+ghost use Rattle.qc_sql.specs.declared.commands.Command.TheVariants as command;
+ghost use Rattle.qc_sql.specs.declared.replies.Reply.TheVariants as reply;
+ghost use Rattle.qc_model.specs.declared.events.Event.TheVariants as event;
+ghost use Rattle.qc_model.specs.declared.reports.Word.TheVariants as word;
+ghost use Rattle.qc_sql.specs.Database.{apply_one};
+ghost use Rattle.qc_sql.specs.Packets.{packets};
+ghost use Rattle.qc_model.specs.Agrees.{line};
+ghost use Rattle.qc_execute.specs.Outcomes.{MayApply};
+ghost use Rattle.qc_app.specs.Run.{has_short_names, next_who, form_refusal};
+
+use qc_execute::{Outcome, execute_form};
+use qc_model::events::{Event, Events, How, Reason, Who};
+use qc_model::reports::{ReportLine, ReportLines, Word};
+use qc_parse::{Form, read_form};
+use qc_sql::commands::Command;
+use qc_sql::tables::{Ops, RowOp};
+use qc_table::Database;
+use qc_types::{NoMemory, SqlError, Text};
+use qc_wire::{put_err, put_ok};
+use std::alloc::Global;
+
+/// The number of the one session that there is so far.
+pub const ONLY_SESSION: u8 = 1;
+
+/// The status of a reply outside transactions, with autocommit on.
+const AUTOCOMMIT: u16 = 2;
+
+/// A session: the database that it works on, its current database (empty where it has none), and what it has done so far.
+#[derive(Drop)]
+pub struct Session {
+    pub database: Database,
+    pub db: Text,
+    pub events: Events,
+    pub lines: ReportLines,
+}
+
+impl Session {
+    ghost use Rattle.qc_app.specs.Going.{IsFit, HasTaken, DoesOne, DoesForm, Logs};
+
+    /// A session on an empty database.
+    pub fn new(alloc: Global) -> Result<Session, NoMemory>
+        ensures { IfOk result (HasTaken []) }
+    {
+        Ok(Session {
+            database: Database::empty(alloc)?,
+            db: Text::of(alloc, &[])?,
+            events: Events::new(alloc),
+            lines: ReportLines::new(alloc),
+        })
+    }
+
+    /// Answers one command: what it does to the database, its event and its line.
+    pub fn execute(&mut self, alloc: Global, command: &Command) -> Result<(), NoMemory>
+        requires { IsFit self.old }
+        ensures { OnOk result (DoesOne command.now self.old self.new) }
+    {
+        match command {
+            Command::Query(text) => match read_form(alloc, text.bytes())? {
+                Some(form) => self.execute_form(alloc, &form),
+                None => self.refuse(alloc),
+            },
+            Command::InitDb(name) => self.use_db(alloc, name),
+            _ => self.refuse(alloc),
+        }
+    }
+
+    fn execute_form(&mut self, alloc: Global, form: &Form) -> Result<(), NoMemory>
+        requires fit { IsFit self.old }
+        requires names { has_short_names form.now ≡ true }
+        ensures { OnOk result (DoesForm form.now self.old self.new) }
+    {
+        match execute_form(alloc, &self.database, self.db.bytes(), form)? {
+            Outcome::Refused => self.refuse(alloc),
+            Outcome::Changed { op, affected } => self.commit(alloc, op, affected),
+            Outcome::Rows(reply) => {
+                let who = self.next_who();
+                let how = How::Plain(Reason::Off);
+                self.log(Event::Run { who, how }, Word::Plain, reply)
+            }
+        }
+    }
+
+    /// COM_INIT_DB, and USE: another current database, where it is there.
+    fn use_db(&mut self, alloc: Global, name: &Text) -> Result<(), NoMemory>
+        requires { IsFit self.old }
+        ensures { OnOk result (DoesOne (command.InitDb name.now) self.old self.new) }
+    {
+        if !self.database.has_db(name.bytes()) {
+            return self.refuse(alloc);
+        }
+        let reply = ok_reply(alloc, 0)?;
+        let who = self.next_who();
+        self.log(
+            Event::Run {
+                who,
+                how: How::Other,
+            },
+            Word::Other,
+            reply,
+        )?;
+        self.db = name.copy(alloc)?;
+        Ok(())
+    }
+
+    /// Carries out an operation, and commits it.
+    fn commit(&mut self, alloc: Global, op: RowOp, affected: u64) -> Result<(), NoMemory>
+        requires { MayApply op self.old.database }
+        ensures events { OnOk result (self.new.events ≡ self.old.events ++ event.Commit (next_who self.old.events) (op ∷ []) ∷ []) }
+        ensures lines { OnOk result (self.new.lines ≡ self.old.lines ++ line (length self.old.events + 1) word.Other (reply.Ok affected 2) ∷ []) }
+        ensures kept { OnOk result ((self.new.database ≡ apply_one op self.old.database) × (self.new.db ≡ self.old.db)) }
+    {
+        let reply = ok_reply(alloc, affected)?;
+        self.database.apply(alloc, &op)?;
+        let mut ops = Ops::new(alloc);
+        ops.push(op)?;
+        let who = self.next_who();
+        self.log(Event::Commit { who, ops }, Word::Other, reply)
+    }
+
+    /// The form refusal: no event, nothing else changes.
+    fn refuse(&mut self, alloc: Global) -> Result<(), NoMemory>
+        ensures lines { OnOk result (self.new.lines ≡ self.old.lines ++ line (length self.old.events) word.Local form_refusal ∷ []) }
+        ensures events { self.new.events ≡ self.old.events }
+        ensures database { self.new.database ≡ self.old.database }
+        ensures db { self.new.db ≡ self.old.db }
+    {
+        let reply = refusal_reply(alloc)?;
+        let place = self.events.items().len() as u64;
+        let how = Word::Local;
+        self.lines.push(ReportLine { place, how, reply })
+    }
+
+    fn log(&mut self, event: Event, how: Word, reply: Text) -> Result<(), NoMemory>
+        ensures { OnOk result (Logs self.old self.new event (record { place = length self.old.events + 1; how = how; reply = reply })) }
+    {
+        self.events.push(event)?;
+        let place = self.events.items().len() as u64;
+        self.lines.push(ReportLine { place, how, reply })
+    }
+
+    fn next_who(&self) -> Who
+        ensures { result ≡ next_who self.now.events }
+    {
+        Who {
+            session: ONLY_SESSION,
+            number: self.events.items().len() as u64 + 1,
+        }
+    }
+}
+
+fn ok_reply(alloc: Global, affected: u64) -> Result<Text, NoMemory>
+    ensures { IfOk result (λ bytes. bytes ≡ packets (reply.Ok affected 2)) }
+{
+    let mut bytes = Text::of(alloc, &[])?;
+    put_ok(alloc, affected, AUTOCOMMIT, 1, &mut bytes)?;
+    Ok(bytes)
+}
+
+fn refusal_reply(alloc: Global) -> Result<Text, NoMemory>
+    ensures { IfOk result (λ bytes. bytes ≡ packets form_refusal) }
+{
+    let error = SqlError {
+        code: 1235,
+        state: *b"42000",
+        message: Text::of(alloc, b"Not supported: form")?,
+    };
+    let mut bytes = Text::of(alloc, &[])?;
+    put_err(alloc, &error, 1, &mut bytes)?;
+    Ok(bytes)
+}

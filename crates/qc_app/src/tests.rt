@@ -1,0 +1,404 @@
+//! The top call on sources and sinks in memory. The expected replies are written out by hand.
+
+ghost use Rattle.std.specs.Prelude.{◌<◌, ◌≤◌, IfOk};
+
+use crate::{Ended, ScriptRefusal, StdSink, StdSource, Word, qcache_main};
+use qc_types::{BytesSink, BytesSource, PutStep, ReadStep, Sink, Source};
+use std::alloc::{AllocError, Global};
+use std::io::{self, ErrorKind, Read, Write};
+use std::test::Fail;
+
+const FIRST_ROW: &str = "session 1
+query CREATE DATABASE d
+init d
+query CREATE TABLE t (id BIGINT PRIMARY KEY)
+query INSERT INTO t VALUES (7)
+query SELECT id FROM t
+";
+
+const FIRST_REPORT: &str = "qcache report 1
+options 0 1048576 4096 1
+sessions 1
+session 1 commands 5 end input
+1 other 0700000100010002000000
+2 other 0700000100000002000000
+3 other 0700000100000002000000
+4 other 0700000100010002000000
+5 plain 01000001011d000002036465660164017401740269640269640c3f001400000008030000000005000003fe0000020002000004013705000005fe00000200
+journal 5
+1 commit 1 1 1 createdb:64
+2 run 1 2 other
+3 commit 1 3 1 create:64.74:02696400000003
+4 commit 1 4 1 put:64.74:0137
+5 run 1 5 plain off
+counters 1 0 0 1 0 0
+end
+";
+
+const EMPTY_REPORT: &str = "qcache report 1
+options 0 1048576 4096 1
+sessions 0
+journal 0
+counters 0 0 0 0 0 0
+end
+";
+
+/// The reply to a query that is refused.
+const REFUSED: &[u8] = b"\x1c\0\0\x01\xff\xd3\x04#42000Not supported: form";
+
+fn words(alloc: Global, line: &str) -> Result<Vec<String>, AllocError> {
+    let mut words = Vec::new(alloc);
+    for word in line.split_whitespace() {
+        words.push(String::from_str(alloc, word)?)?;
+    }
+    Ok(words)
+}
+
+fn bytes(alloc: Global, text: &[u8]) -> Result<Vec<u8>, AllocError> {
+    let mut bytes = Vec::new(alloc);
+    bytes.extend_from_slice(text)?;
+    Ok(bytes)
+}
+
+fn source(
+    alloc: Global,
+    text: &[u8],
+    piece: usize,
+    failing: &[u64],
+) -> Result<BytesSource, AllocError>
+    requires { 0 < piece }
+{
+    let mut calls = Vec::new(alloc);
+    calls.extend_from_slice(failing)?;
+    Ok(BytesSource::new(bytes(alloc, text)?, piece, calls))
+}
+
+fn sink(alloc: Global, failing: &[u64]) -> Result<BytesSink, AllocError> {
+    let mut calls = Vec::new(alloc);
+    calls.extend_from_slice(failing)?;
+    Ok(BytesSink::new(alloc, calls))
+}
+
+/// How a run without a cache ends on a whole script, and what it writes.
+fn run(rt: &HostRuntime, script: &[u8]) -> Result<(Ended, BytesSink), AllocError> {
+    let alloc = rt.alloc();
+    let words = words(alloc, "run --size 0")?;
+    let mut input = source(alloc, script, usize::MAX, &[])?;
+    let mut out = sink(alloc, &[])?;
+    let ended = qcache_main(rt, alloc, &words, &mut input, &mut out);
+    Ok((ended, out))
+}
+
+#[test]
+fn whole_reports(rt: HostRuntime) -> Result<(), Fail> {
+    let rows: [(&str, &str); 2] = [(FIRST_ROW, FIRST_REPORT), ("", EMPTY_REPORT)];
+    for (script, report) in rows {
+        let (ended, out) = run(&rt, script.as_bytes())?;
+        assert_eq!(rt; ended.status, 0u8);
+        assert_eq!(rt; out.bytes(), report.as_bytes());
+    }
+    Ok(())
+}
+
+#[test]
+fn a_source_that_gives_few_bytes(rt: HostRuntime) -> Result<(), Fail> {
+    let alloc = rt.alloc();
+    let words = words(alloc, "run --size 0")?;
+    for piece in [1, 2, 3, 7] {
+        let mut input = source(alloc, FIRST_ROW.as_bytes(), piece, &[])?;
+        let mut out = sink(alloc, &[])?;
+        let ended = qcache_main(&rt, alloc, &words, &mut input, &mut out);
+        assert_eq!(rt; ended.status, 0u8);
+        assert_eq!(rt; out.bytes(), FIRST_REPORT.as_bytes());
+    }
+    Ok(())
+}
+
+#[test]
+fn a_query_of_an_unknown_table(rt: HostRuntime) -> Result<(), Fail> {
+    let script = format!(in rt.alloc(); "{FIRST_ROW}query SELECT id FROM x\n")?;
+    let (ended, _out) = run(&rt, script.as_bytes())?;
+    let Some(report) = ended.report else {
+        return Err(Fail::new("no report"));
+    };
+    for session in report.sessions.items() {
+        let lines = session.lines.items();
+        assert_eq!(rt; lines.len(), 6usize);
+        for line in lines.last() {
+            assert_eq!(rt; line.place, 5u64);
+            assert_eq!(rt; line.how, Word::Local);
+            assert_eq!(rt; line.reply.bytes(), REFUSED);
+        }
+    }
+    Ok(())
+}
+
+#[test]
+fn words_of_the_command_line(rt: HostRuntime) -> Result<(), Fail> {
+    let alloc = rt.alloc();
+    let rows: [(&str, u8); 8] = [
+        ("run --size 0", 0),
+        ("", 1),
+        ("run", 1),
+        ("run --size", 1),
+        ("run --size x", 1),
+        ("run --size 00", 1),
+        ("Run --size 0", 1),
+        ("run --size 0 0", 1),
+    ];
+    for (line, status) in rows {
+        let mut input = source(alloc, FIRST_ROW.as_bytes(), 100, &[])?;
+        let mut out = sink(alloc, &[])?;
+        let ended = qcache_main(&rt, alloc, &words(alloc, line)?, &mut input, &mut out);
+        assert_eq!(rt; ended.status, status, "at {line}");
+        assert_eq!(rt; out.bytes().is_empty(), status == 1, "at {line}");
+    }
+    Ok(())
+}
+
+#[test]
+fn scripts_that_are_refused(rt: HostRuntime) -> Result<(), Fail> {
+    let rows: [(&[u8], &str); 9] = [
+        (b"ping", "script: bad line 1"),
+        (b"query x", "script: no session at line 1"),
+        (b"session 1\nquery x\nnothing\n", "script: bad line 3"),
+        (b"session 2\n", "script: bad line 1"),
+        (b"session 1\nsession 1\n", "script: bad line 2"),
+        (b"session 1\n\n", "script: bad line 2"),
+        (b"session 1\nquery\n", "script: bad line 2"),
+        (b"\x80\n", "script: bad line 1"),
+        (b"session 1\ninit d\n# x", "script: bad line 3"),
+    ];
+    for (script, message) in rows {
+        let (ended, out) = run(&rt, script)?;
+        assert_eq!(rt; ended.status, 2u8, "at {script:?}");
+        assert_eq!(rt; out.bytes().is_empty(), true, "at {script:?}");
+        let Some(refusal) = ended.bad else {
+            return Err(Fail::new("no refusal"));
+        };
+        assert_eq!(rt; format!(in rt.alloc(); "{refusal}")?.as_str(), message);
+    }
+    Ok(())
+}
+
+/// A stream whose calls are interrupted, take a byte, take nothing, and fail, in turn.
+#[derive(Drop)]
+struct Faulty {
+    calls: u8,
+}
+
+impl Faulty {
+    /// How many of these bytes a call takes.
+    fn next(&mut self, length: usize) -> io::Result<usize>
+        ensures { IfOk result (λ n. n ≤ length) }
+    {
+        self.calls = self.calls.wrapping_add(1);
+        match self.calls % 4 {
+            1 => Err(io::Error::from(ErrorKind::Interrupted)),
+            2 => Ok(length.min(1)),
+            3 => Ok(0),
+            _ => Err(io::Error::from(ErrorKind::Other)),
+        }
+    }
+}
+
+impl Read for Faulty {
+    fn read(&mut self, buf: &mut [u8]) -> io::Result<usize> {
+        self.next(buf.len())
+    }
+}
+
+impl Write for Faulty {
+    fn write(&mut self, buf: &[u8]) -> io::Result<usize> {
+        self.next(buf.len())
+    }
+
+    fn flush(&mut self) -> io::Result<()> {
+        Ok(())
+    }
+}
+
+#[test]
+fn standard_streams(rt: HostRuntime) -> Result<(), Fail> {
+    let mut buffer = [0u8; 4];
+    let mut input = StdSource::new(Faulty { calls: 0 });
+    assert_eq!(rt; input.read(&mut buffer), ReadStep::Got(1));
+    assert_eq!(rt; input.read(&mut buffer), ReadStep::End);
+    assert_eq!(rt; input.read(&mut buffer), ReadStep::Failed);
+    let mut out = StdSink::new(Faulty { calls: 0 });
+    assert_eq!(rt; out.put(b"a"), PutStep::Done);
+    assert_eq!(rt; out.put(b"a"), PutStep::Failed);
+    assert_eq!(rt; out.put(b"a"), PutStep::Failed);
+    assert_eq!(rt; out.put(b"ab"), PutStep::Failed);
+    assert_eq!(rt; out.put(b""), PutStep::Done);
+    Ok(())
+}
+
+/// A sink that always wants memory.
+#[derive(Drop)]
+struct FullSink;
+
+impl Sink for FullSink {
+    ghost use Rattle.std.specs.Prelude.{None};
+
+    ghost held = { λ _. None };
+
+    ghost faults = { λ _. 0 };
+
+    fn put(&mut self, _piece: &[u8]) -> PutStep {
+        PutStep::Memory
+    }
+}
+
+#[test]
+fn faults(rt: HostRuntime) -> Result<(), Fail> {
+    let alloc = rt.alloc();
+    let words = words(alloc, "run --size 0")?;
+    for call in [1, 2, 3] {
+        let mut input = source(alloc, FIRST_ROW.as_bytes(), 100, &[call])?;
+        let mut out = sink(alloc, &[])?;
+        let ended = qcache_main(&rt, alloc, &words, &mut input, &mut out);
+        assert_eq!(rt; ended.status, 3u8, "at call {call}");
+        assert_eq!(rt; out.bytes().is_empty(), true, "at call {call}");
+        assert_eq!(rt; ended.report.is_none(), true, "at call {call}");
+    }
+    let mut input = source(alloc, FIRST_ROW.as_bytes(), 100, &[])?;
+    let ended = qcache_main(&rt, alloc, &words, &mut input, &mut sink(alloc, &[1])?);
+    assert_eq!(rt; ended.status, 4u8);
+    assert_eq!(rt; ended.report.is_some(), true);
+    let mut input = source(alloc, FIRST_ROW.as_bytes(), 100, &[])?;
+    let ended = qcache_main(&rt, alloc, &words, &mut input, &mut FullSink);
+    assert_eq!(rt; ended.status, 5u8);
+    Ok(())
+}
+
+/// The place and the word of each line of a script's session.
+fn answers(rt: &HostRuntime, script: &[u8]) -> Result<String, AllocError> {
+    let alloc = rt.alloc();
+    let (ended, _out) = run(rt, script)?;
+    let mut text = String::new(alloc);
+    if let Some(report) = ended.report {
+        for session in report.sessions.items() {
+            for line in session.lines.items() {
+                let word = match line.how {
+                    Word::Other => "other",
+                    Word::Plain => "plain",
+                    Word::Local => "refused",
+                    Word::Hit | Word::Start => "cached",
+                };
+                text.push_str(format!(in alloc; "{} {word}, ", line.place)?.as_str())?;
+            }
+        }
+    }
+    Ok(text)
+}
+
+const NAME_OF_64: &str = "abcdefghijklmnopqrstuvwxyzabcdefghijklmnopqrstuvwxyzabcdefghijkl";
+
+#[test]
+fn commands_of_every_form(rt: HostRuntime) -> Result<(), Fail> {
+    let alloc = rt.alloc();
+    let start =
+        "session 1\nquery CREATE DATABASE d\ninit d\nquery CREATE TABLE t (id BIGINT PRIMARY KEY)\n";
+    let longest = format!(in alloc; "query CREATE DATABASE {NAME_OF_64}")?;
+    let too_long = format!(in alloc; "query CREATE DATABASE {NAME_OF_64}m")?;
+    // what is sent after the start, and the answers to it
+    let rows: [(&[u8], &str); 39] = [
+        (b"", ""),
+        (b"query CREATE DATABASE e", "4 other, "),
+        (b"query CREATE DATABASE e\n", "4 other, "),
+        (b"query CREATE DATABASE d", "3 refused, "),
+        (b"query CREATE DATABASE ", "3 refused, "),
+        (longest.as_bytes(), "4 other, "),
+        (too_long.as_bytes(), "3 refused, "),
+        (b"query CREATE DATABASE select", "3 refused, "),
+        (b"query CREATE DATABASE SELECT", "3 refused, "),
+        (b"query CREATE DATABASE sELECT", "3 refused, "),
+        (b"query CREATE DATABASE E", "3 refused, "),
+        (b"query CREATE DATABASE e1", "3 refused, "),
+        (b"query CREATE DATABASE e\x80", "3 refused, "),
+        (b"query create database e", "3 refused, "),
+        (b"query CREATE DATABASE e;", "3 refused, "),
+        (b"query CREATE TABLE u(id BIGINT PRIMARY KEY)", "4 other, "),
+        (
+            b"query CREATE  TABLE u  (  id BIGINT PRIMARY KEY  )",
+            "4 other, ",
+        ),
+        (b"query CREATE TABLE u id BIGINT PRIMARY KEY", "3 refused, "),
+        (
+            b"query CREATE TABLE t (id BIGINT PRIMARY KEY)",
+            "3 refused, ",
+        ),
+        (
+            b"query CREATE TABLE u (key BIGINT PRIMARY KEY)",
+            "3 refused, ",
+        ),
+        (b"query INSERT INTO t VALUES(7)", "4 other, "),
+        (b"query INSERT INTO t VALUES ( 7 )", "4 other, "),
+        (b"query INSERT INTO t VALUES (007)", "4 other, "),
+        (b"query INSERT INTO t VALUES (-7)", "3 refused, "),
+        (b"query INSERT INTO t VALUES ()", "3 refused, "),
+        (
+            b"query INSERT INTO t VALUES (999999999999999999)",
+            "4 other, ",
+        ),
+        (
+            b"query INSERT INTO t VALUES (1000000000000000000)",
+            "3 refused, ",
+        ),
+        (b"query INSERT INTO u VALUES (7)", "3 refused, "),
+        (
+            b"query INSERT INTO t VALUES (7)\nquery INSERT INTO t VALUES (07)",
+            "4 other, 4 refused, ",
+        ),
+        (b"query SELECT id FROM t", "4 plain, "),
+        (b"query SELECT   id FROM  t", "4 plain, "),
+        (b"query SELECT id FROM u", "3 refused, "),
+        (b"query SELECT x FROM t", "3 refused, "),
+        (
+            b"query SELECT id FROM t\nquery x\nquery SELECT id FROM t",
+            "4 plain, 4 refused, 5 plain, ",
+        ),
+        (b"query SELECT\tid FROM t", "3 refused, "),
+        (b"query ", "3 refused, "),
+        (b"query \xff\x80\0", "3 refused, "),
+        (b"init e\nquery SELECT id FROM t", "3 refused, 4 plain, "),
+        (b"init \ninit d", "3 refused, 4 other, "),
+    ];
+    for (rest, want) in rows {
+        let mut script = bytes(alloc, start.as_bytes())?;
+        script.extend_from_slice(rest)?;
+        let want = format!(in alloc; "1 other, 2 other, 3 other, {want}")?;
+        assert_eq!(rt;
+            answers(&rt, &script)?.as_str(),
+            want.as_str(),
+            "at {rest:?}"
+        );
+    }
+    Ok(())
+}
+
+#[test]
+fn the_longest_input(rt: HostRuntime) -> Result<(), Fail> {
+    let mut script = bytes(rt.alloc(), b"session 1\n")?;
+    for letters in [16_777_213, 16_777_213, 16_777_213, 16_777_187] {
+        script.extend_from_slice(b"query ")?;
+        let long = script.len() + letters;
+        script.resize(long, b'a')?;
+        script.push(b'\n')?;
+    }
+    assert_eq!(rt; script.len(), 67_108_864usize);
+    let all = answers(&rt, &script)?;
+    assert_eq!(rt;
+        all.as_str(),
+        "0 refused, 0 refused, 0 refused, 0 refused, "
+    );
+    script.push(b'\n')?;
+    let (ended, _out) = run(&rt, &script)?;
+    assert_eq!(rt; ended.status, 2u8);
+    assert_eq!(rt;
+        matches!(ended.bad, Some(ScriptRefusal::InputTooLong)),
+        true
+    );
+    Ok(())
+}

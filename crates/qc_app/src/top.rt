@@ -1,0 +1,139 @@
+//! The top call: everything that the program does.
+
+ghost use Rattle.std.specs.Prelude.{◌≡◌, ◌≤◌, ◌↔◌, ◌⊎◌, ◌==◌, true, false, map, string_bytes, None, is_some, is_none, IfSome};
+ghost use Rattle.qc_types.specs.Streams.{Rose};
+ghost use Rattle.qc_model.specs.ReportText.{text_of_report};
+ghost use Rattle.qc_script.specs.ShortNames.{HasShortNames};
+ghost use Rattle.qc_app.specs.Words.{options_of};
+ghost use Rattle.qc_app.specs.Top.{RefusesInput, TellsRefusal, IsRunOf, HoldsMore, HoldsFront};
+
+use crate::reading::{Unread, read_input};
+use crate::run::run_script;
+use crate::words::read_words;
+use qc_model::reports::{Report, ScriptRefusal};
+use qc_script::{read_script, report_text};
+use qc_types::{Or, PutStep, Sink, Source};
+use std::alloc::Global;
+
+const DONE: u8 = 0;
+
+const USAGE: u8 = 1;
+
+const REFUSED: u8 = 2;
+
+const READ_FAULT: u8 = 3;
+
+const WRITE_FAULT: u8 = 4;
+
+const NO_MEMORY: u8 = 5;
+
+/// How a call of the program ended.
+#[derive(Drop)]
+pub struct Ended {
+    /// 0 where the whole report was written, 1 for words that aren't in the form, 2 for a script that is refused, 3 for a fault of the
+    /// input, 4 for one of the output, and 5 for want of memory.
+    pub status: u8,
+    /// The report: there at 0 and 4, and at 5 wherever something was written.
+    pub report: Option<Report>,
+    /// Why the script was refused: there at 2.
+    pub bad: Option<ScriptRefusal>,
+}
+
+/// Does what the words behind the program's name ask for. `run --size 0` reads a script from the input to its end, or until it is too long
+/// for a script, runs its session without a cache, and puts the text of the report to the output.
+///
+/// The words are judged first, then the input is read, then the script is judged, then it is run. Nothing is put before the run has ended.
+/// A source or a sink that doesn't tell what it has left or holds is promised less: the clauses then speak of some input of which the
+/// report is the run. The cost is linear in the input and the report, but for the logarithms of the tables' sizes.
+pub fn qcache_main<R, S: Source, K: Sink>(
+    _rt: &R,
+    alloc: Global,
+    words: &[String],
+    input: &mut S,
+    out: &mut K,
+) -> Ended
+    ensures statuses { result.status ≤ 5 }
+    ensures usage { (result.status ≡ 1) ↔ (options_of (map string_bytes words.now) ≡ None) }
+    ensures untouched { result.status ≡ 1 → input.new ≡ input.old }
+    ensures refusal_there { is_some result.bad ≡ (result.status == 2) }
+    ensures refusal { IfSome result.bad (RefusesInput (S.left input.old)) }
+    ensures report_there { (result.status ≡ 0) ⊎ (result.status ≡ 4) → is_some result.report ≡ true }
+    ensures report_lacks { is_some result.report ≡ true → (result.status ≡ 0) ⊎ (result.status ≡ 4) ⊎ (result.status ≡ 5) }
+    ensures agrees { IfSome result.report (IsRunOf (map string_bytes words.now) (S.left input.old) (S.left input.new)) }
+    ensures nothing_written { result.report ≡ None → out.new ≡ out.old }
+    ensures front_written { IfSome result.report (λ report. HoldsFront (K.held out.old) (K.held out.new) (text_of_report report)) }
+    ensures all_written { result.status ≡ 0 → IfSome result.report (λ report. HoldsMore (K.held out.old) (K.held out.new) (text_of_report report)) }
+    ensures read_fault { result.status ≡ 3 → Rose (S.faults input.old) (S.faults input.new) }
+    ensures write_fault { result.status ≡ 4 → Rose (K.faults out.old) (K.faults out.new) }
+    ensures refuses { is_some (options_of (map string_bytes words.now)) ≡ true → TellsRefusal (S.left input.old) true
+        → (Rose (S.faults input.old) (S.faults input.new) → ⊥) → (result.status ≡ 2) ⊎ (result.status ≡ 5) }
+    ensures completes { is_some (options_of (map string_bytes words.now)) ≡ true → TellsRefusal (S.left input.old) false
+        → (Rose (S.faults input.old) (S.faults input.new) → ⊥) → (Rose (K.faults out.old) (K.faults out.new) → ⊥) → (result.status ≡ 0) ⊎ (result.status ≡ 5) }
+{
+    let Some(options) = read_words(words) else {
+        return Ended::without_report(USAGE);
+    };
+    let bytes = match read_input(alloc, input) {
+        Ok(bytes) => bytes,
+        Err(Unread::Failed) => return Ended::without_report(READ_FAULT),
+        Err(Unread::Memory) => return Ended::without_report(NO_MEMORY),
+    };
+    let script = match read_script(alloc, &bytes) {
+        Ok(script) => script,
+        Err(Or::Other(refusal)) => return Ended::refused(refusal),
+        Err(Or::Memory) => return Ended::without_report(NO_MEMORY),
+    };
+    match run_script(alloc, options, &script) {
+        Ok(report) => write_report(alloc, report, out),
+        Err(_) => Ended::without_report(NO_MEMORY),
+    }
+}
+
+impl Ended {
+    fn without_report(status: u8) -> Ended
+        ensures { result ≡ record { status = status; report = None; bad = None } }
+    {
+        Ended {
+            status,
+            report: None,
+            bad: None,
+        }
+    }
+
+    fn refused(refusal: ScriptRefusal) -> Ended
+        ensures { result ≡ record { status = 2; report = None; bad = Some refusal } }
+    {
+        Ended {
+            status: REFUSED,
+            report: None,
+            bad: Some(refusal),
+        }
+    }
+}
+
+/// Puts the text of a report at once, and ends.
+fn write_report<K: Sink>(alloc: Global, report: Report, out: &mut K) -> Ended
+    requires { HasShortNames report }
+    ensures statuses { (result.status ≡ 0) ⊎ (result.status ≡ 4) ⊎ (result.status ≡ 5) }
+    ensures bad { result.bad ≡ None }
+    ensures there { (result.status ≡ 0) ⊎ (result.status ≡ 4) → is_some result.report ≡ true }
+    ensures same { IfSome result.report (λ r. r ≡ report) }
+    ensures nothing { result.report ≡ None → out.new ≡ out.old }
+    ensures front { IfSome result.report (λ r. HoldsFront (K.held out.old) (K.held out.new) (text_of_report r)) }
+    ensures all { result.status ≡ 0 → IfSome result.report (λ r. HoldsMore (K.held out.old) (K.held out.new) (text_of_report r)) }
+    ensures fault { result.status ≡ 4 → Rose (K.faults out.old) (K.faults out.new) }
+{
+    let Ok(text) = report_text(alloc, &report) else {
+        return Ended::without_report(NO_MEMORY);
+    };
+    let status = match out.put(text.bytes()) {
+        PutStep::Done => DONE,
+        PutStep::Failed => WRITE_FAULT,
+        PutStep::Memory => NO_MEMORY,
+    };
+    Ended {
+        status,
+        report: Some(report),
+        bad: None,
+    }
+}

@@ -1,0 +1,143 @@
+-- What the forms that change the database mean.
+use Rattle.std.proofs.Common.{◌≡◌, ℕ, ℤ, ◌+◌, ◌<◌, ◌≤◌, ◌==◌, Bool, true, false, [], ◌∷◌, length, refl, sym, ap, ◌∙◌, arith, Option, Result, Ok, Err, true≢false, Bor}
+use Rattle.std.specs.Prelude.{Some, None, is_some, is_none, is_ok, option_copied, not, nat_lt, option_and_then}
+use Rattle.std.proofs.lemmas.Bool.Decides.{nat_tests}
+use Rattle.qc_types.specs.declared.names.TableName.{TableName}
+use Rattle.qc_types.specs.declared.sql_error.SqlError.{SqlError}
+use Rattle.qc_types.specs.declared.names.Value.TheVariants as value
+use Rattle.qc_sql.specs.declared.tables.RowOp.{RowOp}
+use Rattle.qc_sql.specs.declared.tables.RowOp.TheVariants as op
+use Rattle.qc_sql.specs.Database.{Name, Database, Table, Tables, at_name, tables_of, table_of}
+use Rattle.qc_sql.specs.Effects.{effect, has_key}
+use Rattle.qc_sql.specs.Errors.{unknown_database}
+use Rattle.qc_sql.specs.Rows.{◌>>=◌, refuse_if, found_table, Bound, bound_in}
+use Rattle.qc_sql.proofs.Untouched.{bytes_eq_self}
+use Rattle.qc_parse.specs.declared.form.Form.{Form}
+use Rattle.qc_parse.specs.declared.form.Form.TheVariants as form
+use Rattle.qc_table.specs.Stored.{key_column}
+use Rattle.qc_execute.specs.declared.outcome.Outcome.TheVariants as outcome
+use Rattle.qc_execute.specs.Outcomes.{IsOutcome, MayApply}
+
+-- a table of a database
+abbrev pub in_db : Name → Name → TableName
+in_db db name = record { db = db; name = name }
+
+-- where a table is there, its database is
+pub database_of : (d : Database) (t : TableName) (table : Table) → table_of t d ≡ Some table → is_some (tables_of t.db d) ≡ true
+database_of d t table h = by (tables_of t.db d) refl
+  where
+    by : (o : Option Tables) → tables_of t.db d ≡ o → is_some o ≡ true
+    by None q = absurd (true≢false (ap is_some (sym h ∙ ap (option_and_then (at_name t.name)) q)))
+    by (Some ts) q = refl
+
+none_where : {X : Type 0} (o : Option X) → is_some o ≡ false → is_none o ≡ true
+none_where None h = refl
+none_where (Some x) h = absurd (true≢false h)
+
+not_none_where : {X : Type 0} (o : Option X) → is_some o ≡ true → is_none o ≡ false
+not_none_where (Some x) h = refl
+not_none_where None h = absurd (true≢false (sym h))
+
+is_nothing : {X : Type 0} (o : Option X) → is_some o ≡ false → o ≡ None
+is_nothing None h = refl
+is_nothing (Some x) h = absurd (true≢false h)
+
+pub is_some-copied : {X : Type 0} (o : Option (Bor X)) → is_some (option_copied o) ≡ is_some o
+is_some-copied None = refl
+is_some-copied (Some x) = refl
+
+-- a test that was made of the same key
+pub key_tested : (t : Table) (k n : ℤ) (b : Bool) → k ≡ n → b ≡ has_key t k → has_key t n ≡ b
+key_tested t k n b same tested = sym (tested ∙ ap (has_key t) same)
+
+-- a first step that is refused refuses the whole
+pub refused_first : {A B : Type 0} (r : Result A SqlError) (f : A → Result B SqlError) → is_ok r ≡ false → is_ok (r >>= f) ≡ false
+refused_first (Ok x) f h = absurd (true≢false h)
+refused_first (Err e) f h = refl
+
+-- a table that isn't there, in a database that may be
+pub nowhere : (d : Database) (t : TableName) (called : Name) → (length t.db == 0) ≡ false → table_of t d ≡ None → is_ok (bound_in d t called) ≡ false
+nowhere d t called named h = rw named (rw h (by (is_some (tables_of t.db d))))
+  where
+    bind : Table → Result Bound SqlError
+    bind table = Ok (record { called = called; name = t; table = table })
+
+    by : (b : Bool) → is_ok (refuse_if (not b) (unknown_database t.db) >>= λ _. found_table t None >>= bind) ≡ false
+    by true = refl
+    by false = refl
+
+-- ---- CREATE DATABASE
+
+pub database_made : (d : Database) (db name : Name) → is_some (tables_of name d) ≡ false → IsOutcome d db (form.CreateDatabase name) (outcome.Changed (op.CreateDb name) 1)
+unfolding effect
+database_made d db name h = (rw h refl, record { taken = h; fits = none_where _ h; room = tt })
+
+pub database_refused : (d : Database) (db name : Name) → is_some (tables_of name d) ≡ true → IsOutcome d db (form.CreateDatabase name) outcome.Refused
+unfolding effect
+database_refused d db name h = rw h refl
+
+-- ---- CREATE TABLE
+
+pub table_made : (d : Database) (db table column : Name) → (length db == 0) ≡ false → is_some (tables_of db d) ≡ true → is_some (table_of (in_db db table) d) ≡ false
+    → IsOutcome d db (form.CreateTable table column) (outcome.Changed (op.CreateTable (in_db db table) (key_column column ∷ [])) 0)
+unfolding effect
+table_made d db table column named known new =
+    let there = not_none_where (tables_of db d) known in
+    let none = none_where (table_of (in_db db table) d) new in
+    (rw named (rw there (rw new refl)), record { taken = (known, is_nothing _ new, (column, refl)); fits = rw known (rw none refl); room = tt })
+
+pub table_unnamed : (d : Database) (db table column : Name) → (length db == 0) ≡ true → IsOutcome d db (form.CreateTable table column) outcome.Refused
+unfolding effect
+table_unnamed d db table column h = rw h refl
+
+pub table_unknown : (d : Database) (db table column : Name) → (length db == 0) ≡ false → is_some (tables_of db d) ≡ false → IsOutcome d db (form.CreateTable table column) outcome.Refused
+unfolding effect
+table_unknown d db table column named h = let none = none_where (tables_of db d) h in rw named (rw none refl)
+
+pub table_there : (d : Database) (db table column : Name) → (length db == 0) ≡ false → is_some (tables_of db d) ≡ true → is_some (table_of (in_db db table) d) ≡ true → IsOutcome d db (form.CreateTable table column) outcome.Refused
+unfolding effect
+table_there d db table column named known h = let there = not_none_where (tables_of db d) known in rw named (rw there (rw h refl))
+
+-- ---- INSERT
+
+pub row_put : (d : Database) (db table column : Name) (n : ℤ) (t : Table) → (length db == 0) ≡ false → table_of (in_db db table) d ≡ Some t → t.columns ≡ key_column column ∷ [] → has_key t n ≡ false → length t.rows < 1048576
+    → IsOutcome d db (form.Insert table n) (outcome.Changed (op.Put (in_db db table) (value.Int n ∷ [])) 1)
+unfolding effect
+row_put d db table column n t named found columns new room =
+    let known = database_of d (in_db db table) t found in
+    let few : nat_lt 1048576 (length t.rows + 1) ≡ false = grind (arith, nat_tests) in (
+      rw named (rw known (rw found (rw columns (rw (bytes_eq_self column) (rw new (rw few refl)))))),
+      record { taken = (rw found refl, (n, refl)); fits = rw found (rw columns refl); room = rw found room },
+    )
+
+pub row_unnamed : (d : Database) (db table : Name) (n : ℤ) → (length db == 0) ≡ true → IsOutcome d db (form.Insert table n) outcome.Refused
+unfolding effect
+row_unnamed d db table n h = rw h refl
+
+pub row_nowhere : (d : Database) (db table : Name) (n : ℤ) → (length db == 0) ≡ false → table_of (in_db db table) d ≡ None → IsOutcome d db (form.Insert table n) outcome.Refused
+unfolding effect
+row_nowhere d db table n named h = refused_first _ _ (nowhere d (in_db db table) table named h)
+
+pub row_there : (d : Database) (db table column : Name) (n : ℤ) (t : Table) → (length db == 0) ≡ false → table_of (in_db db table) d ≡ Some t → t.columns ≡ key_column column ∷ [] → has_key t n ≡ true
+    → IsOutcome d db (form.Insert table n) outcome.Refused
+unfolding effect
+row_there d db table column n t named found columns h =
+    let known = database_of d (in_db db table) t found in
+    rw named (rw known (rw found (rw columns (rw (bytes_eq_self column) (rw h refl)))))
+
+pub row_without_room : (d : Database) (db table column : Name) (n : ℤ) (t : Table) → (length db == 0) ≡ false → table_of (in_db db table) d ≡ Some t → t.columns ≡ key_column column ∷ [] → has_key t n ≡ false → 1048576 ≤ length t.rows
+    → IsOutcome d db (form.Insert table n) outcome.Refused
+unfolding effect
+row_without_room d db table column n t named found columns new full =
+    let known = database_of d (in_db db table) t found in
+    let many : nat_lt 1048576 (length t.rows + 1) ≡ true = grind (arith, nat_tests) in
+    rw named (rw known (rw found (rw columns (rw (bytes_eq_self column) (rw new (rw many refl))))))
+
+-- ---- for callers
+
+-- a change that a form makes may be applied
+pub may_apply : (d : Database) (db : Name) (f : Form) (o : RowOp) (affected : ℕ) → IsOutcome d db f (outcome.Changed o affected) → MayApply o d
+may_apply d db (form.CreateDatabase name) o affected h = h.1
+may_apply d db (form.CreateTable table column) o affected h = h.1
+may_apply d db (form.Insert table n) o affected h = h.1
+may_apply d db (form.Select column table) o affected h = absurd h

@@ -1,0 +1,5 @@
+pub mod Changes
+pub mod Replies
+pub mod Selects
+pub mod Sizes
+pub mod Within

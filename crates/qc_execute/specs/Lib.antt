@@ -1,0 +1,4 @@
+pub mod Outcomes
+pub mod Names
+pub mod Keys
+pub mod Sizes

@@ -1,0 +1,4 @@
+pub mod FirstRun
+pub mod FirstSession
+pub mod Reasons
+pub mod Scripts

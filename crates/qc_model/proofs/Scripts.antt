@@ -1,0 +1,69 @@
+-- Worked scripts, and draws of the workload.
+use Rattle.std.proofs.Common.{◌≡◌, ℕ, List, [], ◌∷◌, ◌++◌, refl, Ok, Err}
+use Rattle.std.specs.Prelude.{codes, None}
+use Rattle.std.specs.List.{flat_map}
+use Rattle.qc_sql.specs.declared.commands.Command.{Command}
+use Rattle.qc_sql.specs.declared.commands.Command.TheVariants as command
+use Rattle.qc_model.specs.declared.reports.ScriptRefusal.TheVariants as refusal
+use Rattle.qc_sql.specs.Packets.{packet, command_payload}
+use Rattle.qc_model.specs.ReportText.{lines}
+use Rattle.qc_model.specs.ScriptLines.{lines_of, script_of, after_lines, no_sessions}
+use Rattle.qc_model.specs.Workload.{draw, drawn, after_draws, no_tally, Tally}
+
+first_lines : List (List ℕ)
+first_lines = codes "session 1" ∷ codes "query CREATE DATABASE d" ∷ codes "init d" ∷ codes "query CREATE TABLE t (id BIGINT PRIMARY KEY)"
+    ∷ codes "query INSERT INTO t VALUES (7)" ∷ codes "query SELECT id FROM t" ∷ []
+
+first_commands : List Command
+first_commands = command.Query (codes "CREATE DATABASE d") ∷ command.InitDb (codes "d") ∷ command.Query (codes "CREATE TABLE t (id BIGINT PRIMARY KEY)")
+    ∷ command.Query (codes "INSERT INTO t VALUES (7)") ∷ command.Query (codes "SELECT id FROM t") ∷ []
+
+cut_in_lines : lines_of (lines first_lines) ≡ first_lines
+unfolding first_lines
+cut_in_lines = refl
+
+first_script : script_of (lines first_lines) ≡ Ok (record { setup = None; sessions = flat_map (λ c. packet 0 (command_payload c)) first_commands ∷ [] })
+unfolding script_of first_lines first_commands packet
+first_script = refl
+
+empty_script : script_of [] ≡ Ok no_sessions
+unfolding script_of
+empty_script = refl
+
+-- the last LF may lack
+without_last_end : lines_of (codes "session 1" ++ 10 ∷ codes "init d") ≡ codes "session 1" ∷ codes "init d" ∷ []
+without_last_end = refl
+
+no_session_yet : script_of (lines (codes "init d" ∷ [])) ≡ Err (refusal.NoSession 1)
+unfolding script_of
+no_session_yet = refl
+
+second_session_first : script_of (lines (codes "session 2" ∷ [])) ≡ Err (refusal.BadLine 1)
+unfolding script_of
+second_session_first = refl
+
+session_twice : script_of (lines (codes "session 1" ∷ codes "init d" ∷ codes "session 1" ∷ [])) ≡ Err (refusal.BadLine 3)
+unfolding script_of packet
+session_twice = refl
+
+word_without_space : script_of (lines (codes "session 1" ∷ codes "query" ∷ [])) ≡ Err (refusal.BadLine 2)
+unfolding script_of
+word_without_space = refl
+
+empty_line : script_of (lines (codes "session 1" ∷ [] ∷ [])) ≡ Err (refusal.BadLine 2)
+unfolding script_of
+empty_line = refl
+
+-- an empty text and an empty name are sent
+empty_text : script_of (lines (codes "session 1" ∷ codes "query " ∷ codes "init " ∷ [])) ≡ Ok (record { setup = None; sessions = (1 ∷ 0 ∷ 0 ∷ 0 ∷ 3 ∷ 1 ∷ 0 ∷ 0 ∷ 0 ∷ 2 ∷ []) ∷ [] })
+unfolding script_of packet
+empty_text = refl
+
+-- ---- the workload
+
+first_draw : draw 1 ≡ 908834774
+first_draw = refl
+
+-- eight draws of session 1 of the workload 83, worked out by another program
+eight_draws : after_draws 8 1 1 83 no_tally ≡ record { in_a = (1000004, 554) ∷ (1000007, 456) ∷ []; in_b = (1000003, 881) ∷ []; commits = 4; selects = 4 }
+eight_draws = refl

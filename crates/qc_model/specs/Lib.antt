@@ -1,0 +1,13 @@
+pub mod Journal
+pub mod Cache
+pub mod Session
+pub mod Choice
+pub mod Licence
+pub mod Needs
+pub mod Conflicts
+pub mod Settings
+pub mod Machine
+pub mod Agrees
+pub mod ReportText
+pub mod ScriptLines
+pub mod Workload

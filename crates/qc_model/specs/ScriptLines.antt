@@ -1,0 +1,84 @@
+-- The meaning of a script, by its lines: the input of each session, or the first line that is wrong.
+use Rattle.std.specs.Prelude.{ℕ, ◌+◌, Bool, List, [], ◌∷◌, ◌++◌, length, take, drop, Option, Some, None, Result, Ok, Err, nat_lt, ◌==◌, bytes_eq, codes, if◌then◌else◌}
+use Rattle.qc_sql.specs.declared.commands.Command.{Command}
+use Rattle.qc_sql.specs.declared.commands.Command.TheVariants as command
+use Rattle.qc_model.specs.declared.reports.Script.{Script}
+use Rattle.qc_model.specs.declared.reports.ScriptRefusal.{ScriptRefusal}
+use Rattle.qc_model.specs.declared.reports.ScriptRefusal.TheVariants as refusal
+use Rattle.qc_sql.specs.Packets.{packet, command_payload, most_payload}
+
+-- the most bytes of a script
+abbrev pub most_script : ℕ
+most_script = 67108864
+
+-- ---- lines
+
+-- a byte at the front of the first line
+abbrev pub with_byte : ℕ → List (List ℕ) → List (List ℕ)
+with_byte b [] = (b ∷ []) ∷ []
+with_byte b (l ∷ ls) = (b ∷ l) ∷ ls
+
+-- the lines of a text: each ends with LF, and the last may lack it
+abbrev pub lines_of : List ℕ → List (List ℕ)
+lines_of [] = []
+lines_of (b ∷ bs) = if b == 10 then [] ∷ lines_of bs else with_byte b (lines_of bs)
+
+-- what a line is for: the commands behind it are a session's, or it is a command itself
+pub data Line : Type 0 where
+  Opens : (session : ℕ) → Line
+  Sends : (sent : Command) → Line
+
+-- what stands behind a first word and its one space
+abbrev pub behind : List ℕ → List ℕ → Option (List ℕ)
+behind word line = if bytes_eq (take (length word) line) word then Some (drop (length word) line) else None
+
+abbrev pub command_line : Option (List ℕ) → Option (List ℕ) → Option Line
+command_line (Some text) init = Some (Sends (command.Query text))
+command_line None (Some name) = Some (Sends (command.InitDb name))
+command_line None None = None
+
+-- a line of the table of lines, or none
+abbrev pub line_of : List ℕ → Option Line
+line_of line =
+    if bytes_eq line (codes "session 1") then Some (Opens 1)
+    else command_line (behind (codes "query ") line) (behind (codes "init ") line)
+
+-- ---- the sessions
+
+abbrev pub no_sessions : Script
+no_sessions = record { setup = None; sessions = [] }
+
+-- these bytes at the end of the last session's input
+abbrev pub sent_last : List ℕ → List (List ℕ) → List (List ℕ)
+sent_last bytes [] = []
+sent_last bytes (s ∷ []) = (s ++ bytes) ∷ []
+sent_last bytes (s ∷ t ∷ ss) = s ∷ sent_last bytes (t ∷ ss)
+
+abbrev pub with_session : Script → Script
+with_session script = record { setup = script.setup; sessions = script.sessions ++ [] ∷ [] }
+
+abbrev pub with_command : Script → Command → Script
+with_command script c = record { setup = script.setup; sessions = sent_last (packet 0 (command_payload c)) script.sessions }
+
+-- What a line makes of a script, by its number. Sessions are numbered 1, 2, 3 in order, a command belongs to the last session, and its packet holds it.
+abbrev pub after_line : ℕ → Script → Option Line → Result Script ScriptRefusal
+after_line number script (Some (Opens n)) =
+    if n == length script.sessions + 1 then Ok (with_session script) else Err (refusal.BadLine number)
+after_line number script (Some (Sends c)) =
+    if length script.sessions == 0 then Err (refusal.NoSession number) else
+    if nat_lt most_payload (length (command_payload c)) then Err (refusal.BadLine number) else
+    Ok (with_command script c)
+after_line number script None = Err (refusal.BadLine number)
+
+abbrev pub then_lines : Result Script ScriptRefusal → (Script → Result Script ScriptRefusal) → Result Script ScriptRefusal
+then_lines (Ok script) f = f script
+then_lines (Err r) f = Err r
+
+-- line by line, from the one with this number; the first that is wrong is the answer
+abbrev pub after_lines : ℕ → Script → List (List ℕ) → Result Script ScriptRefusal
+after_lines number script [] = Ok script
+after_lines number script (l ∷ ls) = then_lines (after_line number script (line_of l)) (λ next. after_lines (number + 1) next ls)
+
+-- the script that these bytes mean, or why they mean none
+unfoldable pub script_of : List ℕ → Result Script ScriptRefusal
+script_of bytes = if nat_lt most_script (length bytes) then Err refusal.InputTooLong else after_lines 1 no_sessions (lines_of bytes)

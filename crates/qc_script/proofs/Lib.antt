@@ -1,0 +1,4 @@
+pub mod Endings
+pub mod HexDigits
+pub mod Joined
+pub mod LineEnds

@@ -1,0 +1,5 @@
+pub mod Lines
+pub mod Packets
+pub mod ReportParts
+pub mod Sessions
+pub mod ShortNames

@@ -1,0 +1,61 @@
+//! The lines of a script, one after another.
+
+ghost use Rattle.std.specs.Prelude.{◌≡◌, ◌<◌, ◌==◌, [], ◌∷◌, length, IfOk, MatchOption};
+ghost use Rattle.std.specs.List.{position};
+ghost use Rattle.std.specs.Option.{option_map};
+ghost use Rattle.qc_model.specs.ScriptLines.{lines_of, line_of};
+ghost use Rattle.qc_script.specs.Lines.{meant};
+
+use qc_sql::commands::Command;
+use qc_types::{NoMemory, Text};
+use std::alloc::Global;
+
+const SESSION: &[u8] = b"session 1";
+
+/// What a line of a script is for.
+#[derive(Drop)]
+pub enum Line {
+    /// The commands behind it are those of session 1.
+    Opens,
+    /// A command of the last session.
+    Sends(Command),
+}
+
+/// The first line of a text, without its LF, and what stands behind it, or none where nothing is left.
+/// The last line may lack its LF. The cost is linear in the line's length.
+#[tactic(auto, using(crate::proofs::LineEnds::line_before, crate::proofs::LineEnds::last_line))]
+pub fn first_line(text: &[u8]) -> Option<(&[u8], &[u8])>
+    ensures lines { MatchOption result (lines_of text.now ≡ []) (λ p. lines_of text.now ≡ p.0.now ∷ lines_of p.1.now) }
+    ensures shorter { MatchOption result (text.now ≡ []) (λ p. length p.1.now < length text.now) }
+{
+    if text.is_empty() {
+        return None;
+    }
+    match first_end(text) {
+        Some(end) => Some((&text[..end], &text[end + 1..])),
+        None => Some((text, &[])),
+    }
+}
+
+/// The place of the first LF.
+fn first_end(text: &[u8]) -> Option<usize>
+    ensures { result ≡ position (λ byte. byte == 10) text.now }
+{
+    text.iter().position(|byte| *byte == b'\n')
+}
+
+/// What a line is for, or none where it is none of a script's lines. A command's text is copied once.
+pub fn read_line(alloc: Global, line: &[u8]) -> Result<Option<Line>, NoMemory>
+    ensures { IfOk result (λ read. option_map meant read ≡ line_of line.now) }
+{
+    if line == SESSION {
+        return Ok(Some(Line::Opens));
+    }
+    if let Some(text) = line.strip_prefix(b"query ") {
+        return Ok(Some(Line::Sends(Command::Query(Text::of(alloc, text)?))));
+    }
+    if let Some(name) = line.strip_prefix(b"init ") {
+        return Ok(Some(Line::Sends(Command::InitDb(Text::of(alloc, name)?))));
+    }
+    Ok(None)
+}

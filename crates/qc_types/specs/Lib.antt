@@ -1,0 +1,4 @@
+pub mod formers
+pub mod Feed
+pub mod Streams
+pub mod Answers

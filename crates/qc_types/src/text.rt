@@ -1,0 +1,57 @@
+ghost use Rattle.std.specs.Prelude.{◌≡◌, ◌++◌, IfOk, OnOk, OnErr};
+
+use crate::duplicate::Duplicate;
+use crate::memory::NoMemory;
+use std::alloc::Global;
+use std::marker::Model;
+
+/// An owned list of bytes. Contracts see it as the list of their numbers.
+#[derive(Debug, Drop)]
+pub struct Text {
+    held: Vec<u8>,
+}
+
+impl Model for Text {
+    ghost use Rattle.std.specs.Prelude.{List, ℕ};
+
+    ghost Value = { List ℕ };
+
+    ghost view = { λ t. t.held.items };
+}
+
+impl Text {
+    pub fn of(alloc: Global, bytes: &[u8]) -> Result<Text, NoMemory>
+        ensures { IfOk result (λ t. t ≡ bytes.now) }
+    {
+        Ok(Text {
+            held: Vec::from_slice(alloc, bytes)?,
+        })
+    }
+
+    pub fn copy(&self, alloc: Global) -> Result<Text, NoMemory>
+        ensures { IfOk result (λ t. t ≡ self.now) }
+    {
+        Text::of(alloc, self.bytes())
+    }
+
+    pub fn bytes(&self) -> &[u8]
+        ensures { result.now ≡ self.now }
+    {
+        self.held.as_slice()
+    }
+
+    /// Puts these bytes at the end, all of them or none.
+    pub fn extend(&mut self, bytes: &[u8]) -> Result<(), NoMemory>
+        ensures ok { OnOk result (self.new ≡ self.old ++ bytes.now) }
+        ensures err { OnErr result (self.new ≡ self.old) }
+    {
+        self.held.extend_from_slice(bytes)?;
+        Ok(())
+    }
+}
+
+impl Duplicate for Text {
+    fn duplicate(&self, alloc: Global) -> Result<Text, NoMemory> {
+        self.copy(alloc)
+    }
+}

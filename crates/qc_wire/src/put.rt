@@ -1,0 +1,206 @@
+//! Packets are made in a buffer of their own and put at the end at once, so a call that lacks memory changes nothing.
+
+ghost use Rattle.std.specs.Prelude.{◌≡◌, ◌≤◌, ◌<◌, ◌^◌, ◌++◌, ◌∷◌, [], length, IfOk, OnOk, OnErr};
+ghost use Rattle.std.specs.List.{flat_map};
+ghost use Rattle.qc_sql.specs.Packets.{packet, most_payload, encoded_integer, encoded_string, encoded_cell, count_payload, column_names, column_sizes, column_payload, eof_payload, ok_payload, err_payload, row_payload};
+ghost use Rattle.qc_wire.specs.Cells.{cell_text, cell_texts};
+
+use crate::cells::{RowCells, StoredCell};
+use qc_sql::replies::ColumnDef;
+use qc_types::{NoMemory, SqlError, Text};
+use std::alloc::{AllocError, Global};
+
+/// Appends the packet with the column count.
+#[tactic(auto, using(crate::proofs::Lengths::integer_bound))]
+pub fn put_count(alloc: Global, count: u16, sequence: u8, out: &mut Text) -> Result<(), NoMemory>
+    requires { count ≤ 64 }
+    ensures ok { OnOk result (out.new ≡ out.old ++ packet sequence (count_payload count)) }
+    ensures err { OnErr result (out.new ≡ out.old) }
+{
+    let mut payload = Vec::new(alloc);
+    push_integer(&mut payload, u64::from(count))?;
+    put_packet(alloc, sequence, &payload, out)
+}
+
+/// Appends the packet that defines a column.
+pub fn put_column(
+    alloc: Global,
+    column: &ColumnDef,
+    sequence: u8,
+    out: &mut Text,
+) -> Result<(), NoMemory>
+    requires { length (column_payload column.now) ≤ most_payload }
+    ensures ok { OnOk result (out.new ≡ out.old ++ packet sequence (column_payload column.now)) }
+    ensures err { OnErr result (out.new ≡ out.old) }
+{
+    let payload = column_bytes(alloc, column)?;
+    put_packet(alloc, sequence, &payload, out)
+}
+
+/// Appends the packet that ends a part of a result set.
+pub fn put_eof(alloc: Global, status: u16, sequence: u8, out: &mut Text) -> Result<(), NoMemory>
+    ensures ok { OnOk result (out.new ≡ out.old ++ packet sequence (eof_payload status)) }
+    ensures err { OnErr result (out.new ≡ out.old) }
+{
+    let mut payload = Vec::new(alloc);
+    payload.extend_from_slice(&[0xfe, 0, 0])?;
+    payload.extend_from_slice(&status.to_le_bytes())?;
+    put_packet(alloc, sequence, &payload, out)
+}
+
+/// Appends the packet of an OK.
+#[tactic(auto, using(crate::proofs::Lengths::ok_bound))]
+pub fn put_ok(
+    alloc: Global,
+    affected: u64,
+    status: u16,
+    sequence: u8,
+    out: &mut Text,
+) -> Result<(), NoMemory>
+    ensures ok { OnOk result (out.new ≡ out.old ++ packet sequence (ok_payload affected status)) }
+    ensures err { OnErr result (out.new ≡ out.old) }
+{
+    let payload = ok_bytes(alloc, affected, status)?;
+    put_packet(alloc, sequence, &payload, out)
+}
+
+/// Appends the packet of an error.
+pub fn put_err(
+    alloc: Global,
+    error: &SqlError,
+    sequence: u8,
+    out: &mut Text,
+) -> Result<(), NoMemory>
+    requires { length (err_payload error.now) ≤ most_payload }
+    ensures ok { OnOk result (out.new ≡ out.old ++ packet sequence (err_payload error.now)) }
+    ensures err { OnErr result (out.new ≡ out.old) }
+{
+    let mut payload = Vec::new(alloc);
+    payload.push(0xff)?;
+    payload.extend_from_slice(&error.code.to_le_bytes())?;
+    payload.push(b'#')?;
+    payload.extend_from_slice(&error.state)?;
+    payload.extend_from_slice(error.message.bytes())?;
+    put_packet(alloc, sequence, &payload, out)
+}
+
+/// Appends the packet of a row.
+pub fn put_row(
+    alloc: Global,
+    cells: &RowCells,
+    sequence: u8,
+    out: &mut Text,
+) -> Result<(), NoMemory>
+    requires { length (row_payload (cell_texts cells.now)) ≤ most_payload }
+    ensures ok { OnOk result (out.new ≡ out.old ++ packet sequence (row_payload (cell_texts cells.now))) }
+    ensures err { OnErr result (out.new ≡ out.old) }
+{
+    let mut payload = Vec::new(alloc);
+    for cell in cells.items() {
+        push_cell(alloc, &mut payload, cell)?;
+    }
+    put_packet(alloc, sequence, &payload, out)
+}
+
+fn column_bytes(alloc: Global, column: &ColumnDef) -> Result<Vec<u8>, AllocError>
+    ensures { IfOk result (λ payload. payload.items ≡ column_payload column.now) }
+{
+    let mut payload = Vec::new(alloc);
+    push_names(&mut payload, column)?;
+    push_sizes(&mut payload, column)?;
+    Ok(payload)
+}
+
+fn push_names(payload: &mut Vec<u8>, column: &ColumnDef) -> Result<(), AllocError>
+    ensures { OnOk result (payload.new.items ≡ payload.old.items ++ column_names column.now) }
+{
+    push_string(payload, b"def")?;
+    push_string(payload, column.schema.bytes())?;
+    push_string(payload, column.table.bytes())?;
+    push_string(payload, column.org_table.bytes())?;
+    push_string(payload, column.name.bytes())?;
+    push_string(payload, column.org_name.bytes())
+}
+
+fn push_sizes(payload: &mut Vec<u8>, column: &ColumnDef) -> Result<(), AllocError>
+    ensures { OnOk result (payload.new.items ≡ payload.old.items ++ column_sizes column.now) }
+{
+    payload.push(0x0c)?;
+    payload.extend_from_slice(&column.charset.to_le_bytes())?;
+    payload.extend_from_slice(&column.length.to_le_bytes())?;
+    payload.push(column.kind)?;
+    payload.extend_from_slice(&column.flags.to_le_bytes())?;
+    payload.extend_from_slice(&[column.decimals, 0, 0])
+}
+
+fn ok_bytes(alloc: Global, affected: u64, status: u16) -> Result<Vec<u8>, AllocError>
+    ensures { IfOk result (λ payload. payload.items ≡ ok_payload affected status) }
+{
+    let mut payload = Vec::new(alloc);
+    payload.push(0)?;
+    push_integer(&mut payload, affected)?;
+    push_integer(&mut payload, 0)?;
+    payload.extend_from_slice(&status.to_le_bytes())?;
+    payload.extend_from_slice(&[0, 0])?;
+    Ok(payload)
+}
+
+fn push_cell(alloc: Global, payload: &mut Vec<u8>, cell: &StoredCell) -> Result<(), NoMemory>
+    ensures { OnOk result (payload.new.items ≡ payload.old.items ++ encoded_cell (cell_text cell.now)) }
+{
+    match cell {
+        StoredCell::Null => payload.push(0xfb)?,
+        StoredCell::Int(n) => push_string(payload, n.to_string(alloc)?.as_bytes())?,
+        StoredCell::Wide(n) => push_string(payload, n.to_string(alloc)?.as_bytes())?,
+        StoredCell::Str(text) => push_string(payload, text.bytes())?,
+    }
+    Ok(())
+}
+
+// A length-encoded integer.
+#[tactic(auto, unfolding(qc_sql::specs::Packets::encoded_integer))]
+fn push_integer(payload: &mut Vec<u8>, n: u64) -> Result<(), AllocError>
+    ensures { OnOk result (payload.new.items ≡ payload.old.items ++ encoded_integer n) }
+{
+    let bytes = n.to_le_bytes();
+    if n < 251 {
+        payload.push(n as u8)?;
+        Ok(())
+    } else if n < 1 << 16 {
+        payload.push(0xfc)?;
+        payload.extend_from_slice(&bytes[..2])
+    } else if n < 1 << 24 {
+        payload.push(0xfd)?;
+        payload.extend_from_slice(&bytes[..3])
+    } else {
+        payload.push(0xfe)?;
+        payload.extend_from_slice(&bytes)
+    }
+}
+
+// A length-encoded string.
+#[tactic(auto, unfolding(qc_sql::specs::Packets::encoded_string))]
+fn push_string(payload: &mut Vec<u8>, bytes: &[u8]) -> Result<(), AllocError>
+    ensures { OnOk result (payload.new.items ≡ payload.old.items ++ encoded_string bytes.now) }
+{
+    push_integer(payload, bytes.len() as u64)?;
+    payload.extend_from_slice(bytes)
+}
+
+#[tactic(auto, unfolding(qc_sql::specs::Packets::packet))]
+pub(crate) fn put_packet(
+    alloc: Global,
+    sequence: u8,
+    payload: &[u8],
+    out: &mut Text,
+) -> Result<(), NoMemory>
+    requires { length payload.now ≤ most_payload }
+    ensures ok { OnOk result (out.new ≡ out.old ++ packet sequence payload.now) }
+    ensures err { OnErr result (out.new ≡ out.old) }
+{
+    let length = (payload.len() as u64).to_le_bytes();
+    let mut whole = Vec::new(alloc);
+    whole.extend_from_slice(&[length[0], length[1], length[2], sequence])?;
+    whole.extend_from_slice(payload)?;
+    out.extend(&whole)
+}

@@ -1,0 +1,52 @@
+//! `qcache`: reads a script of sessions from the standard input, and writes the report of its run to the standard output.
+#![tactic(auto)]
+
+use qc_app::{Ended, StdSink, StdSource, qcache_main};
+use std::env;
+use std::io::{self, ErrorKind};
+use std::process::ExitCode;
+
+const USAGE: &str =
+    "usage: qcache run [--size N] [--limit N] [--unit N] [--type N] or qcache workload N";
+
+fn main(rt: HostRuntime) -> ExitCode {
+    let ended = run(&rt);
+    // Whether the standard error takes the message changes nothing of how the run ended.
+    let _told = tell(&rt, &ended);
+    ExitCode::from(ended.status)
+}
+
+/// The top call on the words of the command line and the standard streams. Words that aren't UTF-8 are in no form.
+fn run(rt: &HostRuntime) -> Ended {
+    let mut input = StdSource::new(rt.reader());
+    let mut out = StdSink::new(io::writer(rt));
+    match words(rt) {
+        Ok(words) => qcache_main(rt, rt.alloc(), &words, &mut input, &mut out),
+        Err(error) => Ended {
+            status: if error.kind() == ErrorKind::OutOfMemory {
+                5
+            } else {
+                1
+            },
+            report: None,
+            bad: None,
+        },
+    }
+}
+
+/// The words behind the program's name.
+fn words(rt: &HostRuntime) -> io::Result<Vec<String>> {
+    Ok(env::args(rt)?.skip(1).collect(rt.alloc())?)
+}
+
+/// Tells the fault on the standard error.
+fn tell(rt: &HostRuntime, ended: &Ended) -> io::Result<()> {
+    match (ended.status, &ended.bad) {
+        (2, Some(refusal)) => eprintln!(rt; "{refusal}"),
+        (1, _) => eprintln!(rt; "{USAGE}"),
+        (3, _) => eprintln!(rt; "read fault"),
+        (4, _) => eprintln!(rt; "write fault"),
+        (5, _) => eprintln!(rt; "no memory"),
+        _ => Ok(()),
+    }
+}
