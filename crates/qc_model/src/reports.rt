@@ -7,7 +7,9 @@ use thiserror::Error;
 /// The input of each session.
 #[derive(Drop)]
 pub struct Script {
+    /// The input that is run alone first.
     pub setup: Option<Text>,
+    /// The input of each session, from session 1 on: packets one after another.
     pub sessions: Texts,
 }
 
@@ -28,46 +30,67 @@ pub enum ScriptRefusal {
     InputTooLong,
 }
 
+/// How a command's reply came about.
 #[derive(Clone, Copy, Debug, PartialEq, Eq)]
 pub enum Word {
+    /// From an entry of the cache.
     Hit,
+    /// By a select that began an entry.
     Start,
+    /// By a select outside the cache.
     Plain,
+    /// By a command that is no select.
     Other,
+    /// By the session alone, without an event.
     Local,
 }
 
+/// A command that was answered.
 #[derive(Drop)]
 pub struct ReportLine {
+    /// The place in the journal of its event, or where it has none the last place that the session had seen.
     pub place: u64,
     pub how: Word,
+    /// Its packets.
     pub reply: Text,
 }
 
+/// What a session was answered, in order.
 pub type ReportLines = OwnedList<ReportLine>;
 
+/// How a session's input ended.
 #[derive(Clone, Copy, Debug, PartialEq, Eq)]
 pub enum Ending {
+    /// By COM_QUIT.
     Quit,
+    /// Behind a whole packet.
     Input,
+    /// In a packet of which so many bytes stand there.
     Cut(u32),
+    /// At a packet whose payload is longer than one may be.
     TooLong(u32),
+    /// At a packet with a wrong sequence number.
     BadSequence { found: u8, wanted: u8 },
 }
 
+/// What one session did.
 #[derive(Drop)]
 pub struct SessionReport {
+    /// 1 to 64, or 0 for the setup part.
     pub session: u8,
     pub lines: ReportLines,
     pub ending: Ending,
 }
 
+/// The sessions, the lowest number first.
 pub type SessionReports = OwnedList<SessionReport>;
 
+/// What a run of a script did.
 #[derive(Drop)]
 pub struct Report {
     pub options: Options,
     pub sessions: SessionReports,
     pub journal: Events,
+    /// At the end of the journal.
     pub counters: Counters,
 }

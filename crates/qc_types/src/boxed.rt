@@ -5,7 +5,7 @@ use crate::memory::NoMemory;
 use std::alloc::Global;
 use std::marker::Model;
 
-/// A box that contracts see as the value in it, so that a tree of them is plain data.
+/// A box on the heap. Contracts see it as the value in it, so that a tree of them is plain data.
 #[derive(Debug, Drop)]
 pub struct Boxed<T> {
     inner: Box<T>,
@@ -20,6 +20,7 @@ impl<T> Model for Boxed<T> {
 }
 
 impl<T: Drop> Boxed<T> {
+    /// Moves the value into memory of its own. Where memory lacks, the value is dropped.
     pub fn new(alloc: Global, value: T) -> Result<Boxed<T>, NoMemory>
         ensures { IfOk result (λ b. b ≡ value) }
     {
@@ -28,12 +29,14 @@ impl<T: Drop> Boxed<T> {
         })
     }
 
+    /// The value, lent.
     pub fn get(&self) -> &T
         ensures { result.now ≡ self.now }
     {
         &self.inner
     }
 
+    /// The value. The box's memory is given back.
     pub fn into_inner(self) -> T
         ensures { result ≡ self }
     {

@@ -9,6 +9,8 @@ mod options;
 mod owned_list;
 mod sql_error;
 mod streams;
+#[cfg(test)]
+mod tests;
 mod text;
 mod totals;
 

@@ -1,4 +1,4 @@
-/// The sizes and the cache type that the server runs with, already rounded.
+/// The system variables of MySQL's query cache with which the server starts, already rounded.
 #[derive(Clone, Copy, Debug, PartialEq, Eq)]
 pub struct Options {
     /// Bytes of the cache's memory, a multiple of 1024 from 0 to 67,108,864. At 0 the cache is off (`query_cache_size`).

@@ -5,7 +5,7 @@ use crate::memory::NoMemory;
 use std::alloc::Global;
 use std::marker::Model;
 
-/// A list that owns its members. Contracts see it as that list.
+/// A list that owns its members, in memory that grows at its end. Contracts see it as that list.
 #[derive(Debug, Drop)]
 pub struct OwnedList<T> {
     members: Vec<T>,
@@ -23,6 +23,7 @@ impl<T> Model for OwnedList<T> {
 }
 
 impl<T: Drop> OwnedList<T> {
+    /// An empty list, which holds no memory yet.
     pub fn new(alloc: Global) -> OwnedList<T>
         ensures { result ≡ [] }
     {
@@ -31,6 +32,7 @@ impl<T: Drop> OwnedList<T> {
         }
     }
 
+    /// Puts the item at the end. Where memory lacks, the list stays and the item is dropped. Constant time over many calls.
     pub fn push(&mut self, item: T) -> Result<(), NoMemory>
         ensures ok { OnOk result (self.new ≡ self.old ++ item ∷ []) }
         ensures err { OnErr result (self.new ≡ self.old) }
@@ -39,7 +41,7 @@ impl<T: Drop> OwnedList<T> {
         Ok(())
     }
 
-    /// Puts the members of the other list at the end, in their order.
+    /// Puts the members of the other list at the end, in their order, all of them or none. Linear in their number over many calls.
     pub fn append(&mut self, other: OwnedList<T>) -> Result<(), NoMemory>
         ensures ok { OnOk result (self.new ≡ self.old ++ other) }
         ensures err { OnErr result (self.new ≡ self.old) }
@@ -49,6 +51,7 @@ impl<T: Drop> OwnedList<T> {
         Ok(())
     }
 
+    /// The members, lent, in their order.
     pub fn items(&self) -> &[T]
         ensures { result.now ≡ self.now }
     {
@@ -57,6 +60,7 @@ impl<T: Drop> OwnedList<T> {
 }
 
 impl<T: Duplicate> OwnedList<T> {
+    /// A list of copies of the members, in their order. Linear in what the members hold.
     pub fn copy(&self, alloc: Global) -> Result<OwnedList<T>, NoMemory>
         ensures { IfOk result (λ copy. copy ≡ self.now) }
     {

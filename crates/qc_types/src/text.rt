@@ -5,7 +5,7 @@ use crate::memory::NoMemory;
 use std::alloc::Global;
 use std::marker::Model;
 
-/// An owned list of bytes. Contracts see it as the list of their numbers.
+/// Bytes of its own, as a name or the text of a statement, in no certain encoding. Contracts see it as the list of their numbers.
 #[derive(Debug, Drop)]
 pub struct Text {
     held: Vec<u8>,
@@ -20,6 +20,7 @@ impl Model for Text {
 }
 
 impl Text {
+    /// A text of these bytes. Linear in their number.
     pub fn of(alloc: Global, bytes: &[u8]) -> Result<Text, NoMemory>
         ensures { IfOk result (λ t. t ≡ bytes.now) }
     {
@@ -28,19 +29,21 @@ impl Text {
         })
     }
 
+    /// A second text of the same bytes. Linear in their number.
     pub fn copy(&self, alloc: Global) -> Result<Text, NoMemory>
         ensures { IfOk result (λ t. t ≡ self.now) }
     {
         Text::of(alloc, self.bytes())
     }
 
+    /// The bytes, lent.
     pub fn bytes(&self) -> &[u8]
         ensures { result.now ≡ self.now }
     {
         self.held.as_slice()
     }
 
-    /// Puts these bytes at the end, all of them or none.
+    /// Puts these bytes at the end, all of them or none. Linear in their number over many calls.
     pub fn extend(&mut self, bytes: &[u8]) -> Result<(), NoMemory>
         ensures ok { OnOk result (self.new ≡ self.old ++ bytes.now) }
         ensures err { OnErr result (self.new ≡ self.old) }

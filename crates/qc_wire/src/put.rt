@@ -1,4 +1,7 @@
-//! Packets are made in a buffer of their own and put at the end at once, so a call that lacks memory changes nothing.
+//! Packets of replies, which a server sends. A packet is made in a buffer of its own and put at the end at once, so a call that lacks memory
+//! changes nothing.
+//!
+//! Each call costs time and memory linear in the packet's bytes. A packet's sequence number is counted modulo 256.
 
 ghost use Rattle.std.specs.Prelude.{◌≡◌, ◌≤◌, ◌<◌, ◌^◌, ◌++◌, ◌∷◌, [], length, IfOk, OnOk, OnErr};
 ghost use Rattle.std.specs.List.{flat_map};
@@ -10,7 +13,24 @@ use qc_sql::replies::ColumnDef;
 use qc_types::{NoMemory, SqlError, Text};
 use std::alloc::{AllocError, Global};
 
-/// Appends the packet with the column count.
+/// The first byte of an OK_Packet.
+const OK_HEADER: u8 = 0x00;
+
+/// The first byte of an ERR_Packet.
+const ERR_HEADER: u8 = 0xff;
+
+/// The first byte of an EOF_Packet.
+const EOF_HEADER: u8 = 0xfe;
+
+/// A cell of a row that is NULL.
+const NULL_CELL: u8 = 0xfb;
+
+/// How many bytes of a Protocol::ColumnDefinition41 stand behind the byte that says it.
+const SIZES_LENGTH: u8 = 0x0c;
+
+/// Appends the packet that opens a text result set: how many columns it has, from 1 to 64, as a length-encoded integer.
+///
+/// Where memory runs out, `out` stays as it was.
 #[tactic(auto, using(crate::proofs::Lengths::integer_bound))]
 pub fn put_count(alloc: Global, count: u16, sequence: u8, out: &mut Text) -> Result<(), NoMemory>
     requires { count ≤ 64 }
@@ -22,7 +42,8 @@ pub fn put_count(alloc: Global, count: u16, sequence: u8, out: &mut Text) -> Res
     put_packet(alloc, sequence, &payload, out)
 }
 
-/// Appends the packet that defines a column.
+/// Appends the packet that defines a column of a text result set (Protocol::ColumnDefinition41), of the catalog "def". Its payload has at
+/// most 16,777,214 bytes. The cost is linear in the names, and where memory runs out, `out` stays as it was.
 pub fn put_column(
     alloc: Global,
     column: &ColumnDef,
@@ -37,18 +58,21 @@ pub fn put_column(
     put_packet(alloc, sequence, &payload, out)
 }
 
-/// Appends the packet that ends a part of a result set.
+/// Appends the packet that ends the columns or the rows of a text result set (EOF_Packet): no warnings, and the server's status flags.
+///
+/// Where memory runs out, `out` stays as it was.
 pub fn put_eof(alloc: Global, status: u16, sequence: u8, out: &mut Text) -> Result<(), NoMemory>
     ensures ok { OnOk result (out.new ≡ out.old ++ packet sequence (eof_payload status)) }
     ensures err { OnErr result (out.new ≡ out.old) }
 {
     let mut payload = Vec::new(alloc);
-    payload.extend_from_slice(&[0xfe, 0, 0])?;
+    payload.extend_from_slice(&[EOF_HEADER, 0, 0])?;
     payload.extend_from_slice(&status.to_le_bytes())?;
     put_packet(alloc, sequence, &payload, out)
 }
 
-/// Appends the packet of an OK.
+/// Appends the packet of a statement that succeeded with no rows to show (OK_Packet): how many rows it changed, no id of an inserted row, the
+/// server's status flags, and no warnings. Where memory runs out, `out` stays as it was.
 #[tactic(auto, using(crate::proofs::Lengths::ok_bound))]
 pub fn put_ok(
     alloc: Global,
@@ -64,7 +88,8 @@ pub fn put_ok(
     put_packet(alloc, sequence, &payload, out)
 }
 
-/// Appends the packet of an error.
+/// Appends the packet of an error (ERR_Packet): its code, '#', the five bytes of its SQLSTATE, and its text. Its payload has at most 16,777,214
+/// bytes. The cost is linear in the text, and where memory runs out, `out` stays as it was.
 pub fn put_err(
     alloc: Global,
     error: &SqlError,
@@ -76,7 +101,7 @@ pub fn put_err(
     ensures err { OnErr result (out.new ≡ out.old) }
 {
     let mut payload = Vec::new(alloc);
-    payload.push(0xff)?;
+    payload.push(ERR_HEADER)?;
     payload.extend_from_slice(&error.code.to_le_bytes())?;
     payload.push(b'#')?;
     payload.extend_from_slice(&error.state)?;
@@ -84,7 +109,8 @@ pub fn put_err(
     put_packet(alloc, sequence, &payload, out)
 }
 
-/// Appends the packet of a row.
+/// Appends the packet of a row of a text result set (ProtocolText::ResultsetRow): each cell a length-encoded string, or the byte 0xfb for NULL.
+/// Its payload has at most 16,777,214 bytes. The cost is linear in the cells' bytes, and where memory runs out, `out` stays as it was.
 pub fn put_row(
     alloc: Global,
     cells: &RowCells,
@@ -102,6 +128,7 @@ pub fn put_row(
     put_packet(alloc, sequence, &payload, out)
 }
 
+/// The payload of Protocol::ColumnDefinition41.
 fn column_bytes(alloc: Global, column: &ColumnDef) -> Result<Vec<u8>, AllocError>
     ensures { IfOk result (λ payload. payload.items ≡ column_payload column.now) }
 {
@@ -111,6 +138,7 @@ fn column_bytes(alloc: Global, column: &ColumnDef) -> Result<Vec<u8>, AllocError
     Ok(payload)
 }
 
+/// Appends the catalog, and the names of a column and of its table, each a length-encoded string.
 fn push_names(payload: &mut Vec<u8>, column: &ColumnDef) -> Result<(), AllocError>
     ensures { OnOk result (payload.new.items ≡ payload.old.items ++ column_names column.now) }
 {
@@ -122,10 +150,11 @@ fn push_names(payload: &mut Vec<u8>, column: &ColumnDef) -> Result<(), AllocErro
     push_string(payload, column.org_name.bytes())
 }
 
+/// Appends the fields of fixed sizes behind a column's names.
 fn push_sizes(payload: &mut Vec<u8>, column: &ColumnDef) -> Result<(), AllocError>
     ensures { OnOk result (payload.new.items ≡ payload.old.items ++ column_sizes column.now) }
 {
-    payload.push(0x0c)?;
+    payload.push(SIZES_LENGTH)?;
     payload.extend_from_slice(&column.charset.to_le_bytes())?;
     payload.extend_from_slice(&column.length.to_le_bytes())?;
     payload.push(column.kind)?;
@@ -133,11 +162,12 @@ fn push_sizes(payload: &mut Vec<u8>, column: &ColumnDef) -> Result<(), AllocErro
     payload.extend_from_slice(&[column.decimals, 0, 0])
 }
 
+/// The payload of an OK_Packet.
 fn ok_bytes(alloc: Global, affected: u64, status: u16) -> Result<Vec<u8>, AllocError>
     ensures { IfOk result (λ payload. payload.items ≡ ok_payload affected status) }
 {
     let mut payload = Vec::new(alloc);
-    payload.push(0)?;
+    payload.push(OK_HEADER)?;
     push_integer(&mut payload, affected)?;
     push_integer(&mut payload, 0)?;
     payload.extend_from_slice(&status.to_le_bytes())?;
@@ -145,11 +175,12 @@ fn ok_bytes(alloc: Global, affected: u64, status: u16) -> Result<Vec<u8>, AllocE
     Ok(payload)
 }
 
+/// Appends a cell of ProtocolText::ResultsetRow.
 fn push_cell(alloc: Global, payload: &mut Vec<u8>, cell: &StoredCell) -> Result<(), NoMemory>
     ensures { OnOk result (payload.new.items ≡ payload.old.items ++ encoded_cell (cell_text cell.now)) }
 {
     match cell {
-        StoredCell::Null => payload.push(0xfb)?,
+        StoredCell::Null => payload.push(NULL_CELL)?,
         StoredCell::Int(n) => push_string(payload, n.to_string(alloc)?.as_bytes())?,
         StoredCell::Wide(n) => push_string(payload, n.to_string(alloc)?.as_bytes())?,
         StoredCell::Str(text) => push_string(payload, text.bytes())?,
@@ -157,7 +188,7 @@ fn push_cell(alloc: Global, payload: &mut Vec<u8>, cell: &StoredCell) -> Result<
     Ok(())
 }
 
-// A length-encoded integer.
+/// Appends a length-encoded integer, in its shortest form.
 #[tactic(auto, unfolding(qc_sql::specs::Packets::encoded_integer))]
 fn push_integer(payload: &mut Vec<u8>, n: u64) -> Result<(), AllocError>
     ensures { OnOk result (payload.new.items ≡ payload.old.items ++ encoded_integer n) }
@@ -178,7 +209,7 @@ fn push_integer(payload: &mut Vec<u8>, n: u64) -> Result<(), AllocError>
     }
 }
 
-// A length-encoded string.
+/// Appends a length-encoded string: its length, a length-encoded integer, and its bytes.
 #[tactic(auto, unfolding(qc_sql::specs::Packets::encoded_string))]
 fn push_string(payload: &mut Vec<u8>, bytes: &[u8]) -> Result<(), AllocError>
     ensures { OnOk result (payload.new.items ≡ payload.old.items ++ encoded_string bytes.now) }
@@ -187,6 +218,8 @@ fn push_string(payload: &mut Vec<u8>, bytes: &[u8]) -> Result<(), AllocError>
     payload.extend_from_slice(bytes)
 }
 
+/// Appends a packet: the length of its payload in three bytes, the lowest first, its sequence number, and its payload, of at most 16,777,214
+/// bytes. Where memory runs out, `out` stays as it was.
 #[tactic(auto, unfolding(qc_sql::specs::Packets::packet))]
 pub(crate) fn put_packet(
     alloc: Global,

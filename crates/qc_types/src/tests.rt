@@ -1,0 +1,223 @@
+ghost use Rattle.std.specs.Prelude.{◌<◌, length};
+
+use crate::{
+    Boxed, BytesSink, BytesSource, Duplicate, NoMemory, Or, OwnedList, PutStep, ReadStep, Sink,
+    Source, TableName, Tables, Text, Value,
+};
+use std::alloc::{AllocError, AllocFailed, Global};
+use std::test::Fail;
+
+/// A second value, by what every `Duplicate` promises.
+fn twice<T: Duplicate>(alloc: Global, value: &T) -> Result<T, NoMemory> {
+    value.duplicate(alloc)
+}
+
+fn table(alloc: Global, db: &[u8], name: &[u8]) -> Result<TableName, NoMemory> {
+    Ok(TableName {
+        db: Text::of(alloc, db)?,
+        name: Text::of(alloc, name)?,
+    })
+}
+
+#[test]
+fn text_grows_apart_from_its_copy(rt: HostRuntime) -> Result<(), Fail> {
+    let mut text = Text::of(rt.alloc(), b"SELECT")?;
+    text.extend(b"")?;
+    text.extend(b" \0\xff")?;
+    let copy = text.copy(rt.alloc())?;
+    text.extend(b"!")?;
+    assert_eq!(rt; text.bytes(), b"SELECT \0\xff!".as_slice());
+    assert_eq!(rt; copy.bytes(), b"SELECT \0\xff".as_slice());
+    assert_eq!(rt;
+        twice(rt.alloc(), &copy)?.bytes(),
+        b"SELECT \0\xff".as_slice()
+    );
+    assert_eq!(rt; Text::of(rt.alloc(), b"")?.bytes(), b"".as_slice());
+    Ok(())
+}
+
+#[test]
+fn lists_keep_their_order(rt: HostRuntime) -> Result<(), Fail> {
+    let mut numbers = OwnedList::new(rt.alloc());
+    assert_eq!(rt; numbers.items(), [].as_slice());
+    numbers.push(8u64)?;
+    numbers.push(7)?;
+    let mut others = OwnedList::new(rt.alloc());
+    others.push(9)?;
+    others.push(8)?;
+    numbers.append(others)?;
+    numbers.append(OwnedList::new(rt.alloc()))?;
+    assert_eq!(rt; numbers.items(), [8, 7, 9, 8].as_slice());
+    Ok(())
+}
+
+#[test]
+fn tables_are_copied_in_order(rt: HostRuntime) -> Result<(), Fail> {
+    let mut tables: Tables = OwnedList::new(rt.alloc());
+    tables.push(table(rt.alloc(), b"shop", b"orders")?)?;
+    tables.push(table(rt.alloc(), b"mysql", b"user")?)?;
+    for copy in [tables.copy(rt.alloc())?, twice(rt.alloc(), &tables)?] {
+        let mut names = Text::of(rt.alloc(), b"")?;
+        for name in copy.items() {
+            names.extend(name.db.bytes())?;
+            names.extend(b".")?;
+            names.extend(name.name.bytes())?;
+            names.extend(b" ")?;
+        }
+        assert_eq!(rt; names.bytes(), b"shop.orders mysql.user ".as_slice());
+    }
+    Ok(())
+}
+
+#[test]
+fn values_are_duplicated_in_boxes(rt: HostRuntime) -> Result<(), Fail> {
+    let null = Boxed::new(rt.alloc(), Value::Null)?;
+    let least = Boxed::new(rt.alloc(), Value::Int(i64::MIN))?;
+    let word = Boxed::new(rt.alloc(), Value::Str(Text::of(rt.alloc(), b"null")?))?;
+    assert!(rt; matches!(twice(rt.alloc(), &null)?.into_inner(), Value::Null));
+    assert!(rt; matches!(twice(rt.alloc(), &least)?.get(), Value::Int(i64::MIN)));
+    let copy = twice(rt.alloc(), &word)?;
+    assert!(rt;
+        matches!(copy.get(), Value::Str(text) if text.bytes() == b"null".as_slice()),
+        "{copy:?}"
+    );
+    Ok(())
+}
+
+/// The refusal that `?` makes of an error.
+fn refused<E>(error: E) -> Or<u16>
+where
+    Or<u16>: From<E>,
+{
+    Or::from(error)
+}
+
+#[test]
+fn each_error_of_an_allocation_is_want_of_memory(rt: HostRuntime) {
+    assert_eq!(rt; NoMemory::from(AllocError), NoMemory);
+    assert_eq!(rt; NoMemory::from(AllocFailed { value: 5u8 }), NoMemory);
+    assert!(rt; matches!(refused(NoMemory), Or::Memory));
+    assert!(rt; matches!(refused(AllocError), Or::Memory));
+    assert!(rt; matches!(refused(AllocFailed { value: 5u8 }), Or::Memory));
+}
+
+/// What so many reads into this buffer did, and the bytes that they got.
+fn reads<S: Source>(
+    alloc: Global,
+    source: &mut S,
+    buffer: &mut [u8],
+    count: usize,
+) -> Result<(Vec<ReadStep>, Text), NoMemory>
+    requires { 0 < length buffer.old }
+{
+    let mut steps = Vec::new(alloc);
+    let mut text = Text::of(alloc, b"")?;
+    for _ in 0..count {
+        let step = source.read(buffer);
+        if let ReadStep::Got(got) = step {
+            text.extend(&buffer[..got])?;
+        }
+        steps.push(step)?;
+    }
+    Ok((steps, text))
+}
+
+#[test]
+fn a_source_gives_pieces_and_fails_where_told(rt: HostRuntime) -> Result<(), Fail> {
+    use ReadStep::{End, Failed, Got};
+    // the most bytes of a piece, the calls that fail, and what reads of nine bytes into a buffer of eight do
+    let rows: [(usize, &[u64], &[ReadStep]); 12] = [
+        (
+            1,
+            &[],
+            &[
+                Got(1),
+                Got(1),
+                Got(1),
+                Got(1),
+                Got(1),
+                Got(1),
+                Got(1),
+                Got(1),
+                Got(1),
+                End,
+                End,
+            ],
+        ),
+        (2, &[], &[Got(2), Got(2), Got(2), Got(2), Got(1), End]),
+        (3, &[], &[Got(3), Got(3), Got(3), End]),
+        (7, &[], &[Got(7), Got(2), End]),
+        (20, &[], &[Got(8), Got(1), End]),
+        (
+            1,
+            &[1],
+            &[
+                Failed,
+                Got(1),
+                Got(1),
+                Got(1),
+                Got(1),
+                Got(1),
+                Got(1),
+                Got(1),
+                Got(1),
+                Got(1),
+                End,
+            ],
+        ),
+        (
+            2,
+            &[1],
+            &[Failed, Got(2), Got(2), Got(2), Got(2), Got(1), End],
+        ),
+        (3, &[1], &[Failed, Got(3), Got(3), Got(3), End]),
+        (7, &[1], &[Failed, Got(7), Got(2), End]),
+        (3, &[3, 2], &[Got(3), Failed, Failed, Got(3), Got(3), End]),
+        (7, &[3], &[Got(7), Got(2), Failed, End]),
+        (7, &[0, 5, 5], &[Got(7), Got(2), End, End, Failed, End]),
+    ];
+    for (piece, failing, want) in rows {
+        assert!(rt; piece > 0);
+        let bytes = Vec::from_slice(rt.alloc(), b"abcdefghi")?;
+        let failing = Vec::from_slice(rt.alloc(), failing)?;
+        let mut source = BytesSource::new(bytes, piece, failing);
+        let (steps, text) = reads(rt.alloc(), &mut source, &mut [0; 8], want.len())?;
+        assert_eq!(rt; steps.as_slice(), want, "in pieces of {piece}");
+        assert_eq!(rt;
+            text.bytes(),
+            b"abcdefghi".as_slice(),
+            "in pieces of {piece}"
+        );
+    }
+    Ok(())
+}
+
+/// What a put of each piece did.
+fn puts<S: Sink>(alloc: Global, sink: &mut S, pieces: &[&[u8]]) -> Result<Vec<PutStep>, NoMemory> {
+    let mut steps = Vec::new(alloc);
+    for piece in pieces {
+        steps.push(sink.put(piece))?;
+    }
+    Ok(steps)
+}
+
+#[test]
+fn a_sink_keeps_what_came_before_a_fault(rt: HostRuntime) -> Result<(), Fail> {
+    use PutStep::{Done, Failed};
+    // the calls that fail, what the puts do, and what the sink holds then
+    let rows: [(&[u64], [PutStep; 4], &[u8]); 5] = [
+        (&[], [Done, Done, Done, Done], b"abcdefgabc"),
+        (&[1], [Failed, Done, Done, Done], b"defgabc"),
+        (&[2], [Done, Failed, Done, Done], b"abcabc"),
+        (&[4, 2], [Done, Failed, Done, Failed], b"abc"),
+        (&[1, 2, 3, 4], [Failed, Failed, Failed, Failed], b""),
+    ];
+    for (failing, want, held) in rows {
+        let failing = Vec::from_slice(rt.alloc(), failing)?;
+        let mut sink = BytesSink::new(rt.alloc(), failing);
+        let steps = puts(rt.alloc(), &mut sink, &[b"abc", b"defg", b"", b"abc"])?;
+        assert_eq!(rt; steps.as_slice(), want.as_slice());
+        assert_eq!(rt; sink.bytes(), held);
+    }
+    Ok(())
+}

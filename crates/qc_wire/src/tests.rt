@@ -1,0 +1,278 @@
+//! Packets, against examples of the protocol's documentation and against bytes that were worked out by hand from it.
+
+ghost use Rattle.std.specs.Prelude.{◌≤◌, length, IfOk};
+ghost use Rattle.qc_sql.specs.Packets.{most_payload, column_payload, err_payload, row_payload};
+ghost use Rattle.qc_wire.specs.Cells.{cell_texts};
+
+use crate::{
+    Cell, RowCells, TooLong, command_packet, put_column, put_command, put_count, put_eof, put_err,
+    put_ok, put_row,
+};
+use qc_sql::commands::Command;
+use qc_sql::replies::ColumnDef;
+use qc_types::{NoMemory, Or, SqlError, Text};
+use std::alloc::Global;
+use std::test::Fail;
+
+/// The status flag of a session with autocommit.
+const AUTOCOMMIT: u16 = 2;
+
+/// The documentation's example of a text result set: SELECT @@version_comment LIMIT 1.
+const VERSION_COMMENT: &[u8] =
+    b"\x01\0\0\x01\x01\x27\0\0\x02\x03def\0\0\0\x11@@version_comment\0\x0c\x08\0\x1c\0\0\0\xfd\0\0\x1f\0\0\x05\0\0\x03\xfe\0\0\x02\0\x1d\0\0\x04\x1cMySQL Community Server (GPL)\x05\0\0\x05\xfe\0\0\x02\0";
+
+/// The column n, the key order_id of the table orders of the database d, which is called o: BIGINT, never NULL, primary, of no default.
+const KEY_COLUMN: &[u8] =
+    b"\x27\0\0\xff\x03def\x01d\x01o\x06orders\x01n\x08order_id\x0c\x3f\0\x14\0\0\0\x08\x03\x50\0\0\0";
+
+/// A text of at most 64 bytes.
+fn short(alloc: Global, name: &[u8]) -> Result<Text, NoMemory>
+    requires { length name.now ≤ 64 }
+    ensures { IfOk result (λ text. length text ≤ 64) }
+{
+    Text::of(alloc, name)
+}
+
+fn version_comment(alloc: Global) -> Result<ColumnDef, NoMemory>
+    ensures { IfOk result (λ column. length (column_payload column) ≤ most_payload) }
+{
+    Ok(ColumnDef {
+        schema: short(alloc, b"")?,
+        table: short(alloc, b"")?,
+        org_table: short(alloc, b"")?,
+        name: short(alloc, b"@@version_comment")?,
+        org_name: short(alloc, b"")?,
+        charset: 8,
+        length: 28,
+        kind: 0xfd,
+        flags: 0,
+        decimals: 0x1f,
+    })
+}
+
+fn key_column(alloc: Global) -> Result<ColumnDef, NoMemory>
+    ensures { IfOk result (λ column. length (column_payload column) ≤ most_payload) }
+{
+    Ok(ColumnDef {
+        schema: short(alloc, b"d")?,
+        table: short(alloc, b"o")?,
+        org_table: short(alloc, b"orders")?,
+        name: short(alloc, b"n")?,
+        org_name: short(alloc, b"order_id")?,
+        charset: 63,
+        length: 20,
+        kind: 8,
+        flags: 0x5003,
+        decimals: 0,
+    })
+}
+
+/// The cells of a row of one text.
+fn text_cells(alloc: Global, text: &[u8]) -> Result<RowCells, NoMemory>
+    requires { length text.now ≤ 1000000 }
+    ensures { IfOk result (λ cells. length (row_payload (cell_texts cells)) ≤ most_payload) }
+{
+    let mut cells = RowCells::new(alloc);
+    cells.push(alloc, Cell::Str(text))?;
+    Ok(cells)
+}
+
+/// The cells of a row of no value and an empty text.
+fn null_and_empty(alloc: Global) -> Result<RowCells, NoMemory>
+    ensures { IfOk result (λ cells. length (row_payload (cell_texts cells)) ≤ most_payload) }
+{
+    let mut cells = RowCells::new(alloc);
+    cells.push(alloc, Cell::Null)?;
+    cells.push(alloc, Cell::Str(&[]))?;
+    Ok(cells)
+}
+
+/// The cells of a row of three numbers, -2^63, -2^127 and 0.
+fn numbers(alloc: Global) -> Result<RowCells, NoMemory>
+    ensures { IfOk result (λ cells. length (row_payload (cell_texts cells)) ≤ most_payload) }
+{
+    let mut cells = RowCells::new(alloc);
+    cells.push(alloc, Cell::Int(i64::MIN))?;
+    cells.push(alloc, Cell::Wide(i128::MIN))?;
+    cells.push(alloc, Cell::Int(0))?;
+    Ok(cells)
+}
+
+fn error_of(alloc: Global, code: u16, state: [u8; 5], message: &[u8]) -> Result<SqlError, NoMemory>
+    requires { length message.now ≤ 64 }
+    ensures { IfOk result (λ error. length (err_payload error) ≤ most_payload) }
+{
+    Ok(SqlError {
+        code,
+        state,
+        message: Text::of(alloc, message)?,
+    })
+}
+
+#[test]
+fn result_set(rt: HostRuntime) -> Result<(), Fail> {
+    let alloc = rt.alloc();
+    let column = version_comment(alloc)?;
+    let cells = text_cells(alloc, b"MySQL Community Server (GPL)")?;
+    let mut out = Text::of(alloc, &[])?;
+    put_count(alloc, 1, 1, &mut out)?;
+    put_column(alloc, &column, 2, &mut out)?;
+    put_eof(alloc, AUTOCOMMIT, 3, &mut out)?;
+    put_row(alloc, &cells, 4, &mut out)?;
+    put_eof(alloc, AUTOCOMMIT, 5, &mut out)?;
+    assert_eq!(rt; out.bytes(), VERSION_COMMENT);
+    Ok(())
+}
+
+#[test]
+fn key_columns(rt: HostRuntime) -> Result<(), Fail> {
+    let alloc = rt.alloc();
+    let column = key_column(alloc)?;
+    let mut out = Text::of(alloc, &[])?;
+    put_column(alloc, &column, 255, &mut out)?;
+    assert_eq!(rt; out.bytes(), KEY_COLUMN);
+    Ok(())
+}
+
+#[test]
+fn rows(rt: HostRuntime) -> Result<(), Fail> {
+    let alloc = rt.alloc();
+    let cells = null_and_empty(alloc)?;
+    let mut out = Text::of(alloc, &[])?;
+    put_row(alloc, &cells, 4, &mut out)?;
+    assert_eq!(rt; out.bytes(), b"\x02\0\0\x04\xfb\0".as_slice());
+    let cells = numbers(alloc)?;
+    let mut out = Text::of(alloc, &[])?;
+    put_row(alloc, &cells, 255, &mut out)?;
+    assert_eq!(rt;
+        out.bytes(),
+        b"\x40\0\0\xff\x14-9223372036854775808\x28-170141183460469231731687303715884105728\x010".as_slice()
+    );
+    Ok(())
+}
+
+/// The packet of a row of one text of so many bytes x.
+fn text_row(alloc: Global, length: usize) -> Result<Text, NoMemory>
+    requires { length ≤ 1000000 }
+{
+    let text = vec![in alloc; b'x'; length]?;
+    let cells = text_cells(alloc, &text)?;
+    let mut out = Text::of(alloc, &[])?;
+    put_row(alloc, &cells, 4, &mut out)?;
+    Ok(out)
+}
+
+#[test]
+fn long_texts(rt: HostRuntime) -> Result<(), Fail> {
+    let rows: [(usize, &[u8]); 4] = [
+        (250, b"\xfb\0\0\x04\xfax"),
+        (251, b"\xfe\0\0\x04\xfc\xfb\0x"),
+        (65_535, b"\x02\0\x01\x04\xfc\xff\xffx"),
+        (65_536, b"\x04\0\x01\x04\xfd\0\0\x01x"),
+    ];
+    for (length, front) in rows {
+        let row = text_row(rt.alloc(), length)?;
+        assert!(rt; row.bytes().starts_with(front), "at {length}");
+        assert_eq!(rt; row.bytes().len(), front.len() - 1 + length, "at {length}");
+    }
+    Ok(())
+}
+
+#[test]
+fn oks(rt: HostRuntime) -> Result<(), Fail> {
+    let rows: [(u64, &[u8]); 8] = [
+        (0, b"\x07\0\0\x01\0\0\0\x02\0\0\0"),
+        (250, b"\x07\0\0\x01\0\xfa\0\x02\0\0\0"),
+        (251, b"\x09\0\0\x01\0\xfc\xfb\0\0\x02\0\0\0"),
+        (65_535, b"\x09\0\0\x01\0\xfc\xff\xff\0\x02\0\0\0"),
+        (65_536, b"\x0a\0\0\x01\0\xfd\0\0\x01\0\x02\0\0\0"),
+        (16_777_215, b"\x0a\0\0\x01\0\xfd\xff\xff\xff\0\x02\0\0\0"),
+        (
+            16_777_216,
+            b"\x0f\0\0\x01\0\xfe\0\0\0\x01\0\0\0\0\0\x02\0\0\0",
+        ),
+        (
+            u64::MAX,
+            b"\x0f\0\0\x01\0\xfe\xff\xff\xff\xff\xff\xff\xff\xff\0\x02\0\0\0",
+        ),
+    ];
+    for (affected, want) in rows {
+        let mut out = Text::of(rt.alloc(), &[])?;
+        put_ok(rt.alloc(), affected, AUTOCOMMIT, 1, &mut out)?;
+        assert_eq!(rt; out.bytes(), want, "at {affected}");
+    }
+    Ok(())
+}
+
+#[test]
+fn errors(rt: HostRuntime) -> Result<(), Fail> {
+    let alloc = rt.alloc();
+    let mut out = Text::of(alloc, &[])?;
+    let error = error_of(alloc, 1235, *b"42000", b"Not supported: form")?;
+    put_err(alloc, &error, 1, &mut out)?;
+    assert_eq!(rt;
+        out.bytes(),
+        b"\x1c\0\0\x01\xff\xd3\x04#42000Not supported: form".as_slice()
+    );
+    // the documentation's example
+    let mut out = Text::of(alloc, &[])?;
+    let error = error_of(alloc, 1096, *b"HY000", b"No tables used")?;
+    put_err(alloc, &error, 1, &mut out)?;
+    assert_eq!(rt;
+        out.bytes(),
+        b"\x17\0\0\x01\xff\x48\x04#HY000No tables used".as_slice()
+    );
+    Ok(())
+}
+
+#[test]
+fn commands(rt: HostRuntime) -> Result<(), Fail> {
+    let alloc = rt.alloc();
+    let rows: [(Command, &[u8]); 9] = [
+        (Command::Quit, b"\x01\0\0\0\x01"),
+        (
+            Command::InitDb(Text::of(alloc, b"test")?),
+            b"\x05\0\0\0\x02test",
+        ),
+        (Command::InitDb(Text::of(alloc, b"d")?), b"\x02\0\0\0\x02d"),
+        (
+            Command::Query(Text::of(alloc, b"SELECT 1")?),
+            b"\x09\0\0\0\x03SELECT 1",
+        ),
+        (Command::Ping, b"\x01\0\0\0\x0e"),
+        (Command::Unknown(0x05), b"\x01\0\0\0\x05"),
+        (Command::Unknown(0x01), b"\x02\0\0\0\x01\0"),
+        (Command::Unknown(0x0e), b"\x02\0\0\0\x0e\0"),
+        (Command::Empty, b"\0\0\0\0"),
+    ];
+    let mut out = Text::of(alloc, &[])?;
+    let mut wanted = Vec::new(alloc);
+    for (command, want) in &rows {
+        let packet = command_packet(alloc, command)?;
+        assert_eq!(rt; packet.bytes(), *want);
+        put_command(alloc, command, &mut out)?;
+        wanted.extend_from_slice(want)?;
+        assert_eq!(rt; out.bytes(), wanted.as_slice());
+    }
+    Ok(())
+}
+
+/// The packet of a query of so many bytes.
+fn long_query(alloc: Global, length: usize) -> Result<Text, Or<TooLong>> {
+    let text = vec![in alloc; b' '; length]?;
+    command_packet(alloc, &Command::Query(Text::of(alloc, &text)?))
+}
+
+#[test]
+fn longest_payload(rt: HostRuntime) -> Result<(), Fail> {
+    let packet = long_query(rt.alloc(), 16_777_213)?;
+    assert!(rt; packet.bytes().starts_with(b"\xfe\xff\xff\0\x03 "));
+    assert_eq!(rt; packet.bytes().len(), 4 + 16_777_214);
+    match long_query(rt.alloc(), 16_777_214) {
+        Err(Or::Other(refusal)) => {
+            assert_eq!(rt; refusal, TooLong { length: 16_777_215 });
+        }
+        _ => assert!(rt; false, "a payload that is too long"),
+    }
+    Ok(())
+}
