@@ -1,8 +1,8 @@
 //! The top call on sources and sinks in memory. The expected replies are written out by hand.
 
-ghost use Rattle.std.specs.Prelude.{◌<◌, ◌≤◌, IfOk};
+ghost use Rattle.std.specs.Prelude.{◌<◌, ◌≤◌, IfOk, vec_len};
 
-use crate::{Ended, ScriptRefusal, StdSink, StdSource, Word, qcache_main};
+use crate::{Ended, StdSink, StdSource, Word, qcache_main};
 use qc_types::{BytesSink, BytesSource, PutStep, ReadStep, Sink, Source};
 use std::alloc::{AllocError, Global};
 use std::io::{self, ErrorKind, Read, Write};
@@ -43,8 +43,26 @@ counters 0 0 0 0 0 0
 end
 ";
 
-/// The reply to a query that is refused.
-const REFUSED: &[u8] = b"\x1c\0\0\x01\xff\xd3\x04#42000Not supported: form";
+/// The first report, with a query more that is refused.
+const REFUSED_REPORT: &str = "qcache report 1
+options 0 1048576 4096 1
+sessions 1
+session 1 commands 6 end input
+1 other 0700000100010002000000
+2 other 0700000100000002000000
+3 other 0700000100000002000000
+4 other 0700000100010002000000
+5 plain 01000001011d000002036465660164017401740269640269640c3f001400000008030000000005000003fe0000020002000004013705000005fe00000200
+5 local 1c000001ffd3042334323030304e6f7420737570706f727465643a20666f726d
+journal 5
+1 commit 1 1 1 createdb:64
+2 run 1 2 other
+3 commit 1 3 1 create:64.74:02696400000003
+4 commit 1 4 1 put:64.74:0137
+5 run 1 5 plain off
+counters 1 0 0 1 0 0
+end
+";
 
 fn words(alloc: Global, line: &str) -> Result<Vec<String>, AllocError> {
     let mut words = Vec::new(alloc);
@@ -117,19 +135,9 @@ fn a_source_that_gives_few_bytes(rt: HostRuntime) -> Result<(), Fail> {
 #[test]
 fn a_query_of_an_unknown_table(rt: HostRuntime) -> Result<(), Fail> {
     let script = format!(in rt.alloc(); "{FIRST_ROW}query SELECT id FROM x\n")?;
-    let (ended, _out) = run(&rt, script.as_bytes())?;
-    let Some(report) = ended.report else {
-        return Err(Fail::new("no report"));
-    };
-    for session in report.sessions.items() {
-        let lines = session.lines.items();
-        assert_eq!(rt; lines.len(), 6usize);
-        for line in lines.last() {
-            assert_eq!(rt; line.place, 5u64);
-            assert_eq!(rt; line.how, Word::Local);
-            assert_eq!(rt; line.reply.bytes(), REFUSED);
-        }
-    }
+    let (ended, out) = run(&rt, script.as_bytes())?;
+    assert_eq!(rt; ended.status, 0u8);
+    assert_eq!(rt; out.bytes(), REFUSED_REPORT.as_bytes());
     Ok(())
 }
 
@@ -231,6 +239,60 @@ fn standard_streams(rt: HostRuntime) -> Result<(), Fail> {
     assert_eq!(rt; out.put(b"a"), PutStep::Failed);
     assert_eq!(rt; out.put(b"ab"), PutStep::Failed);
     assert_eq!(rt; out.put(b""), PutStep::Done);
+    Ok(())
+}
+
+/// A reader that gives at most two bytes a call, and a writer that takes at most two and keeps them.
+#[derive(Drop)]
+struct Slow {
+    bytes: Vec<u8>,
+    at: usize,
+    ghost within: { at ≤ vec_len bytes },
+}
+
+impl Read for Slow {
+    fn read(&mut self, buf: &mut [u8]) -> io::Result<usize> {
+        let rest = &self.bytes[self.at..];
+        let count = rest.len().min(buf.len()).min(2);
+        buf[..count].copy_from_slice(&rest[..count]);
+        self.at += count;
+        Ok(count)
+    }
+}
+
+impl Write for Slow {
+    fn write(&mut self, buf: &[u8]) -> io::Result<usize> {
+        let count = buf.len().min(2);
+        self.bytes.extend_from_slice(&buf[..count])?;
+        Ok(count)
+    }
+
+    fn flush(&mut self) -> io::Result<()> {
+        Ok(())
+    }
+}
+
+#[test]
+fn slow_standard_streams(rt: HostRuntime) -> Result<(), Fail> {
+    let alloc = rt.alloc();
+    let words = words(alloc, "run --size 0")?;
+    let mut input = StdSource::new(Slow {
+        bytes: bytes(alloc, FIRST_ROW.as_bytes())?,
+        at: 0,
+    });
+    let mut written = Slow {
+        bytes: Vec::new(alloc),
+        at: 0,
+    };
+    let ended = qcache_main(
+        &rt,
+        alloc,
+        &words,
+        &mut input,
+        &mut StdSink::new(&mut written),
+    );
+    assert_eq!(rt; ended.status, 0u8);
+    assert_eq!(rt; written.bytes.as_slice(), FIRST_REPORT.as_bytes());
     Ok(())
 }
 
@@ -378,27 +440,80 @@ fn commands_of_every_form(rt: HostRuntime) -> Result<(), Fail> {
     Ok(())
 }
 
-#[test]
-fn the_longest_input(rt: HostRuntime) -> Result<(), Fail> {
-    let mut script = bytes(rt.alloc(), b"session 1\n")?;
-    for letters in [16_777_213, 16_777_213, 16_777_213, 16_777_187] {
+/// A script of whole lines that has so many bytes in all: four queries of many letters.
+fn long_script(alloc: Global, last: usize) -> Result<Vec<u8>, AllocError> {
+    let mut script = bytes(alloc, b"session 1\n")?;
+    for letters in [16_777_213, 16_777_213, 16_777_213, last] {
         script.extend_from_slice(b"query ")?;
-        let long = script.len() + letters;
+        let long = script.len().saturating_add(letters);
         script.resize(long, b'a')?;
         script.push(b'\n')?;
     }
+    Ok(script)
+}
+
+#[test]
+fn the_longest_input(rt: HostRuntime) -> Result<(), Fail> {
+    let script = long_script(rt.alloc(), 16_777_187)?;
     assert_eq!(rt; script.len(), 67_108_864usize);
     let all = answers(&rt, &script)?;
     assert_eq!(rt;
         all.as_str(),
         "0 refused, 0 refused, 0 refused, 0 refused, "
     );
-    script.push(b'\n')?;
-    let (ended, _out) = run(&rt, &script)?;
+    Ok(())
+}
+
+#[test]
+fn a_byte_too_many(rt: HostRuntime) -> Result<(), Fail> {
+    let alloc = rt.alloc();
+    let script = long_script(alloc, 16_777_188)?;
+    assert_eq!(rt; script.len(), 67_108_865usize);
+    let words = words(alloc, "run --size 0")?;
+    // It isn't read further: of pieces of 16,384 bytes the next one would fail.
+    let mut input = source(alloc, &script, 16_384, &[4_098])?;
+    let ended = qcache_main(&rt, alloc, &words, &mut input, &mut sink(alloc, &[])?);
     assert_eq!(rt; ended.status, 2u8);
-    assert_eq!(rt;
-        matches!(ended.bad, Some(ScriptRefusal::InputTooLong)),
-        true
-    );
+    let Some(refusal) = ended.bad else {
+        return Err(Fail::new("no refusal"));
+    };
+    let message = format!(in alloc; "{refusal}")?;
+    assert_eq!(rt; message.as_str(), "script: input too long");
+    Ok(())
+}
+
+#[test]
+fn a_query_that_no_packet_carries(rt: HostRuntime) -> Result<(), Fail> {
+    let alloc = rt.alloc();
+    let rows: [(usize, u8); 2] = [(16_777_213, 0), (16_777_214, 2)];
+    for (letters, status) in rows {
+        let mut script = bytes(alloc, b"session 1\nquery ")?;
+        script.resize(script.len().saturating_add(letters), b'a')?;
+        let (ended, _out) = run(&rt, &script)?;
+        assert_eq!(rt; ended.status, status, "of {letters} letters");
+    }
+    Ok(())
+}
+
+#[test]
+fn many_inserts(rt: HostRuntime) -> Result<(), Fail> {
+    let alloc = rt.alloc();
+    let mut script = bytes(
+        alloc,
+        b"session 1\nquery CREATE DATABASE d\ninit d\nquery CREATE TABLE t (id BIGINT PRIMARY KEY)\n",
+    )?;
+    for number in 0..200_000u32 {
+        script.extend_from_slice(format!(in alloc;
+            "query INSERT INTO t VALUES ({number})\n"
+        )?.as_bytes())?;
+    }
+    script.extend_from_slice(b"query SELECT id FROM t\n")?;
+    let (ended, _out) = run(&rt, &script)?;
+    assert_eq!(rt; ended.status, 0u8);
+    let Some(report) = ended.report else {
+        return Err(Fail::new("no report"));
+    };
+    assert_eq!(rt; report.journal.items().len(), 200_004usize);
+    assert_eq!(rt; report.counters.not_cached, 1u64);
     Ok(())
 }

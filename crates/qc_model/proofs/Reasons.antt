@@ -1,4 +1,4 @@
--- Further worked rows: reasons for a plain run, licences, conflicts.
+-- Further examples: reasons for a plain run, licences, conflicts.
 use Rattle.std.proofs.Common.{◌≡◌, ℕ, List, [], ◌∷◌, ◌++◌, refl, true, false, Option, arith}
 use Rattle.std.specs.Prelude.{codes, Some, None, pos, Ok, Result, length}
 use Rattle.std.specs.Fmt.{digits}

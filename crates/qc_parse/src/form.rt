@@ -1,3 +1,5 @@
+//! The four forms.
+
 ghost use Rattle.std.specs.Prelude.{◌≡◌, length, map, IfOk, bytes_eq};
 ghost use Rattle.qc_parse.specs.Forms.{form_of, form_of_pieces};
 
