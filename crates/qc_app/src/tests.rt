@@ -440,7 +440,7 @@ fn commands_of_every_form(rt: HostRuntime) -> Result<(), Fail> {
     Ok(())
 }
 
-/// A script of whole lines that has so many bytes in all: four queries of many letters.
+/// A script of four queries of many letters, the last one of so many.
 fn long_script(alloc: Global, last: usize) -> Result<Vec<u8>, AllocError> {
     let mut script = bytes(alloc, b"session 1\n")?;
     for letters in [16_777_213, 16_777_213, 16_777_213, last] {
