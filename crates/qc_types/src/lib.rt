@@ -8,6 +8,7 @@ mod names;
 mod options;
 mod owned_list;
 mod sql_error;
+mod steps;
 mod streams;
 #[cfg(test)]
 mod tests;
@@ -21,6 +22,7 @@ pub use names::{TableName, Tables, Texts, Value, Why, Wide};
 pub use options::Options;
 pub use owned_list::OwnedList;
 pub use sql_error::SqlError;
+pub use steps::Steps;
 pub use streams::{BytesSink, BytesSource, PutStep, ReadStep, Sink, Source};
 pub use text::Text;
 pub use totals::Totals;

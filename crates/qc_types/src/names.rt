@@ -46,7 +46,7 @@ impl Duplicate for Value {
 }
 
 /// Why a select has no part in the cache, by its text and the current database alone. Where several hold, the first of these is told.
-#[derive(Drop)]
+#[derive(Debug, Drop)]
 pub enum Why {
     /// It locks the rows that it reads: FOR UPDATE or LOCK IN SHARE MODE.
     Locking,
@@ -58,9 +58,26 @@ pub enum Why {
     Function(Text),
 }
 
+impl Duplicate for Why {
+    fn duplicate(&self, alloc: Global) -> Result<Why, NoMemory> {
+        match self {
+            Why::Locking => Ok(Why::Locking),
+            Why::NoTables => Ok(Why::NoTables),
+            Why::SystemTable(table) => Ok(Why::SystemTable(table.duplicate(alloc)?)),
+            Why::Function(name) => Ok(Why::Function(name.copy(alloc)?)),
+        }
+    }
+}
+
 /// The exact sum of a column of BIGINT, which 64 bits may not hold. In MySQL `SUM` of such a column is a DECIMAL.
 #[derive(Clone, Copy, Debug, PartialEq, Eq)]
 pub struct Wide(pub i128);
+
+impl Duplicate for Wide {
+    fn duplicate(&self, _alloc: Global) -> Result<Wide, NoMemory> {
+        Ok(*self)
+    }
+}
 
 /// Names of tables, as those that a select reads.
 pub type Tables = OwnedList<TableName>;

@@ -32,6 +32,21 @@ impl<T: Drop> OwnedList<T> {
         }
     }
 
+    /// The list of these members, in the memory that they have. Constant time.
+    pub fn from_vec(members: Vec<T>) -> OwnedList<T>
+        ensures { result ≡ members.items }
+    {
+        OwnedList { members }
+    }
+
+    /// The members, in the memory that the list has. Constant time.
+    pub fn into_vec(self) -> Vec<T>
+        ensures { result.items ≡ self }
+    {
+        let OwnedList { members } = self;
+        members
+    }
+
     /// Puts the item at the end. Where memory lacks, the list stays and the item is dropped. Constant time over many calls.
     pub fn push(&mut self, item: T) -> Result<(), NoMemory>
         ensures ok { OnOk result (self.new ≡ self.old ++ item ∷ []) }

@@ -1,10 +1,14 @@
-ghost use Rattle.std.specs.Prelude.{◌<◌, length};
+ghost use Rattle.std.specs.Prelude.{◌≡◌, ◌≤◌, ◌<◌, false, length};
+ghost use Rattle.qc_types.specs.Streams.{Rose, is_failed};
 
 use crate::{
     Boxed, BytesSink, BytesSource, Duplicate, NoMemory, Or, OwnedList, PutStep, ReadStep, Sink,
-    Source, TableName, Tables, Text, Value,
+    Source, SqlError, Steps, TableName, Tables, Text, Value, Why, Wide,
 };
 use std::alloc::{AllocError, AllocFailed, Global};
+use std::marker::Brand;
+use std::mem::size_of_val;
+use std::sync::ledger::{Blank, Ledger};
 use std::test::Fail;
 
 /// A second value, by what every `Duplicate` promises.
@@ -82,6 +86,94 @@ fn values_are_duplicated_in_boxes(rt: HostRuntime) -> Result<(), Fail> {
         "{copy:?}"
     );
     Ok(())
+}
+
+/// A word for the reason, or the bytes in it.
+fn told(why: &Why) -> &[u8] {
+    match why {
+        Why::Locking => b"locking",
+        Why::NoTables => b"no tables",
+        Why::SystemTable(table) => table.name.bytes(),
+        Why::Function(name) => name.bytes(),
+    }
+}
+
+#[test]
+fn reasons_and_errors_are_duplicated(rt: HostRuntime) -> Result<(), Fail> {
+    let system = Why::SystemTable(table(rt.alloc(), b"mysql", b"user")?);
+    let function = Why::Function(Text::of(rt.alloc(), b"NOW")?);
+    let rows: [(Why, &[u8]); 4] = [
+        (Why::Locking, b"locking"),
+        (Why::NoTables, b"no tables"),
+        (system, b"user"),
+        (function, b"NOW"),
+    ];
+    for (why, want) in &rows {
+        let copy = twice(rt.alloc(), why)?;
+        assert_eq!(rt; told(&copy), *want);
+    }
+    let error = SqlError {
+        code: 1064,
+        state: *b"42000",
+        message: Text::of(rt.alloc(), b"no")?,
+    };
+    let copy = twice(rt.alloc(), &error)?;
+    assert_eq!(rt; copy.code, 1064);
+    assert_eq!(rt; copy.state, *b"42000");
+    assert_eq!(rt; copy.message.bytes(), b"no".as_slice());
+    Ok(())
+}
+
+#[test]
+fn rows_of_optional_cells_are_duplicated(rt: HostRuntime) -> Result<(), Fail> {
+    let mut row = OwnedList::new(rt.alloc());
+    row.push(None)?;
+    row.push(Some(Text::of(rt.alloc(), b"")?))?;
+    let copy = twice(rt.alloc(), &row)?;
+    assert!(rt; matches!(copy.items(), [None, Some(text)] if text.bytes().is_empty()));
+    assert_eq!(rt; twice(rt.alloc(), &Wide(i128::MIN))?, Wide(i128::MIN));
+    assert_eq!(rt; twice(rt.alloc(), &u64::MAX)?, u64::MAX);
+    assert_eq!(rt; twice(rt.alloc(), &i64::MIN)?, i64::MIN);
+    Ok(())
+}
+
+#[test]
+fn texts_and_lists_take_over_a_vector(rt: HostRuntime) -> Result<(), Fail> {
+    let mut text = Text::from_vec(Vec::from_slice(rt.alloc(), b"SEL")?);
+    text.extend(b"ECT")?;
+    assert_eq!(rt; text.into_vec().as_slice(), b"SELECT".as_slice());
+    let mut numbers = OwnedList::from_vec(Vec::from_slice(rt.alloc(), &[8u64, 7])?);
+    numbers.push(9)?;
+    assert_eq!(rt; numbers.into_vec().as_slice(), [8, 7, 9].as_slice());
+    Ok(())
+}
+
+/// A new counter after two steps.
+fn two_steps<L: Ledger>(blank: Blank) -> Steps<L>
+    requires name { blank.name ≡ L.name }
+    requires parts { blank.parts ≡ L.parts }
+    requires one { 0 < blank.parts }
+    ensures { result ≡ 2 }
+{
+    let mut steps = Steps::new(blank);
+    steps.tick();
+    steps.tick();
+    steps
+}
+
+/// The bytes that a counter takes.
+fn bytes_of_a_counter<L: Ledger>(blank: Blank) -> usize
+    requires name { blank.name ≡ L.name }
+    requires parts { blank.parts ≡ L.parts }
+    requires one { 0 < blank.parts }
+{
+    let steps = two_steps::<L>(blank);
+    size_of_val(&steps)
+}
+
+#[test]
+fn a_counter_of_steps_takes_no_bytes(rt: HostRuntime) {
+    assert_eq!(rt; bytes_of_a_counter::<Brand>(Blank::new(1)), 0);
 }
 
 /// The refusal that `?` makes of an error.
@@ -188,6 +280,49 @@ fn a_source_gives_pieces_and_fails_where_told(rt: HostRuntime) -> Result<(), Fai
             b"abcdefghi".as_slice(),
             "in pieces of {piece}"
         );
+    }
+    Ok(())
+}
+
+/// One read of any source, which fails only where the count of faults rises.
+fn read_once<S: Source>(source: &mut S, out: &mut [u8]) -> ReadStep
+    requires { 0 < length out.old }
+    ensures later { S.faults source.old ≤ S.faults source.new }
+    ensures failed { result ≡ ReadStep.Failed → Rose (S.faults source.old) (S.faults source.new) }
+{
+    source.read(out)
+}
+
+/// A read of a slice, through code for any source. It doesn't fail.
+fn read_slice(left: &mut &[u8], out: &mut [u8]) -> ReadStep
+    requires { 0 < length out.old }
+    ensures { is_failed result ≡ false }
+{
+    read_once(left, out)
+}
+
+#[test]
+fn a_slice_is_read_to_its_end(rt: HostRuntime) -> Result<(), Fail> {
+    use ReadStep::{End, Got};
+    // the room of the buffer, and what reads of five bytes do
+    let rows: [(usize, &[ReadStep]); 4] = [
+        (1, &[Got(1), Got(1), Got(1), Got(1), Got(1), End, End]),
+        (2, &[Got(2), Got(2), Got(1), End]),
+        (5, &[Got(5), End]),
+        (8, &[Got(5), End, End]),
+    ];
+    for (room, want) in rows {
+        assert!(rt; room > 0 && room <= 8);
+        let mut left: &[u8] = b"\0abc\xff";
+        let mut buffer = [0; 8];
+        let (steps, text) = reads(rt.alloc(), &mut left, &mut buffer[..room], want.len())?;
+        assert_eq!(rt; steps.as_slice(), want, "with room for {room}");
+        assert_eq!(rt;
+            text.bytes(),
+            b"\0abc\xff".as_slice(),
+            "with room for {room}"
+        );
+        assert_eq!(rt; read_slice(&mut left, &mut buffer), End);
     }
     Ok(())
 }

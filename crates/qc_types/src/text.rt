@@ -29,6 +29,21 @@ impl Text {
         })
     }
 
+    /// The text of these bytes, in the memory that they have. Constant time.
+    pub fn from_vec(bytes: Vec<u8>) -> Text
+        ensures { result ≡ bytes.items }
+    {
+        Text { held: bytes }
+    }
+
+    /// The text's bytes, in the memory that it has. Constant time.
+    pub fn into_vec(self) -> Vec<u8>
+        ensures { result.items ≡ self }
+    {
+        let Text { held } = self;
+        held
+    }
+
     /// A second text of the same bytes. Linear in their number.
     pub fn copy(&self, alloc: Global) -> Result<Text, NoMemory>
         ensures { IfOk result (λ t. t ≡ self.now) }
