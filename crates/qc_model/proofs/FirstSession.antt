@@ -17,7 +17,8 @@ use Rattle.qc_model.specs.declared.reports.Report.{Report}
 use Rattle.qc_model.specs.declared.events.Event.TheVariants as event
 use Rattle.qc_model.specs.declared.events.How.TheVariants as how
 use Rattle.qc_sql.specs.declared.tables.RowOp.TheVariants as op
-use Rattle.qc_sql.specs.Packets.{packet, command_payload, encoded_integer, encoded_string}
+use Rattle.qc_sql.specs.Packets.{packet, encoded_integer, encoded_string}
+use Rattle.qc_sql.specs.Commands.{command_payload}
 use Rattle.qc_model.specs.Journal.{before}
 use Rattle.qc_model.specs.Session.{State, starting, answer_packets}
 use Rattle.qc_model.specs.Machine.{Executes}

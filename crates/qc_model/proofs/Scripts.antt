@@ -5,10 +5,12 @@ use Rattle.std.specs.List.{flat_map}
 use Rattle.qc_sql.specs.declared.commands.Command.{Command}
 use Rattle.qc_sql.specs.declared.commands.Command.TheVariants as command
 use Rattle.qc_model.specs.declared.reports.ScriptRefusal.TheVariants as refusal
-use Rattle.qc_sql.specs.Packets.{packet, command_payload}
+use Rattle.qc_sql.specs.Packets.{packet}
+use Rattle.qc_sql.specs.Commands.{command_payload}
+use Rattle.hex.specs.Hex.{decode_pairs}
 use Rattle.qc_model.specs.ReportText.{lines}
-use Rattle.qc_model.specs.ScriptLines.{lines_of, script_of, after_lines, no_sessions}
-use Rattle.qc_model.specs.Workload.{draw, drawn, after_draws, no_tally, Tally}
+use Rattle.qc_model.specs.ScriptLines.{lines_of, script_of, no_sessions}
+use Rattle.qc_model.specs.Workload.{draw, after_draws, no_tally}
 
 first_lines : List (List ℕ)
 first_lines = codes "session 1" ∷ codes "query CREATE DATABASE d" ∷ codes "init d" ∷ codes "query CREATE TABLE t (id BIGINT PRIMARY KEY)"
@@ -50,9 +52,35 @@ word_without_space : script_of (lines (codes "session 1" ∷ codes "query" ∷ [
 unfolding script_of
 word_without_space = refl
 
-empty_line : script_of (lines (codes "session 1" ∷ [] ∷ [])) ≡ Err (refusal.BadLine 2)
+-- skipped lines are counted
+skipped : script_of (lines ([] ∷ codes "# first" ∷ codes "session 1" ∷ [] ∷ codes "#" ∷ codes "init" ∷ [])) ≡ Err (refusal.BadLine 6)
+unfolding script_of packet
+skipped = refl
+
+ping_first : script_of (lines (codes "ping" ∷ [])) ≡ Err (refusal.NoSession 1)
 unfolding script_of
-empty_line = refl
+ping_first = refl
+
+-- bytes come as they are, digits may be capitals, and none is an even number of them
+raw_bytes : script_of (lines (codes "session 1" ∷ codes "raw 0aFf" ∷ codes "quit" ∷ codes "raw " ∷ codes "ping" ∷ [])) ≡ Ok (record { setup = None; sessions = (10 ∷ 255 ∷ 1 ∷ 0 ∷ 0 ∷ 0 ∷ 1 ∷ 1 ∷ 0 ∷ 0 ∷ 0 ∷ 14 ∷ []) ∷ [] })
+unfolding script_of packet decode_pairs
+raw_bytes = refl
+
+odd_digits : script_of (lines (codes "raw 0" ∷ [])) ≡ Err (refusal.BadLine 1)
+unfolding script_of
+odd_digits = refl
+
+raw_first : script_of (lines (codes "raw 00" ∷ [])) ≡ Err (refusal.NoSession 1)
+unfolding script_of decode_pairs
+raw_first = refl
+
+word_behind : script_of (lines (codes "session 1" ∷ codes "quit " ∷ [])) ≡ Err (refusal.BadLine 2)
+unfolding script_of
+word_behind = refl
+
+setup_line : script_of (lines (codes "setup" ∷ [])) ≡ Err (refusal.BadLine 1)
+unfolding script_of
+setup_line = refl
 
 -- an empty text and an empty name are sent
 empty_text : script_of (lines (codes "session 1" ∷ codes "query " ∷ codes "init " ∷ [])) ≡ Ok (record { setup = None; sessions = (1 ∷ 0 ∷ 0 ∷ 0 ∷ 3 ∷ 1 ∷ 0 ∷ 0 ∷ 0 ∷ 2 ∷ []) ∷ [] })

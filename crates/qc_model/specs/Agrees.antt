@@ -1,8 +1,10 @@
 -- When a report is one of a script's run.
-use Rattle.std.specs.Prelude.{codes, ◌≡◌, ℕ, zero, suc, ◌+◌, ◌*◌, Bool, true, false, not, ◌&&◌, ◌||◌, List, [], ◌∷◌, ◌++◌, length, map, take, drop, Option, Some, None, unwrap_or, IsTrue, ◌==◌, nat_lt, slice_index, if◌then◌else◌, option_map, MatchOption}
+use Rattle.std.specs.Prelude.{codes, ◌≡◌, ℕ, zero, suc, ◌+◌, Bool, true, false, not, ◌&&◌, ◌||◌, List, [], ◌∷◌, ◌++◌, length, map, take, Option, Some, None, unwrap_or, IsTrue, ◌==◌, if◌then◌else◌, option_map, MatchOption}
 use Rattle.std.specs.List.{list_any, list_all}
 use Rattle.qc_sql.specs.declared.commands.Command.{Command}
 use Rattle.qc_sql.specs.declared.commands.Command.TheVariants as command
+use Rattle.qc_sql.specs.declared.commands.CommandEnd.{CommandEnd}
+use Rattle.qc_sql.specs.declared.commands.CommandEnd.TheVariants as end
 use Rattle.qc_sql.specs.declared.replies.Reply.{Reply}
 use Rattle.qc_types.specs.declared.options.Options.{Options}
 use Rattle.qc_model.specs.declared.events.Event.{Event}
@@ -19,7 +21,8 @@ use Rattle.qc_model.specs.declared.reports.Word.{Word}
 use Rattle.qc_model.specs.declared.reports.Word.TheVariants as word
 use Rattle.qc_model.specs.declared.reports.Ending.{Ending}
 use Rattle.qc_model.specs.declared.reports.Ending.TheVariants as ending
-use Rattle.qc_sql.specs.Packets.{packets, most_payload}
+use Rattle.qc_sql.specs.Packets.{packets}
+use Rattle.qc_sql.specs.Commands.{command_of, command_end, payload_at, behind_packet}
 use Rattle.qc_model.specs.Journal.{Journal, before, decider, is_by}
 use Rattle.qc_model.specs.Cache.{cache, counters, entry_of, uses_touched}
 use Rattle.qc_model.specs.Session.{State, starting, key_of_text}
@@ -30,19 +33,6 @@ use Rattle.qc_model.specs.Needs.{HasNeeds, HasOwnNeeds}
 
 -- ---- the commands of an input
 
--- the number in three bytes
-abbrev pub length_at : List ℕ → ℕ
-length_at bytes = slice_index bytes 0 + 256 * slice_index bytes 1 + 65536 * slice_index bytes 2
-
-abbrev pub command_of : List ℕ → Command
-command_of [] = command.Empty
-command_of (b ∷ rest) =
-    if b == 0x02 then command.InitDb rest else
-    if b == 0x03 then command.Query rest else
-    if b == 0x01 && length rest == 0 then command.Quit else
-    if b == 0x0e && length rest == 0 then command.Ping else
-    command.Unknown b
-
 -- the commands of an input, and how it ends
 abbrev pub Commands : Type 0
 Commands = List Command × Ending
@@ -51,16 +41,22 @@ abbrev pub then_commands : Command → Commands → Commands
 then_commands command.Quit later = ([], ending.Quit)
 then_commands c later = (c ∷ later.0, later.1)
 
+-- bytes in memory have no fault
+abbrev pub ending_of : CommandEnd → Ending
+ending_of end.EndOfInput = ending.Input
+ending_of (end.Cut n) = ending.Cut n
+ending_of (end.TooLong n) = ending.TooLong n
+ending_of (end.BadSequence found wanted) = ending.BadSequence found wanted
+ending_of end.Failed = ending.Input
+
+abbrev pub unless_ended : Option CommandEnd → Commands → Commands
+unless_ended None later = later
+unless_ended (Some e) later = ([], ending_of e)
+
 -- Quit is left out, and ends the input. At most n packets are cut
 abbrev pub cut_commands : ℕ → List ℕ → Commands
 cut_commands zero bytes = ([], ending.Input)
-cut_commands (suc n) bytes =
-    if length bytes == 0 then ([], ending.Input) else
-    if nat_lt (length bytes) 4 then ([], ending.Cut (length bytes)) else
-    if nat_lt most_payload (length_at bytes) then ([], ending.TooLong (length_at bytes)) else
-    if not (slice_index bytes 3 == 0) then ([], ending.BadSequence (slice_index bytes 3) 0) else
-    if nat_lt (length bytes) (4 + length_at bytes) then ([], ending.Cut (length bytes)) else
-    then_commands (command_of (take (length_at bytes) (drop 4 bytes))) (cut_commands n (drop (4 + length_at bytes) bytes))
+cut_commands (suc n) bytes = unless_ended (command_end bytes) (then_commands (command_of (payload_at bytes)) (cut_commands n (behind_packet bytes)))
 
 -- each packet has four bytes or more, so the length is enough
 abbrev pub commands_of : List ℕ → Commands

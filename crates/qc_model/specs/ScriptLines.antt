@@ -1,11 +1,14 @@
 -- The meaning of a script, by its lines: the input of each session, or the first line that is wrong.
-use Rattle.std.specs.Prelude.{ℕ, ◌+◌, Bool, List, [], ◌∷◌, ◌++◌, length, take, drop, Option, Some, None, Result, Ok, Err, nat_lt, ◌==◌, bytes_eq, codes, if◌then◌else◌}
+use Rattle.std.specs.Prelude.{ℕ, ◌+◌, Bool, true, List, [], ◌∷◌, ◌++◌, length, take, drop, Option, Some, None, Result, Ok, Err, nat_lt, ◌==◌, bytes_eq, codes, if◌then◌else◌}
 use Rattle.qc_sql.specs.declared.commands.Command.{Command}
 use Rattle.qc_sql.specs.declared.commands.Command.TheVariants as command
 use Rattle.qc_model.specs.declared.reports.Script.{Script}
 use Rattle.qc_model.specs.declared.reports.ScriptRefusal.{ScriptRefusal}
 use Rattle.qc_model.specs.declared.reports.ScriptRefusal.TheVariants as refusal
-use Rattle.qc_sql.specs.Packets.{packet, command_payload, most_payload}
+use Rattle.qc_sql.specs.Packets.{packet, most_payload}
+use Rattle.qc_sql.specs.Commands.{command_payload}
+use Rattle.hex.specs.declared.error.FromHexError.{FromHexError}
+use Rattle.hex.specs.Hex.{decode_of}
 
 -- the most bytes of a script
 abbrev pub most_script : ℕ
@@ -23,25 +26,42 @@ abbrev pub lines_of : List ℕ → List (List ℕ)
 lines_of [] = []
 lines_of (b ∷ bs) = if b == 10 then [] ∷ lines_of bs else with_byte b (lines_of bs)
 
--- what a line is for: the commands behind it are a session's, or it is a command itself
+-- what a line is for: the commands behind it are a session's; it is a command itself; it is bytes of the stream as they are; or nothing
 pub data Line : Type 0 where
   Opens : (session : ℕ) → Line
   Sends : (sent : Command) → Line
+  Puts : (bytes : List ℕ) → Line
+  Skips : Line
 
 -- what stands behind a first word and its one space
 abbrev pub behind : List ℕ → List ℕ → Option (List ℕ)
 behind word line = if bytes_eq (take (length word) line) word then Some (drop (length word) line) else None
 
-abbrev pub command_line : Option (List ℕ) → Option (List ℕ) → Option Line
-command_line (Some text) init = Some (Sends (command.Query text))
-command_line None (Some name) = Some (Sends (command.InitDb name))
-command_line None None = None
+-- an even number of hexadecimal digits, in either case
+abbrev pub puts : Result (List ℕ) FromHexError → Option Line
+puts (Ok bytes) = Some (Puts bytes)
+puts (Err e) = None
+
+-- a line of a word, a space and what the word takes
+abbrev pub word_line : Option (List ℕ) → Option (List ℕ) → Option (List ℕ) → Option Line
+word_line (Some text) init raw = Some (Sends (command.Query text))
+word_line None (Some name) raw = Some (Sends (command.InitDb name))
+word_line None None (Some digits) = puts (decode_of digits)
+word_line None None None = None
+
+-- an empty line, and a comment
+abbrev pub is_skipped : List ℕ → Bool
+is_skipped [] = true
+is_skipped (b ∷ bs) = b == 35
 
 -- a line of the table of lines, or none
 abbrev pub line_of : List ℕ → Option Line
 line_of line =
-    if bytes_eq line (codes "session 1") then Some (Opens 1)
-    else command_line (behind (codes "query ") line) (behind (codes "init ") line)
+    if is_skipped line then Some Skips
+    else if bytes_eq line (codes "session 1") then Some (Opens 1)
+    else if bytes_eq line (codes "ping") then Some (Sends command.Ping)
+    else if bytes_eq line (codes "quit") then Some (Sends command.Quit)
+    else word_line (behind (codes "query ") line) (behind (codes "init ") line) (behind (codes "raw ") line)
 
 -- ---- the sessions
 
@@ -57,17 +77,20 @@ sent_last bytes (s ∷ t ∷ ss) = s ∷ sent_last bytes (t ∷ ss)
 abbrev pub with_session : Script → Script
 with_session script = record { setup = script.setup; sessions = script.sessions ++ [] ∷ [] }
 
-abbrev pub with_command : Script → Command → Script
-with_command script c = record { setup = script.setup; sessions = sent_last (packet 0 (command_payload c)) script.sessions }
+abbrev pub with_bytes : Script → List ℕ → Script
+with_bytes script bytes = record { setup = script.setup; sessions = sent_last bytes script.sessions }
 
--- What a line makes of a script, by its number. Sessions are numbered 1, 2, 3 in order, a command belongs to the last session, and its packet holds it.
+-- What a line makes of a script, by its number. Sessions are numbered 1, 2, 3 in order, and a command or bytes belong to the last session; a command's packet holds it.
 abbrev pub after_line : ℕ → Script → Option Line → Result Script ScriptRefusal
 after_line number script (Some (Opens n)) =
     if n == length script.sessions + 1 then Ok (with_session script) else Err (refusal.BadLine number)
 after_line number script (Some (Sends c)) =
     if length script.sessions == 0 then Err (refusal.NoSession number) else
     if nat_lt most_payload (length (command_payload c)) then Err (refusal.BadLine number) else
-    Ok (with_command script c)
+    Ok (with_bytes script (packet 0 (command_payload c)))
+after_line number script (Some (Puts bytes)) =
+    if length script.sessions == 0 then Err (refusal.NoSession number) else Ok (with_bytes script bytes)
+after_line number script (Some Skips) = Ok script
 after_line number script None = Err (refusal.BadLine number)
 
 abbrev pub then_lines : Result Script ScriptRefusal → (Script → Result Script ScriptRefusal) → Result Script ScriptRefusal

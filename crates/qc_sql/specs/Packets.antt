@@ -1,13 +1,11 @@
 -- The bytes of packets, as the client/server protocol has them.
-use Rattle.std.specs.Prelude.{ℕ, ◌+◌, ◌%◌, ◌^◌, List, [], ◌∷◌, ◌++◌, length, map, Option, Some, None, nat_lt, ◌==◌, ◌||◌, if◌then◌else◌, codes}
+use Rattle.std.specs.Prelude.{ℕ, ◌+◌, ◌%◌, ◌^◌, List, [], ◌∷◌, ◌++◌, length, map, Option, Some, None, nat_lt, if◌then◌else◌, codes}
 use Rattle.std.specs.List.{flat_map, concat}
 use Rattle.std.specs.Int.{w16, w32, w64, to_le_bytes, bytes_low_first}
 use Rattle.qc_types.specs.declared.sql_error.SqlError.{SqlError}
 use Rattle.qc_sql.specs.declared.replies.ColumnDef.{ColumnDef}
 use Rattle.qc_sql.specs.declared.replies.Reply.{Reply}
 use Rattle.qc_sql.specs.declared.replies.Reply.TheVariants as reply
-use Rattle.qc_sql.specs.declared.commands.Command.{Command}
-use Rattle.qc_sql.specs.declared.commands.Command.TheVariants as command
 
 -- the most bytes that one packet carries
 abbrev pub most_payload : ℕ
@@ -85,14 +83,3 @@ packet_list r = numbered 1 (payloads r)
 -- the byte text of a reply
 abbrev pub packets : Reply → List ℕ
 packets r = concat (packet_list r)
-
--- ---- commands
-
-abbrev pub command_payload : Command → List ℕ
-command_payload command.Quit = 0x01 ∷ []
-command_payload (command.InitDb name) = 0x02 ∷ name
-command_payload (command.Query text) = 0x03 ∷ text
-command_payload command.Ping = 0x0e ∷ []
--- these two bytes alone would be COM_QUIT and COM_PING
-command_payload (command.Unknown byte) = if byte == 0x01 || byte == 0x0e then byte ∷ 0 ∷ [] else byte ∷ []
-command_payload command.Empty = []

@@ -1,6 +1,7 @@
 //! Replies of the server.
 
-use qc_types::{OwnedList, SqlError, Text};
+use qc_types::{Duplicate, NoMemory, OwnedList, SqlError, Text};
+use std::alloc::Global;
 
 /// What a result set says of a column.
 #[derive(Drop)]
@@ -27,6 +28,23 @@ pub struct ColumnDef {
     pub decimals: u8,
 }
 
+impl Duplicate for ColumnDef {
+    fn duplicate(&self, alloc: Global) -> Result<ColumnDef, NoMemory> {
+        Ok(ColumnDef {
+            schema: self.schema.copy(alloc)?,
+            table: self.table.copy(alloc)?,
+            org_table: self.org_table.copy(alloc)?,
+            name: self.name.copy(alloc)?,
+            org_name: self.org_name.copy(alloc)?,
+            charset: self.charset,
+            length: self.length,
+            kind: self.kind,
+            flags: self.flags,
+            decimals: self.decimals,
+        })
+    }
+}
+
 /// The columns of a result set, from left to right.
 pub type ColumnDefs = OwnedList<ColumnDef>;
 
@@ -39,17 +57,22 @@ pub type TextRows = OwnedList<TextRow>;
 /// A whole reply.
 #[derive(Drop)]
 pub enum Reply {
-    /// An OK packet: the affected rows, and the status flags of the session.
+    /// An OK packet.
     Ok {
+        /// How many rows were changed.
         affected: u64,
+        /// The status flags of the session: 1 in a transaction, 2 with autocommit.
         status: u16,
     },
     /// An ERR packet.
     Err(SqlError),
-    /// A result set, with the status flags of its two EOF packets.
+    /// A text result set.
     Rows {
+        /// Its columns, from 1 to 64.
         columns: ColumnDefs,
+        /// Its rows, each with a cell for each column.
         rows: TextRows,
+        /// The status flags of the session, which both EOF packets carry.
         status: u16,
     },
 }
