@@ -80,6 +80,6 @@ fn put_key(alloc: Global, key: i64, sequence: u8, out: &mut Text) -> Result<(), 
     ensures { OnOk result (out.new ≡ out.old ++ packet sequence (row_payload (key_texts key))) }
 {
     let mut cells = RowCells::new(alloc);
-    cells.push(alloc, Cell::Int(key))?;
+    cells.push(Cell::Int(key))?;
     put_row(alloc, &cells, sequence, out)
 }

@@ -5,35 +5,38 @@
 
 ghost use Rattle.std.specs.Prelude.{◌≡◌, ◌≤◌, ◌<◌, ◌^◌, ◌++◌, ◌∷◌, [], length, IfOk, OnOk, OnErr};
 ghost use Rattle.std.specs.List.{flat_map};
-ghost use Rattle.qc_sql.specs.Packets.{packet, most_payload, encoded_integer, encoded_string, encoded_cell, count_payload, column_names, column_sizes, column_payload, eof_payload, ok_payload, err_payload, row_payload};
+ghost use Rattle.std.specs.Int.{w16, w32, w64, to_le_bytes};
+ghost use Rattle.qc_sql.specs.Packets.{packet, most_payload, three_bytes, encoded_integer, encoded_string, encoded_cell, count_payload, column_names, column_sizes, column_payload, eof_payload, ok_payload, err_payload, row_payload};
 ghost use Rattle.qc_wire.specs.Cells.{cell_text, cell_texts};
 
 use crate::cells::{RowCells, StoredCell};
+use byteorder::{ByteOrder, LittleEndian};
 use qc_sql::replies::ColumnDef;
 use qc_types::{NoMemory, SqlError, Text};
 use std::alloc::{AllocError, Global};
 
 /// The first byte of an OK_Packet.
-const OK_HEADER: u8 = 0x00;
+pub(crate) const OK_HEADER: u8 = 0x00;
 
 /// The first byte of an ERR_Packet.
-const ERR_HEADER: u8 = 0xff;
+pub(crate) const ERR_HEADER: u8 = 0xff;
 
 /// The first byte of an EOF_Packet.
-const EOF_HEADER: u8 = 0xfe;
+pub(crate) const EOF_HEADER: u8 = 0xfe;
 
 /// A cell of a row that is NULL.
-const NULL_CELL: u8 = 0xfb;
+pub(crate) const NULL_CELL: u8 = 0xfb;
 
 /// How many bytes of a Protocol::ColumnDefinition41 stand behind the byte that says it.
-const SIZES_LENGTH: u8 = 0x0c;
+pub(crate) const SIZES_LENGTH: u8 = 0x0c;
 
 /// Appends the packet that opens a text result set: how many columns it has, from 1 to 64, as a length-encoded integer.
 ///
 /// Where memory runs out, `out` stays as it was.
 #[tactic(auto, using(crate::proofs::Lengths::integer_bound))]
 pub fn put_count(alloc: Global, count: u16, sequence: u8, out: &mut Text) -> Result<(), NoMemory>
-    requires { count ≤ 64 }
+    requires some { 1 ≤ count }
+    requires few { count ≤ 64 }
     ensures ok { OnOk result (out.new ≡ out.old ++ packet sequence (count_payload count)) }
     ensures err { OnErr result (out.new ≡ out.old) }
 {
@@ -67,7 +70,7 @@ pub fn put_eof(alloc: Global, status: u16, sequence: u8, out: &mut Text) -> Resu
 {
     let mut payload = Vec::new(alloc);
     payload.extend_from_slice(&[EOF_HEADER, 0, 0])?;
-    payload.extend_from_slice(&status.to_le_bytes())?;
+    push_u16(&mut payload, status)?;
     put_packet(alloc, sequence, &payload, out)
 }
 
@@ -102,7 +105,7 @@ pub fn put_err(
 {
     let mut payload = Vec::new(alloc);
     payload.push(ERR_HEADER)?;
-    payload.extend_from_slice(&error.code.to_le_bytes())?;
+    push_u16(&mut payload, error.code)?;
     payload.push(b'#')?;
     payload.extend_from_slice(&error.state)?;
     payload.extend_from_slice(error.message.bytes())?;
@@ -155,10 +158,17 @@ fn push_sizes(payload: &mut Vec<u8>, column: &ColumnDef) -> Result<(), AllocErro
     ensures { OnOk result (payload.new.items ≡ payload.old.items ++ column_sizes column.now) }
 {
     payload.push(SIZES_LENGTH)?;
-    payload.extend_from_slice(&column.charset.to_le_bytes())?;
-    payload.extend_from_slice(&column.length.to_le_bytes())?;
+    push_u16(payload, column.charset)?;
+    push_u32(payload, column.length)?;
+    push_type(payload, column)
+}
+
+/// Appends a column's type, its flags, its decimals, and the two bytes behind them that mean nothing.
+fn push_type(payload: &mut Vec<u8>, column: &ColumnDef) -> Result<(), AllocError>
+    ensures { OnOk result (payload.new.items ≡ payload.old.items ++ column.now.kind ∷ (to_le_bytes w16 column.now.flags ++ column.now.decimals ∷ 0 ∷ 0 ∷ [])) }
+{
     payload.push(column.kind)?;
-    payload.extend_from_slice(&column.flags.to_le_bytes())?;
+    push_u16(payload, column.flags)?;
     payload.extend_from_slice(&[column.decimals, 0, 0])
 }
 
@@ -170,7 +180,7 @@ fn ok_bytes(alloc: Global, affected: u64, status: u16) -> Result<Vec<u8>, AllocE
     payload.push(OK_HEADER)?;
     push_integer(&mut payload, affected)?;
     push_integer(&mut payload, 0)?;
-    payload.extend_from_slice(&status.to_le_bytes())?;
+    push_u16(&mut payload, status)?;
     payload.extend_from_slice(&[0, 0])?;
     Ok(payload)
 }
@@ -193,20 +203,56 @@ fn push_cell(alloc: Global, payload: &mut Vec<u8>, cell: &StoredCell) -> Result<
 fn push_integer(payload: &mut Vec<u8>, n: u64) -> Result<(), AllocError>
     ensures { OnOk result (payload.new.items ≡ payload.old.items ++ encoded_integer n) }
 {
-    let bytes = n.to_le_bytes();
     if n < 251 {
         payload.push(n as u8)?;
         Ok(())
     } else if n < 1 << 16 {
         payload.push(0xfc)?;
-        payload.extend_from_slice(&bytes[..2])
+        push_u16(payload, n as u16)
     } else if n < 1 << 24 {
         payload.push(0xfd)?;
-        payload.extend_from_slice(&bytes[..3])
+        push_u24(payload, n as u32)
     } else {
         payload.push(0xfe)?;
-        payload.extend_from_slice(&bytes)
+        push_u64(payload, n)
     }
+}
+
+/// Appends a number in two bytes, the lowest first.
+fn push_u16(payload: &mut Vec<u8>, n: u16) -> Result<(), AllocError>
+    ensures { OnOk result (payload.new.items ≡ payload.old.items ++ to_le_bytes w16 n) }
+{
+    let mut bytes = [0; 2];
+    LittleEndian::write_u16(&mut bytes, n);
+    payload.extend_from_slice(&bytes)
+}
+
+/// Appends a number in three bytes, the lowest first.
+fn push_u24(payload: &mut Vec<u8>, n: u32) -> Result<(), AllocError>
+    requires { n < 2 ^ 24 }
+    ensures { OnOk result (payload.new.items ≡ payload.old.items ++ three_bytes n) }
+{
+    let mut bytes = [0; 3];
+    LittleEndian::write_u24(&mut bytes, n);
+    payload.extend_from_slice(&bytes)
+}
+
+/// Appends a number in four bytes, the lowest first.
+fn push_u32(payload: &mut Vec<u8>, n: u32) -> Result<(), AllocError>
+    ensures { OnOk result (payload.new.items ≡ payload.old.items ++ to_le_bytes w32 n) }
+{
+    let mut bytes = [0; 4];
+    LittleEndian::write_u32(&mut bytes, n);
+    payload.extend_from_slice(&bytes)
+}
+
+/// Appends a number in eight bytes, the lowest first.
+fn push_u64(payload: &mut Vec<u8>, n: u64) -> Result<(), AllocError>
+    ensures { OnOk result (payload.new.items ≡ payload.old.items ++ to_le_bytes w64 n) }
+{
+    let mut bytes = [0; 8];
+    LittleEndian::write_u64(&mut bytes, n);
+    payload.extend_from_slice(&bytes)
 }
 
 /// Appends a length-encoded string: its length, a length-encoded integer, and its bytes.
@@ -231,9 +277,9 @@ pub(crate) fn put_packet(
     ensures ok { OnOk result (out.new ≡ out.old ++ packet sequence payload.now) }
     ensures err { OnErr result (out.new ≡ out.old) }
 {
-    let length = (payload.len() as u64).to_le_bytes();
     let mut whole = Vec::new(alloc);
-    whole.extend_from_slice(&[length[0], length[1], length[2], sequence])?;
+    push_u24(&mut whole, payload.len() as u32)?;
+    whole.push(sequence)?;
     whole.extend_from_slice(payload)?;
     out.extend(&whole)
 }

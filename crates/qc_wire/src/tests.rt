@@ -1,16 +1,16 @@
 //! Packets, against examples of the protocol's documentation and against bytes that were worked out by hand from it.
 
-ghost use Rattle.std.specs.Prelude.{◌≤◌, length, IfOk};
+ghost use Rattle.std.specs.Prelude.{◌≤◌, ◌<◌, length, IfOk};
 ghost use Rattle.qc_sql.specs.Packets.{most_payload, column_payload, err_payload, row_payload};
 ghost use Rattle.qc_wire.specs.Cells.{cell_texts};
 
 use crate::{
-    Cell, RowCells, TooLong, command_packet, put_column, put_command, put_count, put_eof, put_err,
-    put_ok, put_row,
+    Cell, Packets, RowCells, TooLong, WireRefusal, can_be_read, command_packet, put_column,
+    put_command, put_count, put_eof, put_err, put_ok, put_row, read_command,
 };
-use qc_sql::commands::Command;
+use qc_sql::commands::{Command, CommandEnd};
 use qc_sql::replies::ColumnDef;
-use qc_types::{NoMemory, Or, SqlError, Text};
+use qc_types::{BytesSource, NoMemory, Or, Source, SqlError, Text};
 use std::alloc::Global;
 use std::test::Fail;
 
@@ -50,7 +50,7 @@ fn version_comment(alloc: Global) -> Result<ColumnDef, NoMemory>
     })
 }
 
-fn key_column(alloc: Global) -> Result<ColumnDef, NoMemory>
+pub(crate) fn key_column(alloc: Global) -> Result<ColumnDef, NoMemory>
     ensures { IfOk result (λ column. length (column_payload column) ≤ most_payload) }
 {
     Ok(ColumnDef {
@@ -68,12 +68,12 @@ fn key_column(alloc: Global) -> Result<ColumnDef, NoMemory>
 }
 
 /// The cells of a row of one text.
-fn text_cells(alloc: Global, text: &[u8]) -> Result<RowCells, NoMemory>
+pub(crate) fn text_cells(alloc: Global, text: &[u8]) -> Result<RowCells, NoMemory>
     requires { length text.now ≤ 1000000 }
     ensures { IfOk result (λ cells. length (row_payload (cell_texts cells)) ≤ most_payload) }
 {
     let mut cells = RowCells::new(alloc);
-    cells.push(alloc, Cell::Str(text))?;
+    cells.push(Cell::Str(text))?;
     Ok(cells)
 }
 
@@ -82,8 +82,8 @@ fn null_and_empty(alloc: Global) -> Result<RowCells, NoMemory>
     ensures { IfOk result (λ cells. length (row_payload (cell_texts cells)) ≤ most_payload) }
 {
     let mut cells = RowCells::new(alloc);
-    cells.push(alloc, Cell::Null)?;
-    cells.push(alloc, Cell::Str(&[]))?;
+    cells.push(Cell::Null)?;
+    cells.push(Cell::Str(&[]))?;
     Ok(cells)
 }
 
@@ -92,9 +92,9 @@ fn numbers(alloc: Global) -> Result<RowCells, NoMemory>
     ensures { IfOk result (λ cells. length (row_payload (cell_texts cells)) ≤ most_payload) }
 {
     let mut cells = RowCells::new(alloc);
-    cells.push(alloc, Cell::Int(i64::MIN))?;
-    cells.push(alloc, Cell::Wide(i128::MIN))?;
-    cells.push(alloc, Cell::Int(0))?;
+    cells.push(Cell::Int(i64::MIN))?;
+    cells.push(Cell::Wide(i128::MIN))?;
+    cells.push(Cell::Int(0))?;
     Ok(cells)
 }
 
@@ -248,12 +248,297 @@ fn commands(rt: HostRuntime) -> Result<(), Fail> {
     let mut out = Text::of(alloc, &[])?;
     let mut wanted = Vec::new(alloc);
     for (command, want) in &rows {
+        assert!(rt; can_be_read(command));
         let packet = command_packet(alloc, command)?;
         assert_eq!(rt; packet.bytes(), *want);
         put_command(alloc, command, &mut out)?;
         wanted.extend_from_slice(want)?;
         assert_eq!(rt; out.bytes(), wanted.as_slice());
     }
+    Ok(())
+}
+
+/// A source of these bytes, at most so many a call, whose calls of these numbers fail.
+fn source_of(
+    alloc: Global,
+    bytes: &[u8],
+    piece: usize,
+    failing: &[u64],
+) -> Result<BytesSource, NoMemory>
+    requires { 0 < piece }
+{
+    let bytes = Vec::from_slice(alloc, bytes)?;
+    let failing = Vec::from_slice(alloc, failing)?;
+    Ok(BytesSource::new(bytes, piece, failing))
+}
+
+/// Whether a read gave this command.
+fn is_command(answer: &Result<Command, Or<CommandEnd>>, want: &Command) -> bool {
+    let Ok(found) = answer else {
+        return false;
+    };
+    match (found, want) {
+        (Command::Quit, Command::Quit) => true,
+        (Command::InitDb(name), Command::InitDb(wanted)) => name.bytes() == wanted.bytes(),
+        (Command::Query(text), Command::Query(wanted)) => text.bytes() == wanted.bytes(),
+        (Command::Ping, Command::Ping) => true,
+        (Command::Unknown(byte), Command::Unknown(wanted)) => byte == wanted,
+        (Command::Empty, Command::Empty) => true,
+        _ => false,
+    }
+}
+
+/// Whether a read gave this end.
+fn is_end(answer: &Result<Command, Or<CommandEnd>>, want: CommandEnd) -> bool {
+    matches!(answer, Err(Or::Other(end)) if *end == want)
+}
+
+/// Whether reads give these commands, one after another.
+fn gives<S: Source>(alloc: Global, source: &mut S, commands: &[Command]) -> bool {
+    for command in commands {
+        if !is_command(&read_command(alloc, source), command) {
+            return false;
+        }
+    }
+    true
+}
+
+#[test]
+fn commands_come_in_any_pieces(rt: HostRuntime) -> Result<(), Fail> {
+    let alloc = rt.alloc();
+    // the commands of a session that makes a table and selects from it, and then one of each kind
+    let commands = [
+        Command::Query(Text::of(alloc, b"CREATE DATABASE d")?),
+        Command::InitDb(Text::of(alloc, b"d")?),
+        Command::Query(Text::of(alloc, b"CREATE TABLE t (id BIGINT PRIMARY KEY)")?),
+        Command::Query(Text::of(alloc, b"INSERT INTO t VALUES (7)")?),
+        Command::Query(Text::of(alloc, b"SELECT id FROM t")?),
+        Command::Ping,
+        Command::Empty,
+        Command::InitDb(Text::of(alloc, b"shop")?),
+        Command::Unknown(0x05),
+        Command::Unknown(0x01),
+        Command::Query(Text::of(alloc, b"")?),
+        Command::Unknown(0x0e),
+        Command::InitDb(Text::of(alloc, b"\0\xff")?),
+        Command::Quit,
+    ];
+    let mut out = Text::of(alloc, &[])?;
+    for command in &commands {
+        assert!(rt; can_be_read(command));
+        put_command(alloc, command, &mut out)?;
+    }
+    for piece in [1usize, 2, 3, 7, 1000] {
+        assert!(rt; piece > 0);
+        let mut source = source_of(alloc, out.bytes(), piece, &[])?;
+        assert!(rt;
+            gives(alloc, &mut source, &commands),
+            "in pieces of {piece}"
+        );
+        let end = read_command(alloc, &mut source);
+        assert!(rt;
+            is_end(&end, CommandEnd::EndOfInput),
+            "in pieces of {piece}"
+        );
+    }
+    Ok(())
+}
+
+#[test]
+fn payloads_that_are_no_command(rt: HostRuntime) -> Result<(), Fail> {
+    let alloc = rt.alloc();
+    let rows: [(&[u8], Command); 6] = [
+        (b"\x02\0\0\0\x01\x01", Command::Unknown(0x01)),
+        (b"\x02\0\0\0\x0e\0", Command::Unknown(0x0e)),
+        (b"\x02\0\0\0\0\x03", Command::Unknown(0x00)),
+        (b"\0\0\0\0", Command::Empty),
+        (b"\x01\0\0\0\x03", Command::Query(Text::of(alloc, b"")?)),
+        (b"\x02\0\0\0\x02d", Command::InitDb(Text::of(alloc, b"d")?)),
+    ];
+    for (bytes, want) in &rows {
+        let mut left: &[u8] = bytes;
+        let found = read_command(alloc, &mut left);
+        assert!(rt; is_command(&found, want), "{bytes:?}");
+        assert!(rt; left.is_empty(), "{bytes:?}");
+    }
+    Ok(())
+}
+
+#[test]
+fn streams_that_end(rt: HostRuntime) -> Result<(), Fail> {
+    use CommandEnd::{BadSequence, Cut, EndOfInput, TooLong};
+    let rows: [(&[u8], CommandEnd); 14] = [
+        (b"", EndOfInput),
+        (b"\x01", Cut(1)),
+        (b"\x01\0", Cut(2)),
+        (b"\x01\0\0", Cut(3)),
+        (b"\xff\xff\xff", Cut(3)),
+        (b"\x01\0\0\0", Cut(4)),
+        (b"\xfe\xff\xff\0", Cut(4)),
+        (b"\x03\0\0\0\x03a", Cut(6)),
+        (b"\xff\xff\xff\0", TooLong(16_777_215)),
+        (b"\xff\xff\xff\x05\0", TooLong(16_777_215)),
+        (
+            b"\x01\0\0\x01\x0e",
+            BadSequence {
+                found: 1,
+                wanted: 0,
+            },
+        ),
+        (
+            b"\0\0\0\xff",
+            BadSequence {
+                found: 255,
+                wanted: 0,
+            },
+        ),
+        (
+            b"\xfe\xff\xff\x05",
+            BadSequence {
+                found: 5,
+                wanted: 0,
+            },
+        ),
+        (
+            b"\x09\0\0\x01",
+            BadSequence {
+                found: 1,
+                wanted: 0,
+            },
+        ),
+    ];
+    for (bytes, want) in rows {
+        for piece in [1usize, 2, 3, 7] {
+            assert!(rt; piece > 0);
+            let mut source = source_of(rt.alloc(), bytes, piece, &[])?;
+            let end = read_command(rt.alloc(), &mut source);
+            assert!(rt; is_end(&end, want), "{bytes:?} in pieces of {piece}");
+        }
+    }
+    Ok(())
+}
+
+#[test]
+fn a_refused_header_is_taken_alone(rt: HostRuntime) -> Result<(), Fail> {
+    let rows: [&[u8]; 2] = [
+        b"\xff\xff\xff\0\x01\0\0\0\x0e",
+        b"\x01\0\0\x01\x01\0\0\0\x0e",
+    ];
+    for bytes in rows {
+        let mut left = bytes;
+        assert!(rt; read_command(rt.alloc(), &mut left).is_err());
+        assert_eq!(rt; left, b"\x01\0\0\0\x0e".as_slice());
+        assert!(rt; is_command(&read_command(rt.alloc(), &mut left), &Command::Ping));
+    }
+    Ok(())
+}
+
+#[test]
+fn a_source_fails(rt: HostRuntime) -> Result<(), Fail> {
+    // which of the three calls fails that read a ping in pieces of two bytes, and how many bytes are then left, if they are not the whole
+    let rows: [(u64, Option<u32>); 3] = [(1, None), (2, Some(3)), (3, Some(1))];
+    for (call, rest) in rows {
+        let mut source = source_of(rt.alloc(), b"\x01\0\0\0\x0e", 2, &[call])?;
+        let failed = read_command(rt.alloc(), &mut source);
+        assert!(rt; is_end(&failed, CommandEnd::Failed), "at call {call}");
+        let next = read_command(rt.alloc(), &mut source);
+        match rest {
+            None => assert!(rt; is_command(&next, &Command::Ping)),
+            Some(rest) => assert!(rt; is_end(&next, CommandEnd::Cut(rest)), "at call {call}"),
+        }
+    }
+    Ok(())
+}
+
+#[test]
+fn a_million_commands(rt: HostRuntime) -> Result<(), Fail> {
+    let mut bytes = Vec::new(rt.alloc());
+    for _ in 0..1_000_000 {
+        bytes.extend_from_slice(b"\x01\0\0\0\x0e")?;
+    }
+    let mut source = BytesSource::new(bytes, 4096, Vec::new(rt.alloc()));
+    for _ in 0..1_000_000 {
+        let found = read_command(rt.alloc(), &mut source);
+        assert!(rt; is_command(&found, &Command::Ping));
+    }
+    let end = read_command(rt.alloc(), &mut source);
+    assert!(rt; is_end(&end, CommandEnd::EndOfInput));
+    Ok(())
+}
+
+/// The sequence numbers and the lengths of the payloads of the packets of bytes, and the refusal behind them.
+fn cut(alloc: Global, bytes: &[u8]) -> Result<(Vec<(u8, usize)>, Option<WireRefusal>), NoMemory> {
+    let mut found = Vec::new(alloc);
+    let mut refusal = None;
+    let mut packets = Packets::new(bytes);
+    for _ in 0..10 {
+        match packets.next() {
+            Some(Ok(packet)) => found.push((packet.sequence, packet.payload.len()))?,
+            Some(Err(why)) => refusal = Some(why),
+            None => {}
+        }
+    }
+    Ok((found, refusal))
+}
+
+#[test]
+fn packets_of_any_numbers(rt: HostRuntime) -> Result<(), Fail> {
+    let reply = VERSION_COMMENT;
+    let five = [(1, 1), (2, 39), (3, 5), (4, 29), (5, 5)];
+    let two = [(0, 1), (7, 0)];
+    let rows: [(&[u8], &[(u8, usize)], Option<WireRefusal>); 13] = [
+        (b"", &[], None),
+        (reply, &five, None),
+        (b"\x01\0\0\0\x0e\0\0\0\x07", &two, None),
+        (&reply[..98], &five[..4], Some(WireRefusal::Truncated(98))),
+        (&reply[..93], &five[..4], Some(WireRefusal::Truncated(93))),
+        (&reply[..90], &five[..4], None),
+        (&reply[..89], &five[..3], Some(WireRefusal::Truncated(89))),
+        (&reply[..1], &[], Some(WireRefusal::Truncated(1))),
+        (b"\xff\xff", &[], Some(WireRefusal::Truncated(2))),
+        (b"\xff\xff\xff", &[], Some(WireRefusal::BadByte(2))),
+        (b"\xfe\xff\xff\0", &[], Some(WireRefusal::Truncated(4))),
+        (
+            b"\xff\xff\xff\0\x01\0\0\0\x0e",
+            &[],
+            Some(WireRefusal::BadByte(2)),
+        ),
+        (
+            b"\x01\0\0\0\x0e\0\0\0\x07\xff\xff\xff\x08",
+            &two,
+            Some(WireRefusal::BadByte(11)),
+        ),
+    ];
+    for (bytes, found, refusal) in rows {
+        let (packets, why) = cut(rt.alloc(), bytes)?;
+        assert_eq!(rt; packets.as_slice(), found, "{bytes:?}");
+        assert_eq!(rt; why, refusal, "{bytes:?}");
+    }
+    Ok(())
+}
+
+#[test]
+fn the_payload_of_a_packet(rt: HostRuntime) {
+    let mut packets = Packets::new(b"\x04\0\0\x09SHOW\x01\0\0\x0a!");
+    let first = packets.next();
+    let second = packets.next();
+    assert!(rt;
+        matches!(first, Some(Ok(packet)) if packet.sequence == 9 && packet.payload == b"SHOW".as_slice())
+    );
+    assert!(rt;
+        matches!(second, Some(Ok(packet)) if packet.sequence == 10 && packet.payload == b"!".as_slice())
+    );
+    assert!(rt; packets.next().is_none());
+}
+
+/// A row is cleared and filled again.
+#[test]
+fn cells_are_cleared(rt: HostRuntime) -> Result<(), Fail> {
+    let mut cells = text_cells(rt.alloc(), b"a longer text than the next")?;
+    cells.clear();
+    assert!(rt; cells.items().is_empty());
+    cells.push(Cell::Int(7))?;
+    assert_eq!(rt; cells.items().len(), 1);
     Ok(())
 }
 
@@ -268,6 +553,10 @@ fn longest_payload(rt: HostRuntime) -> Result<(), Fail> {
     let packet = long_query(rt.alloc(), 16_777_213)?;
     assert!(rt; packet.bytes().starts_with(b"\xfe\xff\xff\0\x03 "));
     assert_eq!(rt; packet.bytes().len(), 4 + 16_777_214);
+    let mut left = packet.bytes();
+    let found = read_command(rt.alloc(), &mut left);
+    let text = vec![in rt.alloc(); b' '; 16_777_213]?;
+    assert!(rt; is_command(&found, &Command::Query(Text::from_vec(text))));
     match long_query(rt.alloc(), 16_777_214) {
         Err(Or::Other(refusal)) => {
             assert_eq!(rt; refusal, TooLong { length: 16_777_215 });

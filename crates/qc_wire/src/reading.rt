@@ -1,0 +1,14 @@
+//! Reads replies from their packets, from the left, up to the first fault.
+
+mod columns;
+mod encoded;
+mod fields;
+mod packets;
+mod payload;
+mod reply;
+mod rows;
+mod single;
+#[cfg(test)]
+mod tests;
+
+pub use reply::read_reply;
