@@ -1,7 +1,6 @@
 -- What the operation of a form makes has short names.
-use Rattle.std.proofs.Common.{◌≡◌, ℕ, Bool, true, false, List, [], ◌∷◌, length, map, refl, sym, ap, ◌∙◌, subst, Option, Some, None, Ok, Err, Result, true≢false}
+use Rattle.std.proofs.Common.{◌≡◌, ℕ, Bool, true, false, List, [], ◌∷◌, length, map, refl, sym, ap, subst, Ok, Result, true≢false}
 use Rattle.std.specs.Prelude.{◌&&◌, ◌==◌, is_some, is_none}
-use Rattle.std.specs.List.{list_all}
 use Rattle.qc_types.specs.declared.sql_error.SqlError.{SqlError}
 use Rattle.qc_types.specs.declared.names.TableName.{TableName}
 use Rattle.qc_types.specs.declared.names.Value.{Value}
@@ -17,8 +16,6 @@ use Rattle.qc_sql.proofs.Depends.{bind_ok}
 use Rattle.qc_parse.specs.declared.form.Form.{Form}
 use Rattle.qc_parse.specs.declared.form.Form.TheVariants as form
 use Rattle.qc_parse.specs.Laws.{tree_of}
-use Rattle.qc_execute.specs.Outcomes.{is_executed, IsOutcome, MayApply}
-use Rattle.qc_execute.specs.declared.outcome.Outcome.TheVariants as outcome
 use Rattle.qc_app.specs.Run.{is_short, makes_short_names, has_short_names}
 
 ok_is : (x y : Effect) → ◌≡◌ {A = Result Effect SqlError} (Ok x) (Ok y) → x ≡ y

@@ -1,21 +1,18 @@
 -- From a session that has run to the whole report.
-use Rattle.std.proofs.Common.{◌≡◌, ◌≢◌, ℕ, true, false, List, [], ◌∷◌, ◌++◌, length, refl, sym, ap, ◌∙◌, subst, arith, true≢false, eq-eqb, Option, Some, None}
-use Rattle.std.specs.Prelude.{◌==◌, ◌||◌, IsTrue}
-use Rattle.std.specs.List.{list_all}
+use Rattle.std.proofs.Common.{◌≡◌, ℕ, false, List, [], ◌∷◌, ◌++◌, length, refl, sym, ap, ◌∙◌, arith, true≢false, eq-eqb, None}
+use Rattle.std.specs.Prelude.{◌||◌}
 use Rattle.qc_sql.specs.declared.commands.Command.{Command}
 use Rattle.qc_sql.specs.Database.{Name, Database}
 use Rattle.qc_model.specs.declared.reports.Ending.{Ending}
 use Rattle.qc_model.specs.declared.reports.ReportLine.{ReportLine}
-use Rattle.qc_model.specs.declared.reports.Script.{Script}
-use Rattle.qc_model.specs.declared.reports.SessionReport.{SessionReport}
-use Rattle.qc_model.specs.Journal.{Journal, events_of}
+use Rattle.qc_model.specs.Journal.{Journal}
 use Rattle.qc_model.specs.Agrees.{Agrees, commands_of}
-use Rattle.qc_sessions.specs.Runs.{Stand, stand, own, Runs, Answers, StandsAt, HasEnded, IsClosed, is_among, report_of}
+use Rattle.qc_sessions.specs.Runs.{Stand, stand, Runs, Answers, report_of}
 use Rattle.qc_sessions.proofs.Whole.{runs_agree}
 use Rattle.qc_sessions.proofs.Composes.{compose, quiet, answered}
 use Rattle.qc_app.specs.Stage.{first_machine}
 use Rattle.qc_app.specs.Words.{without_cache}
-use Rattle.qc_app.specs.Run.{state_in, is_simple, IsSound, IsInOrder}
+use Rattle.qc_app.specs.Run.{state_in, IsSound}
 use Rattle.qc_app.specs.Going.{begun}
 use Rattle.qc_app.proofs.Journals.{none_of_others, has_needs}
 

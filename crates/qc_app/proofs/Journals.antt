@@ -1,21 +1,18 @@
 -- What is known of a journal of one session that runs outside the cache.
-use Rattle.std.proofs.Common.{◌≡◌, ◌≢◌, ℕ, ◌+◌, Bool, true, false, not, cond, List, [], ◌∷◌, ◌++◌, length, take, refl, sym, ap, ◌∙◌, subst, arith, suc, append_assoc, length-append, take_all, true≢false, eqb→eq, eq-eqb, ne_eqb, T}
-use Rattle.std.specs.Prelude.{◌&&◌, ◌==◌, IsTrue}
-use Rattle.std.specs.List.{list_all, list_any}
+use Rattle.std.proofs.Common.{◌≡◌, ◌≢◌, ℕ, ◌+◌, Bool, true, false, cond, List, [], ◌∷◌, ◌++◌, length, refl, sym, ap, ◌∙◌, subst, suc, append_assoc, true≢false, eqb→eq, ne_eqb, T}
+use Rattle.std.specs.Prelude.{◌&&◌, ◌==◌}
+use Rattle.std.specs.List.{list_all}
 use Rattle.std.proofs.lemmas.List.Folds.{list_all-append}
-use Rattle.std.proofs.lemmas.List.Elements.{filter-append}
 use Rattle.qc_types.specs.declared.options.Options.{Options}
 use Rattle.qc_sql.specs.Database.{Database, apply}
 use Rattle.qc_model.specs.declared.events.Who.{Who}
 use Rattle.qc_sql.specs.declared.tables.RowOp.{RowOp}
 use Rattle.qc_model.specs.declared.events.Event.{Event}
 use Rattle.qc_model.specs.declared.events.Event.TheVariants as event
-use Rattle.qc_model.specs.declared.events.How.{How}
 use Rattle.qc_model.specs.declared.events.How.TheVariants as how
-use Rattle.qc_model.specs.declared.events.Reason.{Reason}
 use Rattle.qc_model.specs.declared.events.Reason.TheVariants as reason
 use Rattle.qc_model.specs.Journal.{Journal, operations, database_after, present, is_by, events_of, event_count}
-use Rattle.qc_model.specs.Cache.{Entry, entries_after, after_event, cache}
+use Rattle.qc_model.specs.Cache.{entries_after, after_event, cache}
 use Rattle.qc_model.specs.Licence.{IsLawfulAfter, IsLawful, IsLicensed}
 use Rattle.qc_model.specs.Needs.{NeedsFrom, HasNeeds}
 use Rattle.qc_model.specs.Agrees.{numbered_events, fill_ends}

@@ -7,6 +7,7 @@ pub mod Shorts
 pub mod Inputs
 pub mod Changes
 pub mod Methods
+pub mod Nexts
 pub mod Pieces
 pub mod Reports
 pub mod Tops

@@ -1,17 +1,14 @@
 -- What the session's methods do, from what they change.
-use Rattle.std.proofs.Common.{◌≡◌, ℕ, ◌+◌, Bool, true, false, List, [], ◌∷◌, ◌++◌, length, refl, sym, ap, ◌∙◌, subst, arith, length-append, Option, Some, None, Ok, Err, Result, OnOk, true≢false}
-use Rattle.std.specs.Prelude.{is_some, ◌&&◌}
-use Rattle.std.specs.List.{list_all}
+use Rattle.std.proofs.Common.{◌≡◌, ℕ, ◌+◌, true, false, List, [], ◌∷◌, ◌++◌, length, refl, sym, ap, ◌∙◌, subst, length-append, Some, None, Ok, Err, Result, OnOk}
+use Rattle.std.specs.Prelude.{is_some}
 use Rattle.qc_types.specs.declared.text.Text.{Text}
 use Rattle.qc_sql.specs.declared.commands.Command.{Command}
 use Rattle.qc_sql.specs.declared.commands.Command.TheVariants as command
-use Rattle.qc_sql.specs.declared.replies.Reply.{Reply}
 use Rattle.qc_sql.specs.declared.replies.Reply.TheVariants as reply
 use Rattle.qc_sql.specs.declared.tables.RowOp.{RowOp}
 use Rattle.qc_sql.specs.Database.{Name, Database, tables_of, apply_one}
 use Rattle.qc_sql.specs.Effects.{effect, effect_of}
 use Rattle.qc_sql.specs.Rows.{Rows, rows}
-use Rattle.qc_sql.specs.Packets.{packets}
 use Rattle.qc_model.specs.declared.events.Event.{Event}
 use Rattle.qc_model.specs.declared.events.Event.TheVariants as event
 use Rattle.qc_model.specs.declared.events.How.TheVariants as how
@@ -34,7 +31,7 @@ use Rattle.qc_execute.specs.declared.outcome.Outcome.TheVariants as outcome
 use Rattle.qc_app.specs.declared.session.Session.{Session}
 use Rattle.qc_app.specs.Words.{without_cache}
 use Rattle.qc_app.specs.Stage.{takes, first_machine}
-use Rattle.qc_app.specs.Run.{state_in, is_short, is_simple, IsSound, makes_short_names, has_short_names, next_who, form_refusal}
+use Rattle.qc_app.specs.Run.{state_in, is_short, IsSound, makes_short_names, has_short_names, next_who, form_refusal}
 use Rattle.qc_app.specs.Going.{stand_of, begun, IsFit, Logs, DoesOne, DoesForm, HasTaken}
 use Rattle.qc_app.proofs.Steps.{not_taken, changes, selects, uses, is_change}
 use Rattle.qc_app.proofs.Sounds.{sound_commit, sound_other, sound_off, some_is}

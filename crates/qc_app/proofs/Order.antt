@@ -1,20 +1,18 @@
 -- What operations leave of a database in which no name stands twice and no table is too full.
-use Rattle.std.proofs.Common.{◌≡◌, ℕ, ℤ, ◌+◌, ◌<◌, ◌≤◌, Bool, true, false, cond, List, [], ◌∷◌, length, map, refl, sym, ap, ◌∙◌, subst, arith, Option, Some, None, true≢false}
-use Rattle.std.specs.Prelude.{◌&&◌, is_some, nat_le, nat_lt, MatchOption, option_map, option_and_then}
+use Rattle.std.proofs.Common.{◌≡◌, ℤ, ◌+◌, ◌<◌, ◌≤◌, Bool, true, false, cond, List, [], ◌∷◌, length, refl, sym, ap, ◌∙◌, subst, arith, Option, Some, None, true≢false}
+use Rattle.std.specs.Prelude.{◌&&◌, is_some, nat_le, option_and_then}
 use Rattle.std.specs.List.{list_all, AllByRecursion}
 use Rattle.std.specs.Ordering.{int_cmp, is_eq, match_ordering}
-use Rattle.std.specs.declared.cmp.Ordering.{Ordering}
 use Rattle.std.specs.declared.cmp.Ordering.TheVariants.{Less, Equal, Greater}
-use Rattle.std.specs.BTreeMap.{insert_entry, is_at}
+use Rattle.std.specs.BTreeMap.{insert_entry}
 use Rattle.std.specs.Map.{lookup}
 use Rattle.qc_types.specs.declared.names.TableName.{TableName}
 use Rattle.qc_types.specs.declared.names.Value.{Value}
 use Rattle.qc_sql.specs.declared.tables.Column.{Column}
-use Rattle.qc_sql.specs.declared.tables.RowOp.{RowOp}
 use Rattle.qc_sql.specs.declared.tables.RowOp.TheVariants as op
 use Rattle.qc_sql.specs.Database.{Name, name_cmp, MapOf, Table, Tables, Database, no_tables, at_name, change_at, table_of, tables_of, apply_one, with_row, key_of}
-use Rattle.qc_model.specs.Licence.{is_within_rows, most_rows}
-use Rattle.qc_sql.proofs.Untouched.{at, at_is, not_both, other_way, inserted_other, changed_other}
+use Rattle.qc_model.specs.Licence.{most_rows}
+use Rattle.qc_sql.proofs.Untouched.{at, at_is, inserted_other}
 use Rattle.qc_app.specs.Run.{AreApart, IsInOrder, is_short}
 
 some_none : {X Y : Type 0} (x : X) → ◌≡◌ {A = Option X} (Some x) None → Y

@@ -1,7 +1,7 @@
 -- Reading piece by piece.
-use Rattle.std.proofs.Common.{◌≡◌, ℕ, ◌+◌, ◌<◌, ◌≤◌, List, [], ◌++◌, length, take, drop, refl, sym, ap, ◌∙◌, subst, inl, inr, append_assoc, append-nil, Option, Some, None, MatchOption, take-append-drop}
+use Rattle.std.proofs.Common.{◌≡◌, ℕ, ◌<◌, List, [], ◌++◌, length, take, drop, refl, sym, ap, ◌∙◌, subst, inl, inr, append_assoc, append-nil, Option, Some, None, MatchOption, take-append-drop}
 use Rattle.qc_types.specs.declared.streams.ReadStep.TheVariants as read
-use Rattle.qc_types.specs.Streams.{ReadGives, BeginsWith}
+use Rattle.qc_types.specs.Streams.{ReadGives}
 use Rattle.qc_model.specs.ScriptLines.{most_script}
 use Rattle.qc_app.specs.Reading.{ReadSoFar, ReadsEnough}
 

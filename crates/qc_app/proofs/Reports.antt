@@ -1,30 +1,24 @@
 -- From the session's run to what is said of the report.
-use Rattle.std.proofs.Common.{◌≡◌, ℕ, zero, suc, ◌+◌, ◌<◌, ◌≤◌, Bool, true, false, List, [], ◌∷◌, length, refl, sym, ap, ◌∙◌, subst, arith, slice_index_or, true≢false, Option, None}
-use Rattle.std.specs.Prelude.{◌&&◌, nat_le, IfOk, Result, Ok, Err}
+use Rattle.std.proofs.Common.{◌≡◌, ℕ, zero, suc, ◌<◌, ◌≤◌, Bool, true, false, List, [], ◌∷◌, length, refl, sym, ap, subst, arith, slice_index_or, true≢false, Option, None}
+use Rattle.std.specs.Prelude.{◌&&◌, IfOk, Result, Ok, Err}
 use Rattle.std.specs.List.{list_all, All}
 use Rattle.qc_sql.specs.declared.tables.Column.{Column}
 use Rattle.qc_sql.specs.declared.tables.RowOp.{RowOp}
 use Rattle.qc_sql.specs.declared.tables.RowOp.TheVariants as op
 use Rattle.qc_model.specs.declared.events.Event.{Event}
 use Rattle.qc_model.specs.declared.events.Event.TheVariants as event
-use Rattle.qc_model.specs.declared.events.How.TheVariants as how
-use Rattle.qc_model.specs.declared.events.Reason.TheVariants as reason
 use Rattle.qc_model.specs.declared.reports.Report.{Report}
 use Rattle.qc_model.specs.declared.reports.Script.{Script}
 use Rattle.qc_model.specs.declared.reports.SessionReport.{SessionReport}
 use Rattle.qc_model.specs.Journal.{Journal}
-use Rattle.qc_model.specs.Cache.{cache}
 use Rattle.qc_model.specs.Agrees.{Agrees}
-use Rattle.qc_model.specs.ScriptLines.{most_script}
 use Rattle.qc_script.specs.ShortNames.{HasShortNames, HasShortColumns, HasShortName, MakesShortColumns}
 use Rattle.qc_sessions.specs.Runs.{report_of}
 use Rattle.qc_app.specs.Words.{without_cache}
 use Rattle.qc_app.specs.Stage.{first_machine}
-use Rattle.qc_app.specs.Inputs.{IsSmall, total}
 use Rattle.qc_app.specs.Run.{is_simple, is_short, makes_short_names}
 use Rattle.qc_app.specs.Ran.{IsReportOf}
 use Rattle.qc_app.proofs.Ends.{one_session, no_session}
-use Rattle.qc_app.proofs.Journals.{cache_empty}
 
 both : (a b : Bool) → (a && b) ≡ true → (a ≡ true) × (b ≡ true)
 both true b h = (refl, h)
@@ -72,12 +66,6 @@ the_script script input none h g e = by script.setup script.sessions none (only 
   where
     by : (setup : Option (List ℕ)) (sessions : List (List ℕ)) → setup ≡ None → sessions ≡ input ∷ [] → ◌≡◌ {A = Script} (record { setup = setup; sessions = sessions }) (record { setup = None; sessions = input ∷ [] })
     by setup sessions p q = rw (p, q) refl
-
-pub input_is_small : (script : Script) (input : List ℕ) → IsSmall most_script script → 1 ≤ length script.sessions → input ≡ slice_index_or script.sessions 0 input → length input < 4294967296
-input_is_small script input small h e =
-    let few : total script.sessions ≤ most_script = small.bytes in
-    let one = only script.sessions input h (omega (arith, small.one)) e in
-    omega (arith, few, ap total one)
 
 pub run_agrees : (script : Script) (input : List ℕ) (report : Report) → script ≡ record { setup = None; sessions = input ∷ [] } → IsReportOf without_cache input report → Agrees first_machine script without_cache report
 run_agrees script input report same is =

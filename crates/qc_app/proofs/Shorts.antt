@@ -1,5 +1,5 @@
 -- The names of a form are short.
-use Rattle.std.proofs.Common.{◌≡◌, Bool, true, false, List, [], ◌∷◌, ℕ, length, refl, ap, sym, ◌∙◌, subst, Option, Some, None, true≢false}
+use Rattle.std.proofs.Common.{◌≡◌, Bool, true, false, List, [], ◌∷◌, ℕ, length, refl, sym, ◌∙◌, subst, Option, Some, None, true≢false}
 use Rattle.std.specs.Prelude.{◌&&◌, bytes_eq, codes, nat_lt, nat_le, not, pos}
 use Rattle.std.specs.List.{list_all}
 use Rattle.qc_sql.specs.Words.{when}

@@ -1,17 +1,15 @@
 -- What stays sound when an event is added.
-use Rattle.std.proofs.Common.{◌≡◌, ℕ, ◌+◌, ◌<◌, true, false, List, [], ◌∷◌, ◌++◌, length, refl, sym, ap, ◌∙◌, subst, arith, Option, Some, None, MatchOption, true≢false}
-use Rattle.std.specs.Prelude.{is_some, ◌&&◌}
-use Rattle.std.specs.List.{list_all}
+use Rattle.std.proofs.Common.{◌≡◌, ◌<◌, true, false, [], ◌∷◌, ◌++◌, length, refl, sym, ap, ◌∙◌, subst, arith, Option, Some, None, MatchOption, true≢false}
+use Rattle.std.specs.Prelude.{is_some}
 use Rattle.qc_sql.specs.declared.tables.RowOp.{RowOp}
 use Rattle.qc_sql.specs.declared.tables.RowOp.TheVariants as op
-use Rattle.qc_sql.specs.Database.{Database, Tables, tables_of, Table, table_of, apply_one}
+use Rattle.qc_sql.specs.Database.{Database, tables_of, Table, table_of, apply_one}
 use Rattle.qc_model.specs.declared.events.Event.TheVariants as event
-use Rattle.qc_model.specs.declared.events.How.{How}
 use Rattle.qc_model.specs.declared.events.How.TheVariants as how
 use Rattle.qc_model.specs.declared.events.Reason.TheVariants as reason
 use Rattle.qc_model.specs.Journal.{Journal, present}
 use Rattle.qc_model.specs.Licence.{op_fits, is_within_rows, most_rows, IsLicensed}
-use Rattle.qc_execute.specs.Outcomes.{MayApply, HasRoom}
+use Rattle.qc_execute.specs.Outcomes.{MayApply}
 use Rattle.qc_app.specs.Words.{without_cache}
 use Rattle.qc_app.specs.Run.{next_who, is_simple, IsSound, IsInOrder, makes_short_names}
 use Rattle.qc_app.proofs.Journals.{present_more, lawful_more, simple_more}

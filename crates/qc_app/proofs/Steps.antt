@@ -1,15 +1,13 @@
 -- From what a command does to what it answers: its event, its line, and where the session then stands.
-use Rattle.std.proofs.Common.{◌≡◌, ℕ, ◌+◌, Bool, true, false, not, List, [], ◌∷◌, ◌++◌, length, take, refl, sym, ap, ◌∙◌, subst, arith, take_all, true≢false, Option, Some, None, Ok, MatchOption}
-use Rattle.std.specs.Prelude.{◌&&◌, ◌==◌, codes, is_some, is_ok, nat_le, nat_lt}
+use Rattle.std.proofs.Common.{◌≡◌, ℕ, ◌+◌, Bool, true, false, List, [], ◌∷◌, ◌++◌, length, take, refl, sym, ap, ◌∙◌, subst, arith, take_all, true≢false, Some, None, Ok, MatchOption}
+use Rattle.std.specs.Prelude.{◌&&◌, nat_le, nat_lt}
 use Rattle.std.specs.List.{list_all}
 use Rattle.qc_sql.specs.declared.commands.Command.{Command}
 use Rattle.qc_sql.specs.declared.commands.Command.TheVariants as command
 use Rattle.qc_sql.specs.declared.replies.Reply.{Reply}
 use Rattle.qc_sql.specs.declared.replies.Reply.TheVariants as reply
 use Rattle.qc_sql.specs.declared.tables.RowOp.{RowOp}
-use Rattle.qc_sql.specs.declared.statements.Statement.TheVariants as statement
-use Rattle.qc_sql.specs.Database.{Name, Database, Tables, Table, tables_of, apply_one}
-use Rattle.qc_sql.specs.Errors.{not_supported}
+use Rattle.qc_sql.specs.Database.{Name, Database, Tables, tables_of}
 use Rattle.qc_sql.specs.Effects.{effect, effect_of}
 use Rattle.qc_sql.specs.Grammar.{meaning, trimmed}
 use Rattle.qc_sql.specs.Rows.{Rows, rows, rows_over}
@@ -17,16 +15,14 @@ use Rattle.qc_model.specs.declared.events.Event.{Event}
 use Rattle.qc_model.specs.declared.events.Event.TheVariants as event
 use Rattle.qc_model.specs.declared.events.How.TheVariants as how
 use Rattle.qc_model.specs.declared.events.Reason.TheVariants as reason
-use Rattle.qc_model.specs.declared.events.Who.{Who}
 use Rattle.qc_model.specs.declared.reports.ReportLine.{ReportLine}
 use Rattle.qc_model.specs.declared.reports.Word.TheVariants as word
 use Rattle.qc_model.specs.Journal.{Journal, present, before}
-use Rattle.qc_model.specs.Cache.{cache}
-use Rattle.qc_model.specs.Session.{State, rows_reply}
-use Rattle.qc_model.specs.Licence.{IsLicensed, MayDecide, MayCommit, op_fits, is_within_rows, most_rows}
-use Rattle.qc_model.specs.Machine.{Local, Executes, ExecutesText, full_table, full_in, local, refused}
+use Rattle.qc_model.specs.Session.{rows_reply}
+use Rattle.qc_model.specs.Licence.{MayDecide, is_within_rows, most_rows}
+use Rattle.qc_model.specs.Machine.{Local, Executes, ExecutesText, full_table, full_in, local}
 use Rattle.qc_model.specs.Needs.{HasOwnNeeds}
-use Rattle.qc_model.specs.Agrees.{line, who_of, word_of, key_of_command, fill_ends}
+use Rattle.qc_model.specs.Agrees.{line, who_of, word_of, key_of_command}
 use Rattle.qc_sessions.specs.Runs.{Stand, stand, own, Answers, HasItsEvent, HasNoEvent}
 use Rattle.qc_sessions.proofs.Steps.{one_more, before_it}
 use Rattle.qc_parse.specs.declared.form.Form.{Form}
@@ -36,8 +32,8 @@ use Rattle.qc_parse.specs.Laws.{FormsAreGrammatical, tree_of, select_tree}
 use Rattle.qc_execute.specs.Outcomes.{is_executed, first_flags}
 use Rattle.qc_app.specs.Stage.{takes, first_machine}
 use Rattle.qc_app.specs.Words.{without_cache}
-use Rattle.qc_app.specs.Run.{next_who, form_refusal, state_in, is_simple, IsSound, IsInOrder}
-use Rattle.qc_app.proofs.Journals.{present_more, lawful_more, simple_more, cache_empty, own_length, event_count_is, fill_is_none, by_event, is_first}
+use Rattle.qc_app.specs.Run.{next_who, form_refusal, state_in, is_simple}
+use Rattle.qc_app.proofs.Journals.{cache_empty, own_length, event_count_is, fill_is_none, by_event, is_first}
 
 -- ---- no table is too full
 

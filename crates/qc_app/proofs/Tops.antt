@@ -1,6 +1,6 @@
 -- From what was read to what is said of the whole input.
-use Rattle.std.proofs.Common.{◌≡◌, ℕ, ◌+◌, ◌<◌, ◌≤◌, Bool, true, false, List, [], ◌∷◌, ◌++◌, length, refl, sym, ap, ◌∙◌, subst, arith, true≢false, Option, Some, None, Result, Ok, Err, length-append, inl, inr}
-use Rattle.std.specs.Prelude.{◌⊎◌, is_ok, not, IfOk, IfSome, nat_lt, if◌then◌else◌, bytes_eq, codes, ◌&&◌}
+use Rattle.std.proofs.Common.{◌≡◌, ℕ, ◌<◌, ◌≤◌, Bool, true, false, List, [], ◌∷◌, length, refl, sym, ap, ◌∙◌, subst, arith, true≢false, Option, Some, None, Result, Ok, Err, length-append, inl, inr}
+use Rattle.std.specs.Prelude.{is_ok, IfSome, nat_lt, if◌then◌else◌, bytes_eq, codes, ◌&&◌}
 use Rattle.qc_types.specs.declared.options.Options.{Options}
 use Rattle.qc_types.specs.declared.memory.Or.{Or}
 use Rattle.qc_types.specs.declared.memory.Or.TheVariants as or

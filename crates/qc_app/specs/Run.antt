@@ -1,8 +1,6 @@
 -- A session that runs by itself: what holds between two of its commands.
-use Rattle.std.specs.Prelude.{◌≡◌, ◌==◌, ℕ, ◌+◌, ◌≤◌, codes, Bool, true, false, ◌&&◌, List, [], ◌∷◌, length, nat_le, Option, None}
+use Rattle.std.specs.Prelude.{◌≡◌, ◌==◌, ◌+◌, codes, Bool, true, false, ◌&&◌, [], ◌∷◌, length, nat_le, None}
 use Rattle.std.specs.List.{list_all, AllByRecursion}
-use Rattle.std.specs.BTreeMap.{is_at}
-use Rattle.std.specs.Map.{lookup}
 use Rattle.qc_sql.specs.declared.tables.RowOp.{RowOp}
 use Rattle.qc_sql.specs.declared.tables.RowOp.TheVariants as op
 use Rattle.qc_sql.specs.Database.{Name, MapOf, Database, at_name}

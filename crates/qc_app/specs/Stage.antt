@@ -1,5 +1,5 @@
 -- The machine of this stage: the commands that are taken so far. All others get the form refusal, and change nothing.
-use Rattle.std.specs.Prelude.{Bool, false, Option, Some, None, is_some}
+use Rattle.std.specs.Prelude.{Bool, true, false, Option, Some, None, is_some}
 use Rattle.qc_sql.specs.declared.commands.Command.{Command}
 use Rattle.qc_sql.specs.declared.commands.Command.TheVariants as command
 use Rattle.qc_sql.specs.Database.{tables_of}
@@ -15,11 +15,14 @@ abbrev pub takes_text : State → Journal → Option Form → Bool
 takes_text state journal None = false
 takes_text state journal (Some f) = is_executed (base state journal) state.db f
 
--- a query of such a text, or the choice of a database that is there
+-- a query of such a text, the choice of a database that is there, a ping, or a payload that is no command; Quit is no command that is answered
 abbrev pub takes : State → Journal → Command → Bool
 takes state journal (command.Query text) = takes_text state journal (form_of text)
 takes state journal (command.InitDb name) = is_some (tables_of name (base state journal))
-takes state journal _ = false
+takes state journal command.Ping = true
+takes state journal (command.Unknown byte) = true
+takes state journal command.Empty = true
+takes state journal command.Quit = false
 
 abbrev pub first_machine : Machine
 first_machine = machine_taking takes

@@ -1,5 +1,5 @@
 -- What the top call has done, where its source and its sink tell what they have and hold.
-use Rattle.std.specs.Prelude.{◌≡◌, ℕ, Bool, not, List, [], ◌++◌, length, Option, Some, None, is_ok, Ok, Err}
+use Rattle.std.specs.Prelude.{◌≡◌, ℕ, Bool, not, List, [], ◌++◌, Option, Some, None, is_ok, Ok, Err}
 use Rattle.qc_types.specs.declared.options.Options.{Options}
 use Rattle.qc_types.specs.Streams.{BeginsWith}
 use Rattle.qc_model.specs.declared.reports.Report.{Report}

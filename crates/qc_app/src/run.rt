@@ -1,13 +1,14 @@
 //! Runs a script.
 
-ghost use Rattle.std.specs.Prelude.{◌≡◌, ◌<◌, ◌^◌, true, length, IfOk};
+ghost use Rattle.std.specs.Prelude.{◌≡◌, ◌≢◌, true, IfOk};
 ghost use Rattle.std.specs.List.{list_all};
+ghost use Rattle.qc_sql.specs.declared.commands.CommandEnd.TheVariants as end;
+ghost use Rattle.qc_model.specs.Agrees as model;
 ghost use Rattle.qc_model.specs.Agrees.{Agrees};
-ghost use Rattle.qc_model.specs.ScriptLines.{most_script};
 ghost use Rattle.qc_script.specs.ShortNames.{HasShortNames};
 ghost use Rattle.qc_sessions.specs.Runs as meant;
 ghost use Rattle.qc_app.specs.Inputs.{IsSmall};
-ghost use Rattle.qc_app.specs.Ran.{HasRun, IsReportOf};
+ghost use Rattle.qc_app.specs.Ran.{Advances, HasRun, IsReportOf};
 ghost use Rattle.qc_app.specs.Run.{is_simple};
 ghost use Rattle.qc_app.specs.Stage.{first_machine};
 ghost use Rattle.qc_app.specs.Words.{without_cache};
@@ -16,15 +17,16 @@ use crate::counters::count_events;
 use crate::session::{ONLY_SESSION, Session};
 use qc_model::events::Events;
 use qc_model::reports::{Ending, Report, Script, SessionReport, SessionReports};
-use qc_script::cut_commands;
-use qc_types::{NoMemory, Options};
+use qc_sql::commands::{Command, CommandEnd};
+use qc_types::{NoMemory, Options, Or};
+use qc_wire::read_command;
 use std::alloc::Global;
 
 /// The report of a script's run: its sessions, the journal of their events, and the counters. The cost is linear in the script and in the
 /// report, but for the logarithms of the tables' sizes.
 pub fn run_script(alloc: Global, options: Options, script: &Script) -> Result<Report, NoMemory>
     requires options { options ≡ without_cache }
-    requires small { IsSmall most_script script.now }
+    requires small { IsSmall script.now }
     ensures agrees { IfOk result (Agrees first_machine script.now without_cache) }
     ensures names { IfOk result HasShortNames }
 {
@@ -35,7 +37,6 @@ pub fn run_script(alloc: Global, options: Options, script: &Script) -> Result<Re
 }
 
 fn run_one(alloc: Global, options: Options, input: &[u8]) -> Result<Report, NoMemory>
-    requires { length input.now < 2 ^ 32 }
     ensures { IfOk result (λ report. IsReportOf options input.now report) }
 {
     let (session, ending) = run_session(alloc, input)?;
@@ -68,15 +69,49 @@ fn report_of(options: Options, sessions: SessionReports, journal: Events) -> Rep
     }
 }
 
-/// Runs a session's input to its end.
+/// Runs a session's input to its end: answers one command after another, up to a Quit or to where no whole packet of a command stands.
+/// Each turn takes a command, and the input is read once.
+#[tactic(auto, using(crate::proofs::Nexts::goes_on))]
 pub fn run_session(alloc: Global, input: &[u8]) -> Result<(Session, Ending), NoMemory>
-    requires { length input.now < 2 ^ 32 }
     ensures { IfOk result (λ ran. HasRun input.now ran.0 ran.1) }
 {
-    let cut = cut_commands(alloc, input)?;
     let mut session = Session::new(alloc)?;
-    for command in cut.commands.items() {
-        session.execute(alloc, command)?;
+    let mut left = input;
+    loop {
+        let command = match next_command(alloc, &mut left) {
+            Ok(command) => command,
+            Err(Or::Other(ending)) => return Ok((session, ending)),
+            Err(Or::Memory) => return Err(NoMemory),
+        };
+        session.execute(alloc, &command)?;
     }
-    Ok((session, cut.ending))
+}
+
+/// Takes the next command from the front of an input, or says how the input ends, as it does by a Quit.
+fn next_command(alloc: Global, left: &mut &[u8]) -> Result<Command, Or<Ending>>
+    ensures { Advances result left.old.now left.new.now }
+{
+    let command = match read_command(alloc, left) {
+        Ok(command) => command,
+        Err(Or::Memory) => return Err(Or::Memory),
+        Err(Or::Other(why)) => return Err(Or::Other(ending_of(why))),
+    };
+    match command {
+        Command::Quit => Err(Or::Other(Ending::Quit)),
+        command => Ok(command),
+    }
+}
+
+/// How an input ends of which no command is left. An input in memory never fails.
+fn ending_of(why: CommandEnd) -> Ending
+    requires { why ≢ end.Failed }
+    ensures { result ≡ model.ending_of why }
+{
+    match why {
+        CommandEnd::EndOfInput => Ending::Input,
+        CommandEnd::Cut(count) => Ending::Cut(count),
+        CommandEnd::TooLong(length) => Ending::TooLong(length),
+        CommandEnd::BadSequence { found, wanted } => Ending::BadSequence { found, wanted },
+        CommandEnd::Failed => unreachable!(),
+    }
 }

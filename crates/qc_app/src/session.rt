@@ -1,13 +1,15 @@
 //! A session that runs by itself, command by command.
 
-ghost use Rattle.std.specs.Prelude.{◌≡◌, ◌+◌, true, [], ◌∷◌, ◌++◌, length, IfOk, OnOk};
+ghost use Rattle.std.specs.Prelude.{◌≡◌, ◌+◌, ◌≤◌, true, [], ◌∷◌, ◌++◌, length, IfOk, OnOk};
 ghost use Rattle.qc_sql.specs.declared.commands.Command.TheVariants as command;
 ghost use Rattle.qc_sql.specs.declared.replies.Reply.TheVariants as reply;
 ghost use Rattle.qc_model.specs.declared.events.Event.TheVariants as event;
 ghost use Rattle.qc_model.specs.declared.reports.Word.TheVariants as word;
 ghost use Rattle.qc_sql.specs.Database.{apply_one};
+ghost use Rattle.qc_sql.specs.Errors.{error_of, unknown_command};
 ghost use Rattle.qc_sql.specs.Packets.{packets};
 ghost use Rattle.qc_model.specs.Agrees.{line};
+ghost use Rattle.qc_model.specs.Machine.{refused};
 ghost use Rattle.qc_execute.specs.Outcomes.{MayApply};
 ghost use Rattle.qc_app.specs.Run.{has_short_names, next_who, form_refusal};
 
@@ -63,7 +65,10 @@ impl Session {
                 None => self.refuse(alloc),
             },
             Command::InitDb(name) => self.use_db(alloc, name),
-            _ => self.refuse(alloc),
+            Command::Ping => self.answer(ok_reply(alloc, 0)?),
+            Command::Unknown(_) | Command::Empty => self.answer(unknown_reply(alloc)?),
+            // It ends a session, and isn't answered.
+            Command::Quit => self.refuse(alloc),
         }
     }
 
@@ -128,6 +133,16 @@ impl Session {
         ensures db { self.new.db ≡ self.old.db }
     {
         let reply = refusal_reply(alloc)?;
+        self.answer(reply)
+    }
+
+    /// A line without an event; nothing else changes.
+    fn answer(&mut self, reply: Text) -> Result<(), NoMemory>
+        ensures lines { OnOk result (self.new.lines ≡ self.old.lines ++ record { place = length self.old.events; how = word.Local; reply = reply } ∷ []) }
+        ensures events { self.new.events ≡ self.old.events }
+        ensures database { self.new.database ≡ self.old.database }
+        ensures db { self.new.db ≡ self.old.db }
+    {
         let place = self.events.items().len() as u64;
         let how = Word::Local;
         self.lines.push(ReportLine { place, how, reply })
@@ -162,10 +177,24 @@ fn ok_reply(alloc: Global, affected: u64) -> Result<Text, NoMemory>
 fn refusal_reply(alloc: Global) -> Result<Text, NoMemory>
     ensures { IfOk result (λ bytes. bytes ≡ packets form_refusal) }
 {
+    error_reply(alloc, 1235, b"42000", b"Not supported: form")
+}
+
+/// The answer to a payload that is no command.
+fn unknown_reply(alloc: Global) -> Result<Text, NoMemory>
+    ensures { IfOk result (λ bytes. bytes ≡ packets (refused unknown_command)) }
+{
+    error_reply(alloc, 1047, b"08S01", b"Unknown command")
+}
+
+fn error_reply(alloc: Global, code: u16, state: &[u8; 5], message: &[u8]) -> Result<Text, NoMemory>
+    requires { length message.now ≤ 512 }
+    ensures { IfOk result (λ bytes. bytes ≡ packets (refused (error_of code state.now message.now))) }
+{
     let error = SqlError {
-        code: 1235,
-        state: *b"42000",
-        message: Text::of(alloc, b"Not supported: form")?,
+        code,
+        state: *state,
+        message: Text::of(alloc, message)?,
     };
     let mut bytes = Text::of(alloc, &[])?;
     put_err(alloc, &error, 1, &mut bytes)?;

@@ -2,7 +2,7 @@
 
 ghost use Rattle.std.specs.Prelude.{◌<◌, ◌≤◌, IfOk, vec_len};
 
-use crate::{Ended, StdSink, StdSource, Word, qcache_main};
+use crate::{Ended, Ending, StdSink, StdSource, Word, qcache_main};
 use qc_types::{BytesSink, BytesSource, PutStep, ReadStep, Sink, Source};
 use std::alloc::{AllocError, Global};
 use std::io::{self, ErrorKind, Read, Write};
@@ -166,16 +166,19 @@ fn words_of_the_command_line(rt: HostRuntime) -> Result<(), Fail> {
 
 #[test]
 fn scripts_that_are_refused(rt: HostRuntime) -> Result<(), Fail> {
-    let rows: [(&[u8], &str); 9] = [
-        (b"ping", "script: bad line 1"),
+    let rows: [(&[u8], &str); 12] = [
+        (b"ping", "script: no session at line 1"),
         (b"query x", "script: no session at line 1"),
+        (b"# x\n\nraw 00", "script: no session at line 3"),
+        (b"raw 0", "script: bad line 1"),
+        (b"setup\n", "script: bad line 1"),
         (b"session 1\nquery x\nnothing\n", "script: bad line 3"),
         (b"session 2\n", "script: bad line 1"),
         (b"session 1\nsession 1\n", "script: bad line 2"),
-        (b"session 1\n\n", "script: bad line 2"),
+        (b"session 1\n\nraw 0g\n", "script: bad line 3"),
         (b"session 1\nquery\n", "script: bad line 2"),
         (b"\x80\n", "script: bad line 1"),
-        (b"session 1\ninit d\n# x", "script: bad line 3"),
+        (b"session 1\nquit\n# x\n ping", "script: bad line 4"),
     ];
     for (script, message) in rows {
         let (ended, out) = run(&rt, script)?;
@@ -334,6 +337,103 @@ fn faults(rt: HostRuntime) -> Result<(), Fail> {
     Ok(())
 }
 
+/// The line of an answer, by its word in the table below.
+fn answer_line(answer: &str) -> &'static str {
+    if answer == "ping" {
+        "0 local 0700000100000002000000\n"
+    } else if answer == "unknown" {
+        // 1047, 08S01, Unknown command
+        "0 local 18000001ff1704233038533031556e6b6e6f776e20636f6d6d616e64\n"
+    } else if answer == "form" {
+        // 1235, 42000, Not supported: form
+        "0 local 1c000001ffd3042334323030304e6f7420737570706f727465643a20666f726d\n"
+    } else if answer == "created" {
+        "1 other 0700000100010002000000\n"
+    } else {
+        // a ping behind the first event
+        "1 local 0700000100000002000000\n"
+    }
+}
+
+/// The report of one session, whose only event makes the database d, where there is one.
+fn stream_report(
+    alloc: Global,
+    answers: &str,
+    ending: &str,
+    created: bool,
+) -> Result<String, AllocError> {
+    let count = answers.split_whitespace().count();
+    let mut text = format!(in alloc;
+        "qcache report 1\noptions 0 1048576 4096 1\nsessions 1\nsession 1 commands {count} end {ending}\n"
+    )?;
+    for answer in answers.split_whitespace() {
+        text.push_str(answer_line(answer))?;
+    }
+    text.push_str(if created {
+        "journal 1\n1 commit 1 1 1 createdb:64\n"
+    } else {
+        "journal 0\n"
+    })?;
+    text.push_str("counters 0 0 0 0 0 0\nend\n")?;
+    Ok(text)
+}
+
+#[test]
+fn streams_of_a_session(rt: HostRuntime) -> Result<(), Fail> {
+    let alloc = rt.alloc();
+    // what stands behind `session 1`, the answers, the ending, and whether a database is made
+    let rows: [(&str, &str, &str, bool); 24] = [
+        ("raw ", "", "input", false),
+        ("raw 01", "", "cut 1", false),
+        ("raw 010000", "", "cut 3", false),
+        ("raw 01000000", "", "cut 4", false),
+        ("raw 0300000003", "", "cut 5", false),
+        ("raw 010000010e", "", "badsequence 1 0", false),
+        ("raw 010000ff", "", "badsequence 255 0", false),
+        ("raw ffffff00", "", "toolong 16777215", false),
+        ("raw ffffff01", "", "toolong 16777215", false),
+        ("raw feffff00", "", "cut 4", false),
+        ("raw 010000000E", "ping", "input", false),
+        ("ping\nraw 010000000e\nraw 01", "ping ping", "cut 1", false),
+        ("raw 010000001d", "unknown", "input", false),
+        ("raw 010000001d\nping\n", "unknown ping", "input", false),
+        ("raw 00000000\nping\n", "unknown ping", "input", false),
+        ("raw 020000000100\nping", "unknown ping", "input", false),
+        ("raw 020000000e00", "unknown", "input", false),
+        ("quit", "", "quit", false),
+        (
+            "ping\nquit\nping\nquery CREATE DATABASE d\nraw 01",
+            "ping",
+            "quit",
+            false,
+        ),
+        ("raw 0100000001ff", "", "quit", false),
+        ("\n# quit\nping\n\n#ping\n", "ping", "input", false),
+        // CREATE DATABASE d
+        (
+            "raw 1200000003435245\nraw 4154452044415441424153452064",
+            "created",
+            "input",
+            true,
+        ),
+        (
+            "query CREATE DATABASE d\nping\nquit",
+            "created later",
+            "quit",
+            true,
+        ),
+        ("query x\nping", "form ping", "input", false),
+    ];
+    for (lines, answers, ending, created) in rows {
+        let script = format!(in alloc; "session 1\n{lines}")?;
+        let (ended, out) = run(&rt, script.as_bytes())?;
+        assert_eq!(rt; ended.status, 0u8, "at {lines}");
+        let report = stream_report(alloc, answers, ending, created)?;
+        assert_eq!(rt; out.bytes(), report.as_bytes(), "at {lines}");
+    }
+    Ok(())
+}
+
 /// The place and the word of each line of a script's session.
 fn answers(rt: &HostRuntime, script: &[u8]) -> Result<String, AllocError> {
     let alloc = rt.alloc();
@@ -345,7 +445,7 @@ fn answers(rt: &HostRuntime, script: &[u8]) -> Result<String, AllocError> {
                 let word = match line.how {
                     Word::Other => "other",
                     Word::Plain => "plain",
-                    Word::Local => "refused",
+                    Word::Local => "local",
                     Word::Hit | Word::Start => "cached",
                 };
                 text.push_str(format!(in alloc; "{} {word}, ", line.place)?.as_str())?;
@@ -369,63 +469,60 @@ fn commands_of_every_form(rt: HostRuntime) -> Result<(), Fail> {
         (b"", ""),
         (b"query CREATE DATABASE e", "4 other, "),
         (b"query CREATE DATABASE e\n", "4 other, "),
-        (b"query CREATE DATABASE d", "3 refused, "),
-        (b"query CREATE DATABASE ", "3 refused, "),
+        (b"query CREATE DATABASE d", "3 local, "),
+        (b"query CREATE DATABASE ", "3 local, "),
         (longest.as_bytes(), "4 other, "),
-        (too_long.as_bytes(), "3 refused, "),
-        (b"query CREATE DATABASE select", "3 refused, "),
-        (b"query CREATE DATABASE SELECT", "3 refused, "),
-        (b"query CREATE DATABASE sELECT", "3 refused, "),
-        (b"query CREATE DATABASE E", "3 refused, "),
-        (b"query CREATE DATABASE e1", "3 refused, "),
-        (b"query CREATE DATABASE e\x80", "3 refused, "),
-        (b"query create database e", "3 refused, "),
-        (b"query CREATE DATABASE e;", "3 refused, "),
+        (too_long.as_bytes(), "3 local, "),
+        (b"query CREATE DATABASE select", "3 local, "),
+        (b"query CREATE DATABASE SELECT", "3 local, "),
+        (b"query CREATE DATABASE sELECT", "3 local, "),
+        (b"query CREATE DATABASE E", "3 local, "),
+        (b"query CREATE DATABASE e1", "3 local, "),
+        (b"query CREATE DATABASE e\x80", "3 local, "),
+        (b"query create database e", "3 local, "),
+        (b"query CREATE DATABASE e;", "3 local, "),
         (b"query CREATE TABLE u(id BIGINT PRIMARY KEY)", "4 other, "),
         (
             b"query CREATE  TABLE u  (  id BIGINT PRIMARY KEY  )",
             "4 other, ",
         ),
-        (b"query CREATE TABLE u id BIGINT PRIMARY KEY", "3 refused, "),
-        (
-            b"query CREATE TABLE t (id BIGINT PRIMARY KEY)",
-            "3 refused, ",
-        ),
+        (b"query CREATE TABLE u id BIGINT PRIMARY KEY", "3 local, "),
+        (b"query CREATE TABLE t (id BIGINT PRIMARY KEY)", "3 local, "),
         (
             b"query CREATE TABLE u (key BIGINT PRIMARY KEY)",
-            "3 refused, ",
+            "3 local, ",
         ),
         (b"query INSERT INTO t VALUES(7)", "4 other, "),
         (b"query INSERT INTO t VALUES ( 7 )", "4 other, "),
         (b"query INSERT INTO t VALUES (007)", "4 other, "),
-        (b"query INSERT INTO t VALUES (-7)", "3 refused, "),
-        (b"query INSERT INTO t VALUES ()", "3 refused, "),
+        (b"query INSERT INTO t VALUES (-7)", "3 local, "),
+        (b"query INSERT INTO t VALUES ()", "3 local, "),
         (
             b"query INSERT INTO t VALUES (999999999999999999)",
             "4 other, ",
         ),
         (
             b"query INSERT INTO t VALUES (1000000000000000000)",
-            "3 refused, ",
+            "3 local, ",
         ),
-        (b"query INSERT INTO u VALUES (7)", "3 refused, "),
+        (b"query INSERT INTO u VALUES (7)", "3 local, "),
         (
             b"query INSERT INTO t VALUES (7)\nquery INSERT INTO t VALUES (07)",
-            "4 other, 4 refused, ",
+            "4 other, 4 local, ",
         ),
         (b"query SELECT id FROM t", "4 plain, "),
         (b"query SELECT   id FROM  t", "4 plain, "),
-        (b"query SELECT id FROM u", "3 refused, "),
-        (b"query SELECT x FROM t", "3 refused, "),
+        (b"query SELECT id FROM u", "3 local, "),
+        (b"query SELECT x FROM t", "3 local, "),
         (
             b"query SELECT id FROM t\nquery x\nquery SELECT id FROM t",
-            "4 plain, 4 refused, 5 plain, ",
+            "4 plain, 4 local, 5 plain, ",
         ),
-        (b"query SELECT\tid FROM t", "3 refused, "),
-        (b"query ", "3 refused, "),
-        (b"query \xff\x80\0", "3 refused, "),
-        (b"init e\nquery SELECT id FROM t", "3 refused, 4 plain, "),
-        (b"init \ninit d", "3 refused, 4 other, "),
+        (b"query SELECT\tid FROM t", "3 local, "),
+        (b"query ", "3 local, "),
+        (b"query \xff\x80\0", "3 local, "),
+        (b"init e\nquery SELECT id FROM t", "3 local, 4 plain, "),
+        (b"init \ninit d", "3 local, 4 other, "),
     ];
     for (rest, want) in rows {
         let mut script = bytes(alloc, start.as_bytes())?;
@@ -457,10 +554,7 @@ fn the_longest_input(rt: HostRuntime) -> Result<(), Fail> {
     let script = long_script(rt.alloc(), 16_777_187)?;
     assert_eq!(rt; script.len(), 67_108_864usize);
     let all = answers(&rt, &script)?;
-    assert_eq!(rt;
-        all.as_str(),
-        "0 refused, 0 refused, 0 refused, 0 refused, "
-    );
+    assert_eq!(rt; all.as_str(), "0 local, 0 local, 0 local, 0 local, ");
     Ok(())
 }
 
@@ -492,6 +586,26 @@ fn a_query_that_no_packet_carries(rt: HostRuntime) -> Result<(), Fail> {
         let (ended, _out) = run(&rt, &script)?;
         assert_eq!(rt; ended.status, status, "of {letters} letters");
     }
+    Ok(())
+}
+
+#[test]
+fn many_pings(rt: HostRuntime) -> Result<(), Fail> {
+    let mut script = bytes(rt.alloc(), b"session 1\n")?;
+    for _ in 0..200_000u32 {
+        script.extend_from_slice(b"ping\n")?;
+    }
+    let (ended, _out) = run(&rt, &script)?;
+    assert_eq!(rt; ended.status, 0u8);
+    let Some(report) = ended.report else {
+        return Err(Fail::new("no report"));
+    };
+    for session in report.sessions.items() {
+        assert_eq!(rt; session.lines.items().len(), 200_000usize);
+        assert_eq!(rt; session.ending, Ending::Input);
+    }
+    assert_eq!(rt; report.sessions.items().len(), 1usize);
+    assert_eq!(rt; report.journal.items().len(), 0usize);
     Ok(())
 }
 

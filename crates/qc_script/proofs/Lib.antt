@@ -1,4 +1,3 @@
-pub mod Endings
 pub mod HexDigits
 pub mod Joined
 pub mod LineEnds

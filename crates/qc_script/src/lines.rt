@@ -1,16 +1,22 @@
 //! The lines of a script, one after another.
 
-ghost use Rattle.std.specs.Prelude.{◌≡◌, ◌<◌, ◌==◌, [], ◌∷◌, length, IfOk, MatchOption};
+ghost use Rattle.std.specs.Prelude.{◌≡◌, ◌<◌, ◌==◌, [], ◌∷◌, codes, length, IfOk, MatchOption};
 ghost use Rattle.std.specs.List.{position};
 ghost use Rattle.std.specs.Option.{option_map};
-ghost use Rattle.qc_model.specs.ScriptLines.{lines_of, line_of};
-ghost use Rattle.qc_script.specs.Lines.{meant};
+ghost use Rattle.hex.specs.Hex.{decode_of};
+ghost use Rattle.qc_model.specs.ScriptLines.{lines_of, line_of, is_skipped, word_line, behind, puts};
+ghost use Rattle.qc_script.specs.Lines.{meant, SendsReadable};
 
+use hex::FromHexError;
 use qc_sql::commands::Command;
 use qc_types::{NoMemory, Text};
 use std::alloc::Global;
 
 const SESSION: &[u8] = b"session 1";
+
+const PING: &[u8] = b"ping";
+
+const QUIT: &[u8] = b"quit";
 
 /// What a line of a script is for.
 #[derive(Drop)]
@@ -19,6 +25,10 @@ pub enum Line {
     Opens,
     /// A command of the last session.
     Sends(Command),
+    /// Bytes of the last session's stream, as they are.
+    Puts(Vec<u8>),
+    /// A comment, or an empty line.
+    Skips,
 }
 
 /// The first line of a text, without its LF, and what stands behind it, or none where nothing is left.
@@ -44,18 +54,59 @@ fn first_end(text: &[u8]) -> Option<usize>
     text.iter().position(|byte| *byte == b'\n')
 }
 
-/// What a line is for, or none where it is none of a script's lines. A command's text is copied once.
+/// What a line is for, or none where it is none of a script's lines. A command's text is copied once; the cost is linear in the line's length.
 pub fn read_line(alloc: Global, line: &[u8]) -> Result<Option<Line>, NoMemory>
-    ensures { IfOk result (λ read. option_map meant read ≡ line_of line.now) }
+    ensures line { IfOk result (λ read. option_map meant read ≡ line_of line.now) }
+    ensures sent { IfOk result SendsReadable }
 {
+    if is_skipped(line) {
+        return Ok(Some(Line::Skips));
+    }
     if line == SESSION {
         return Ok(Some(Line::Opens));
     }
+    if line == PING {
+        return Ok(Some(Line::Sends(Command::Ping)));
+    }
+    if line == QUIT {
+        return Ok(Some(Line::Sends(Command::Quit)));
+    }
+    read_word(alloc, line)
+}
+
+/// Whether a line is empty or a comment.
+fn is_skipped(line: &[u8]) -> bool
+    ensures { result ≡ is_skipped line.now }
+{
+    matches!(line, [] | [b'#', ..])
+}
+
+/// What a line of a word, one space and all that is behind them is for.
+fn read_word(alloc: Global, line: &[u8]) -> Result<Option<Line>, NoMemory>
+    ensures line { IfOk result (λ read. option_map meant read
+        ≡ word_line (behind (codes "query ") line.now) (behind (codes "init ") line.now) (behind (codes "raw ") line.now)) }
+    ensures sent { IfOk result SendsReadable }
+{
     if let Some(text) = line.strip_prefix(b"query ") {
         return Ok(Some(Line::Sends(Command::Query(Text::of(alloc, text)?))));
     }
     if let Some(name) = line.strip_prefix(b"init ") {
         return Ok(Some(Line::Sends(Command::InitDb(Text::of(alloc, name)?))));
     }
-    Ok(None)
+    match line.strip_prefix(b"raw ") {
+        Some(digits) => read_raw(alloc, digits),
+        None => Ok(None),
+    }
+}
+
+/// The bytes that hexadecimal digits write, or none where there is another byte or half a pair.
+fn read_raw(alloc: Global, digits: &[u8]) -> Result<Option<Line>, NoMemory>
+    ensures line { IfOk result (λ read. option_map meant read ≡ puts (decode_of digits.now)) }
+    ensures sent { IfOk result SendsReadable }
+{
+    match hex::decode(alloc, digits) {
+        Ok(bytes) => Ok(Some(Line::Puts(bytes))),
+        Err(FromHexError::OutOfMemory) => Err(NoMemory),
+        Err(_) => Ok(None),
+    }
 }

@@ -1,8 +1,9 @@
 //! Scripts, from their bytes.
 
-ghost use Rattle.std.specs.Prelude.{◌≡◌, Some, IfOk};
+ghost use Rattle.std.specs.Prelude.{◌≡◌, Some, IfOk, IsTrue};
 ghost use Rattle.qc_types.specs.Answers.{Gives};
 ghost use Rattle.qc_model.specs.ScriptLines.{Sends, line_of, after_line, script_of};
+ghost use Rattle.qc_wire.specs.Commands.{can_be_read};
 ghost use Rattle.qc_script.specs.Sessions.{so_far};
 
 use crate::lines::{Line, first_line, read_line};
@@ -14,12 +15,13 @@ use std::alloc::Global;
 
 const MOST_SCRIPT: usize = 67_108_864;
 
-/// Reads a script: its lines end with LF, which the last may lack. The first line is `session 1`, and each other is `query TEXT` or
-/// `init NAME`, whose packets one after another are the session's input. A script of no bytes has no session.
+/// Reads a script: its lines end with LF, which the last may lack. `session 1` opens the session, once. Behind it `query TEXT`, `init NAME`,
+/// `ping` and `quit` put their command's packet at the end of the session's input, and `raw HEX` puts its bytes there as they are. Empty
+/// lines and those that begin with `#` are skipped, but counted. A script without `session 1` has no session.
 ///
-/// It is refused with `InputTooLong` past 67,108,864 bytes, and else at the first line that is wrong: with `NoSession` where a command
-/// stands before every session, and with `BadLine` where the line is no line of a script, opens a session that isn't the next one, or has
-/// a command that fits no packet. The cost is linear in the bytes.
+/// It is refused with `InputTooLong` past 67,108,864 bytes, and else at the first line that is wrong: with `NoSession` where a command or
+/// bytes stand before every session, and with `BadLine` where the line is no line of a script, opens a session that isn't the next one, or
+/// has a command that fits no packet. The cost is linear in the bytes.
 #[tactic(auto, unfolding(qc_model::specs::ScriptLines::script_of))]
 pub fn read_script(alloc: Global, bytes: &[u8]) -> Result<Script, Or<ScriptRefusal>>
     ensures { Gives (λ s. s) (λ r. r) result (script_of bytes.now) }
@@ -48,6 +50,7 @@ fn take_line(
     ensures { Gives (λ _. so_far input.new) (λ r. r) result (after_line number (so_far input.old) (line_of line.now)) }
 {
     match read_line(alloc, line)? {
+        Some(Line::Skips) => Ok(()),
         Some(Line::Opens) if input.is_none() => {
             *input = Some(Text::of(alloc, &[])?);
             Ok(())
@@ -56,6 +59,13 @@ fn take_line(
             Some(input) => send(alloc, number, &command, input),
             None => Err(Or::Other(ScriptRefusal::NoSession(number))),
         },
+        Some(Line::Puts(bytes)) => {
+            let Some(input) = input else {
+                return Err(Or::Other(ScriptRefusal::NoSession(number)));
+            };
+            input.extend(&bytes)?;
+            Ok(())
+        }
         Some(Line::Opens) | None => Err(Or::Other(ScriptRefusal::BadLine(number))),
     }
 }
@@ -67,6 +77,7 @@ fn send(
     command: &Command,
     input: &mut Text,
 ) -> Result<(), Or<ScriptRefusal>>
+    requires { IsTrue (can_be_read command.now) }
     ensures { Gives (λ _. so_far (Some input.new)) (λ r. r) result (after_line number (so_far (Some input.old)) (Some (Sends command.now))) }
 {
     match put_command(alloc, command, input) {

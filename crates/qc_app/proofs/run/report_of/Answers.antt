@@ -1,4 +1,4 @@
-use Rattle.std.proofs.Common.{◌≡◌, length, sym, ap, ◌∙◌}
+use Rattle.std.proofs.Common.{length, sym, ap, ◌∙◌}
 use Rattle.qc_model.specs.Journal.{Journal}
 use Rattle.qc_model.specs.Cache.{cache}
 use Rattle.qc_app.proofs.Journals.{cache_empty}

@@ -1,4 +1,4 @@
-use Rattle.std.proofs.Common.{◌≡◌, ◌∙◌, ap, sym, subst, List, ℕ, length, slice_index_or}
+use Rattle.std.proofs.Common.{◌≡◌, ◌∙◌, ap, sym, subst, List, ℕ, slice_index_or}
 use Rattle.qc_types.specs.declared.options.Options.{Options}
 use Rattle.qc_model.specs.Agrees.{Agrees}
 use Rattle.qc_script.specs.ShortNames.{HasShortNames}

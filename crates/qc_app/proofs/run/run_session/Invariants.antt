@@ -1,6 +1,9 @@
-use Rattle.std.proofs.Common.{take}
-use Rattle.qc_app.specs.Going.{HasTaken}
+use Rattle.std.proofs.Common.{length}
+use Rattle.qc_app.specs.Ran.{HasGone}
 use Rattle.qc_app.proofs.run.run_session.Given as goal
 
 abbrev pub invariant-loop-command : goal.invariant-loop-command
-invariant-loop-command l = HasTaken (take l.command-index l.command-items) l.session
+invariant-loop-command l = HasGone l.input l.left l.session
+
+abbrev pub decreases-loop-command : goal.decreases-loop-command
+decreases-loop-command l = length l.left

@@ -1,15 +1,11 @@
-use Rattle.std.proofs.Common.{◌≡◌, sym, ap, ◌∙◌, subst, map, string_bytes, Global, Ok, Err, Result, List, ℕ}
+use Rattle.std.proofs.Common.{◌≡◌, sym, ap, ◌∙◌, subst, map, string_bytes, Global}
 use Rattle.std.specs.Option.{IfSome}
 use Rattle.qc_model.specs.declared.reports.Report.{Report}
-use Rattle.qc_model.specs.Agrees.{Agrees}
 use Rattle.qc_model.specs.ScriptLines.{script_of}
 use Rattle.qc_app.specs.declared.top.Ended.{Ended}
-use Rattle.qc_app.specs.Reading.{ReadsEnough}
-use Rattle.qc_app.specs.Stage.{first_machine}
 use Rattle.qc_app.specs.Top.{RefusesInput, IsRunOf}
-use Rattle.qc_app.specs.Words.{without_cache, options_of}
 use Rattle.qc_app.proofs.Inputs.{script_is_small}
-use Rattle.qc_app.proofs.Tops.{words_are, refusal_is, not_taken, not_refused, run_is, if_some, given, given_refusal}
+use Rattle.qc_app.proofs.Tops.{refusal_is, not_taken, not_refused, run_is, if_some, given, given_refusal}
 use Rattle.qc_app.proofs.top.qcache_main.Goals as goal
 
 pub returns-in-Err-Other-clause-refusal : goal.returns-in-Err-Other-clause-refusal

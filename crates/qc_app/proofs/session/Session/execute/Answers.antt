@@ -1,4 +1,4 @@
-use Rattle.std.proofs.Common.{◌≡◌, sym, ◌∙◌, ap}
+use Rattle.std.proofs.Common.{sym, ◌∙◌}
 use Rattle.qc_app.proofs.Shorts.{form_is_short}
 use Rattle.qc_app.proofs.session.Session.execute.Goals as goal
 

@@ -1,6 +1,4 @@
-use Rattle.std.proofs.Common.{◌≡◌, subst}
 use Rattle.qc_sql.specs.declared.commands.Command.TheVariants as command
-use Rattle.qc_execute.specs.Outcomes.{IsOutcome}
 use Rattle.qc_execute.specs.declared.outcome.Outcome.TheVariants as outcome
 use Rattle.qc_app.proofs.Methods.{in_db, on_ok, all_ok, refused_does, changed_does, rows_does, not_executed}
 use Rattle.qc_app.proofs.session.Session.execute_form.Goals as goal
