@@ -1,0 +1,5 @@
+pub mod Seen
+pub mod Fronts
+pub mod Pieces
+pub mod Heads
+pub mod Laws

@@ -1,0 +1,24 @@
+//! The lexer of MySQL's statements: tokens with their spans, what a token means, trimming, and the head of a text.
+#![tactic(auto)]
+
+mod bytes;
+mod content;
+mod front;
+mod heads;
+mod laws;
+mod lexer;
+mod number;
+mod quoted;
+#[cfg(test)]
+mod tests;
+mod token;
+mod trim;
+
+pub use content::{quoted_name, quoted_text, token_bytes};
+pub use heads::head;
+pub use laws::tokens_stand_in_order;
+pub use lexer::tokens;
+pub use number::number_value;
+pub use qc_sql::statements::Head;
+pub use token::{LexRefusal, Token, TokenKind, Tokens};
+pub use trim::trimmed;
