@@ -9,3 +9,4 @@ pub mod Spelling
 pub mod Meanings
 pub mod FirstWords
 pub mod Places
+pub mod NextTokens

@@ -2,12 +2,12 @@
 
 ghost use Rattle.std.specs.Prelude.{◌≡◌, ◌∷◌, None, MatchOption};
 ghost use Rattle.qc_sql.specs.Grammar.{head_of};
-ghost use Rattle.qc_sql.specs.Rules.{same_word};
 ghost use Rattle.qc_sql.specs.Tokens.{Word};
 ghost use Rattle.qc_lex.specs.Heads.{lexemes, leading};
 
 use crate::front::{Front, front_of};
 use crate::token::TokenKind;
+use crate::word::is_same_word;
 use qc_sql::statements::Head;
 
 /// The head of a text. Only its first two tokens are read, and whatever follows them doesn't matter; words are taken in any case.
@@ -51,11 +51,4 @@ fn first_word(text: &[u8]) -> Option<(&[u8], &[u8])>
             Front::Faults(_) => return None,
         }
     }
-}
-
-/// Whether two words are one but for the case of their letters. Linear in the words.
-fn is_same_word(word: &[u8], other: &[u8]) -> bool
-    ensures { result ≡ same_word word.now other.now }
-{
-    word.eq_ignore_ascii_case(other)
 }

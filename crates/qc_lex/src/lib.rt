@@ -1,6 +1,7 @@
 //! The lexer of MySQL's statements: tokens with their spans, what a token means, trimming, and the head of a text.
 #![tactic(auto)]
 
+mod ahead;
 mod bytes;
 mod content;
 mod front;
@@ -8,17 +9,22 @@ mod heads;
 mod laws;
 mod lexer;
 mod number;
+mod place;
 mod quoted;
 #[cfg(test)]
 mod tests;
 mod token;
 mod trim;
+mod word;
 
+pub use ahead::{Ahead, Lexeme};
 pub use content::{quoted_name, quoted_text, token_bytes};
 pub use heads::head;
 pub use laws::tokens_stand_in_order;
 pub use lexer::tokens;
 pub use number::number_value;
+pub use place::Lexer;
 pub use qc_sql::statements::Head;
 pub use token::{LexRefusal, Token, TokenKind, Tokens};
 pub use trim::trimmed;
+pub use word::is_same_word;
