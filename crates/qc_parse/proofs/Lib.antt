@@ -1,11 +1,11 @@
-pub mod Choice
-pub mod Cuts
-pub mod Fronts
-pub mod Lexing
-pub mod Meanings
-pub mod Named
-pub mod PieceTokens
-pub mod Readers
-mod Rows
-pub mod Spelling
-pub mod Trimming
+pub mod Loops
+pub mod Depth
+pub mod EachOnce
+pub mod Congruence
+pub mod Alike
+pub mod Prefixes
+pub mod Sound
+pub mod SoundStatements
+pub mod Gaps
+pub mod Complete
+pub mod CompleteStatements

@@ -1,42 +1,96 @@
--- The four forms and the grammar.
-use Rattle.std.specs.Prelude.{◌≡◌, ℕ, ◌+◌, true, false, List, [], ◌∷◌, length, Some, None, Ok}
-use Rattle.qc_types.specs.declared.names.Value.TheVariants as value
-use Rattle.qc_sql.specs.declared.statements.Head.TheVariants as head
-use Rattle.qc_sql.specs.declared.statements.Expr.TheVariants as expr
-use Rattle.qc_sql.specs.declared.statements.TableRef.{TableRef}
-use Rattle.qc_sql.specs.declared.statements.Select.{Select}
-use Rattle.qc_sql.specs.declared.statements.Part.TheVariants as part
-use Rattle.qc_sql.specs.declared.statements.PartKind.TheVariants as part_kind
+-- What the meaning of a text rests on.
+use Rattle.std.specs.Prelude.{◌≡◌, ℕ, ◌+◌, ◌≤◌, Bool, List, [], ◌∷◌, ◌++◌, length, take, drop, map, Option, Some, None, Result, Ok, Err, option_map}
+use Rattle.qc_sql.specs.declared.statements.Item.{Item}
 use Rattle.qc_sql.specs.declared.statements.Statement.{Statement}
 use Rattle.qc_sql.specs.declared.statements.Statement.TheVariants as statement
-use Rattle.qc_sql.specs.Grammar.{meaning, trimmed}
-use Rattle.qc_parse.specs.declared.form.Form.{Form}
-use Rattle.qc_parse.specs.declared.form.Form.TheVariants as form
-use Rattle.qc_parse.specs.Forms.{form_of}
+use Rattle.qc_sql.specs.Tokens.{Skips, Gives, front, Lexeme, Token, LexFault, BadByte, OpenQuote, OpenComment, NumberTooLarge, TextTooLong, LongName, Executable, lexed}
+use Rattle.qc_sql.specs.Reading.{ParseFault, Syntax, Unsupported, TooManyTables}
+use Rattle.qc_sql.specs.Grammar.{token_place, meaning}
 
-abbrev pub plain_table : List ℕ → TableRef
-plain_table name = record { db = None; name = name }
+-- ---- tokens without their places
 
--- SELECT column FROM table, where the column's word stands at a place of the text
-abbrev pub select_tree : List ℕ → List ℕ → ℕ → Select
-select_tree column table at = record {
-  cache = head.Bare;
-  star = false;
-  items = record { value = expr.Column (record { source = None; name = column }); name = None; from = at; to = at + length column; words = column } ∷ [];
-  from = record { table = plain_table table; name = table } ∷ [];
-  cond = None;
-  order = [];
-  limit = None;
-  lock = false;
-}
+abbrev pub lexemes : List Token → List Lexeme
+lexemes ts = map (λ t. t.what) ts
 
--- the tree of a form, in which the place of the selected column depends on the text's spaces
-abbrev pub tree_of : Form → ℕ → Statement
-tree_of (form.CreateDatabase name) at = statement.CreateDb name
-tree_of (form.CreateTable table column) at = statement.CreateTable (plain_table table) (part.Column column part_kind.BigInt false true ∷ [])
-tree_of (form.Insert table n) at = statement.Insert (record { table = plain_table table; names = None; rows = (value.Int n ∷ []) ∷ [] })
-tree_of (form.Select column table) at = statement.Select (select_tree column table at)
+-- a fault, whatever its place
+abbrev pub kind : LexFault → LexFault
+kind (BadByte at) = BadByte 0
+kind (OpenQuote at) = OpenQuote 0
+kind (OpenComment at) = OpenComment 0
+kind (NumberTooLarge at) = NumberTooLarge 0
+kind (TextTooLong at) = TextTooLong 0
+kind (LongName at) = LongName 0
+kind (Executable at) = Executable 0
 
--- A text of one of the forms means that form's tree by the grammar.
-abbrev pub FormsAreGrammatical : Type 0
-FormsAreGrammatical = (text : List ℕ) (f : Form) → form_of text ≡ Some f → (at : ℕ) × (meaning (trimmed text) false ≡ Ok (tree_of f at))
+-- two texts have the same tokens, and both end behind them or have a fault of one kind there
+abbrev pub SameTokens : Bool → List ℕ → List ℕ → Type 0
+SameTokens ansi a b = (lexemes (lexed a ansi).0 ≡ lexemes (lexed b ansi).0) × (option_map kind (lexed a ansi).1 ≡ option_map kind (lexed b ansi).1)
+
+-- ---- places
+
+abbrev pub fault_place : LexFault → ℕ
+fault_place (BadByte at) = at
+fault_place (OpenQuote at) = at
+fault_place (OpenComment at) = at
+fault_place (NumberTooLarge at) = at
+fault_place (TextTooLong at) = at
+fault_place (LongName at) = at
+fault_place (Executable at) = at
+
+-- where tokens end
+abbrev pub end_place : ℕ → Option LexFault → ℕ
+end_place end None = end
+end_place end (Some fault) = fault_place fault
+
+-- where a text's i-th token begins, counted from 0; behind the last one, where the fault stands or the text ends
+abbrev pub place_of : Bool → List ℕ → ℕ → ℕ
+place_of ansi text i = token_place (end_place (length text) (lexed text ansi).1) (drop i (lexed text ansi).0)
+
+-- ---- trees without their spans
+
+abbrev pub without_span : Item → Item
+without_span i = record { value = i.value; name = i.name; from = 0; to = 0; words = [] }
+
+abbrev pub without_spans : Statement → Statement
+without_spans (statement.Select s) = statement.Select (record s { items = map without_span s.items })
+without_spans s = s
+
+-- ---- the same meaning
+
+-- the same tree but for spans, or the same refusal, at the same token where it has a place
+abbrev pub SameMeaning : Bool → List ℕ → List ℕ → Result Statement ParseFault → Result Statement ParseFault → Type 0
+SameMeaning ansi a b (Ok s) (Ok t) = without_spans s ≡ without_spans t
+SameMeaning ansi a b (Err (Syntax at)) (Err (Syntax there)) = (i : ℕ) × (at ≡ place_of ansi a i) × (there ≡ place_of ansi b i)
+SameMeaning ansi a b (Err (Unsupported what)) (Err (Unsupported that)) = what ≡ that
+SameMeaning ansi a b (Err TooManyTables) (Err TooManyTables) = Unit {0}
+SameMeaning ansi a b _ _ = ⊥
+
+abbrev pub TokensDecide : Type 0
+TokensDecide = (ansi : Bool) (a b : List ℕ) → SameTokens ansi a b → SameMeaning ansi a b (meaning a ansi) (meaning b ansi)
+
+-- ---- what stands behind a refusal
+
+-- at least n tokens stand in both, and the first n are the same
+abbrev pub SameFirst : Bool → List ℕ → List ℕ → ℕ → Type 0
+SameFirst ansi a b n =
+    (n ≤ length (lexed a ansi).0) × (n ≤ length (lexed b ansi).0) × (take n (lexemes (lexed a ansi).0) ≡ take n (lexemes (lexed b ansi).0))
+
+-- Where a text is refused at a place, some token stands there, or the text or its tokens end there. Whatever has the same tokens up to that one and one more is refused there.
+abbrev pub FirstTokensRefuse : Type 0
+FirstTokensRefuse =
+    (ansi : Bool) (a : List ℕ) (at : ℕ) → meaning a ansi ≡ Err (Syntax at)
+    → (i : ℕ) × (at ≡ place_of ansi a i) × ((b : List ℕ) → SameFirst ansi a b (i + 2) → meaning b ansi ≡ Err (Syntax (place_of ansi b i)))
+
+-- ---- white space and comments
+
+-- Where y stands behind it, x is these tokens, with white space and comments between them.
+pub data Lexes (ansi : Bool) (y : List ℕ) : List ℕ → List Lexeme → Type 0 where
+  nothing : Lexes ansi y [] []
+  skip : (p x : List ℕ) {ls : List Lexeme} → front ansi (p ++ (x ++ y)) ≡ Skips (length p) → Lexes ansi y x ls → Lexes ansi y (p ++ x) ls
+  token : (p x : List ℕ) {l : Lexeme} {ls : List Lexeme} → front ansi (p ++ (x ++ y)) ≡ Gives (length p) l → Lexes ansi y x ls → Lexes ansi y (p ++ x) (l ∷ ls)
+
+-- a text x and y, where x is the same tokens in front of y and in front of a gap and y
+abbrev pub GapsDoNotMatter : Type 0
+GapsDoNotMatter =
+    (ansi : Bool) (x gap y : List ℕ) (ls : List Lexeme) → front ansi (gap ++ y) ≡ Skips (length gap) → Lexes ansi (gap ++ y) x ls → Lexes ansi y x ls
+    → SameMeaning ansi (x ++ (gap ++ y)) (x ++ y) (meaning (x ++ (gap ++ y)) ansi) (meaning (x ++ y) ansi)

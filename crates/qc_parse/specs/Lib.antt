@@ -1,3 +1,9 @@
-pub mod Forms
+pub mod Cursors
+pub mod Refusals
+pub mod Shorter
+pub mod Rules
+pub mod Selects
+pub mod Once
 pub mod Laws
-pub mod Shapes
+pub mod Productions
+pub mod Trees

@@ -1,11 +1,30 @@
-//! Reads statements. So far four forms are read, each a text of the grammar.
+//! The parser of MySQL's statements.
 #![tactic(auto)]
 
-mod form;
+mod changes;
+mod conditions;
+mod cursor;
+mod definitions;
+mod halt;
 mod laws;
-mod pieces;
-mod shape;
+mod lists;
+mod literals;
+mod named;
+mod names;
+mod refusal;
+mod select;
+mod settings;
+#[cfg(test)]
+mod tests;
+mod values;
+mod whole;
 mod words;
 
-pub use form::{Form, read_form};
-pub use laws::forms_are_grammatical;
+pub use laws::{
+    first_tokens_refuse, gaps_do_not_matter, spelled_texts_have_trees, texts_have_one_tree,
+    tokens_decide, trees_are_spelled,
+};
+pub use named::tables;
+pub use qc_sql::statements;
+pub use refusal::ParseRefusal;
+pub use whole::parse;

@@ -1,17 +1,13 @@
-//! Which words of a text are names, and which are numbers.
+//! Words that mean something.
 
-ghost use Rattle.std.specs.Prelude.{◌≡◌, ◌≤◌, ◌&&◌, nat_lt, nat_le, length, pos, map, bytes_eq, IsTrue};
-ghost use Rattle.std.specs.List.{list_all, list_any};
-ghost use Rattle.qc_sql.specs.Grammar.{is_among, reserved};
-ghost use Rattle.qc_sql.specs.Rules.{same_word};
-ghost use Rattle.qc_sql.specs.Tokens.{is_digit, number_from};
-ghost use Rattle.qc_parse.specs.Forms.{is_name, is_number, is_small_letter};
+ghost use Rattle.std.specs.Prelude.{◌≡◌, map, IfOk};
+ghost use Rattle.qc_sql.specs.Rules.{capital, in_capitals};
+ghost use Rattle.qc_sql.specs.Reading.{is_among, is_reserved};
+ghost use Rattle.qc_sql.specs.Grammar.{is_aggregate_word, is_plain_call, is_uncached_call, is_known_call, is_unsupported};
 
-/// The most bytes of a name.
-const LONGEST_NAME: usize = 64;
-
-/// The most digits of a number, so that it fits 64 bits with a sign.
-const MOST_DIGITS: usize = 18;
+use qc_lex::is_same_word;
+use qc_types::{NoMemory, Text};
+use std::alloc::Global;
 
 /// The words that are no names, in any case.
 static RESERVED: [&str; 50] = [
@@ -67,22 +63,16 @@ static RESERVED: [&str; 50] = [
     "SHOW",
 ];
 
-/// Whether a piece is this word or bracket, byte by byte. Linear in the piece.
-pub(crate) fn is_word(piece: &[u8], word: &[u8]) -> bool
-    ensures { result ≡ bytes_eq piece.now word.now }
-{
-    piece == word
-}
-
-/// Whether a word is one that can be no name, in any case. At most fifty comparisons of words.
-fn is_reserved(word: &[u8]) -> bool
-    ensures { result ≡ is_among reserved word.now }
+/// Whether a word is one that can be no name unless it is quoted, in any case. At most fifty comparisons of words.
+#[tactic(auto, unfolding(qc_sql::specs::Reading::is_reserved))]
+pub fn is_reserved(word: &[u8]) -> bool
+    ensures { result ≡ is_reserved word.now }
 {
     is_one_of(word, &RESERVED)
 }
 
-/// Whether a word is one of these in any case. Linear in the number of these and in the word.
-fn is_one_of(word: &[u8], others: &[&str]) -> bool
+/// Whether a word is one of these, in any case. Linear in the number of these and in the word.
+pub fn is_one_of(word: &[u8], others: &[&str]) -> bool
     ensures { result ≡ is_among (map (λ other. other.now) others.now) word.now }
 {
     for other in others {
@@ -93,71 +83,118 @@ fn is_one_of(word: &[u8], others: &[&str]) -> bool
     false
 }
 
-/// Whether two words are one but for the case of their letters. Linear in the word.
-fn is_same_word(word: &[u8], other: &[u8]) -> bool
-    ensures { result ≡ same_word word.now other.now }
+/// The aggregates' words.
+static AGGREGATES: [&str; 4] = ["COUNT", "SUM", "MIN", "MAX"];
+
+/// The words of other calls, which don't keep a SELECT out of the cache, or only with some arguments.
+static PLAIN_CALLS: [&str; 4] = ["LENGTH", "CONCAT", "ENCRYPT", "UNIX_TIMESTAMP"];
+
+/// The words of the calls that keep a SELECT out of the cache.
+static UNCACHED_CALLS: [&str; 30] = [
+    "AES_DECRYPT",
+    "AES_ENCRYPT",
+    "BENCHMARK",
+    "CONNECTION_ID",
+    "CONVERT_TZ",
+    "CURDATE",
+    "CURRENT_DATE",
+    "CURRENT_TIME",
+    "CURRENT_TIMESTAMP",
+    "CURRENT_USER",
+    "CURTIME",
+    "DATABASE",
+    "FOUND_ROWS",
+    "GET_LOCK",
+    "IS_FREE_LOCK",
+    "IS_USED_LOCK",
+    "LAST_INSERT_ID",
+    "LOAD_FILE",
+    "MASTER_POS_WAIT",
+    "NOW",
+    "PASSWORD",
+    "RAND",
+    "RANDOM_BYTES",
+    "RELEASE_ALL_LOCKS",
+    "RELEASE_LOCK",
+    "SLEEP",
+    "SYSDATE",
+    "USER",
+    "UUID",
+    "UUID_SHORT",
+];
+
+/// Whether a word is an aggregate's, in any case.
+#[tactic(auto, unfolding(qc_sql::specs::Grammar::is_aggregate_word))]
+pub fn is_aggregate(word: &[u8]) -> bool
+    ensures { result ≡ is_aggregate_word word.now }
 {
-    word.eq_ignore_ascii_case(other)
+    is_one_of(word, &AGGREGATES)
 }
 
-/// Whether a word is a name: 1 to 64 small letters that are no reserved word. Linear in the word.
-pub(crate) fn is_name(word: &[u8]) -> bool
-    ensures { result ≡ is_name word.now }
+#[tactic(auto, unfolding(qc_sql::specs::Grammar::is_plain_call))]
+fn is_plain_call(word: &[u8]) -> bool
+    ensures { result ≡ is_plain_call word.now }
 {
-    has_length(word, LONGEST_NAME) && is_all_small(word) && !is_reserved(word)
+    is_one_of(word, &PLAIN_CALLS)
 }
 
-/// Whether a word is a number that is read: 1 to 18 digits. Linear in the word.
-pub(crate) fn is_number(word: &[u8]) -> bool
-    ensures { result ≡ is_number word.now }
+#[tactic(auto, unfolding(qc_sql::specs::Grammar::is_uncached_call))]
+fn is_uncached_call(word: &[u8]) -> bool
+    ensures { result ≡ is_uncached_call word.now }
 {
-    has_length(word, MOST_DIGITS) && is_all_digits(word)
+    is_one_of(word, &UNCACHED_CALLS)
 }
 
-/// Whether a word has at least one byte, and at most this many.
-fn has_length(word: &[u8], most: usize) -> bool
-    ensures { result ≡ (nat_lt 0 (length word.now) && nat_le (length word.now) most) }
+/// Whether a word is that of a call that is read, in any case. At most 38 comparisons of words.
+pub fn is_known_call(word: &[u8]) -> bool
+    ensures { result ≡ is_known_call word.now }
 {
-    !word.is_empty() && word.len() <= most
+    is_aggregate(word) || is_plain_call(word) || is_uncached_call(word)
 }
 
-/// Whether each byte of a word is a small letter. Linear in the word.
-fn is_all_small(word: &[u8]) -> bool
-    ensures { result ≡ list_all is_small_letter word.now }
+/// The words that aren't supported, wherever nothing goes on with them.
+static UNSUPPORTED: [&str; 17] = [
+    "UNION",
+    "GROUP",
+    "HAVING",
+    "DISTINCT",
+    "EXISTS",
+    "LEFT",
+    "RIGHT",
+    "CROSS",
+    "NATURAL",
+    "ALTER",
+    "AUTO_INCREMENT",
+    "DEFAULT",
+    "PREPARE",
+    "EXECUTE",
+    "CALL",
+    "UNLOCK",
+    "REPLACE",
+];
+
+/// Whether a word isn't supported wherever nothing goes on with it, in any case.
+#[tactic(auto, unfolding(qc_sql::specs::Grammar::is_unsupported))]
+pub fn is_unsupported(word: &[u8]) -> bool
+    ensures { result ≡ is_unsupported word.now }
 {
-    word.iter().all(|byte| is_small_letter(*byte))
+    is_one_of(word, &UNSUPPORTED)
 }
 
-/// Whether each byte of a word is a digit. Linear in the word.
-fn is_all_digits(word: &[u8]) -> bool
-    ensures { result ≡ list_all is_digit word.now }
+/// A word in capitals: its ASCII letters, and all other bytes as they are. Linear in the word.
+pub fn in_capitals(alloc: Global, word: &[u8]) -> Result<Text, NoMemory>
+    ensures { IfOk result (λ capitals. capitals ≡ in_capitals word.now) }
 {
-    word.iter().all(|byte| is_digit(*byte))
-}
-
-/// Whether a byte is a small letter.
-fn is_small_letter(byte: u8) -> bool
-    ensures { result ≡ is_small_letter byte }
-{
-    matches!(byte, b'a'..=b'z')
-}
-
-/// Whether a byte is a digit.
-fn is_digit(byte: u8) -> bool
-    ensures { result ≡ is_digit byte }
-{
-    matches!(byte, b'0'..=b'9')
-}
-
-/// The number that digits spell. Linear in the word.
-#[tactic(auto, using(crate::proofs::Spelling::all_digits))]
-pub(crate) fn number_value(digits: &[u8]) -> i64
-    requires { IsTrue (is_number digits.now) }
-    ensures { result ≡ pos (number_from 0 digits.now) }
-{
-    let mut value: u64 = 0;
-    for digit in digits {
-        value = 10 * value + u64::from(*digit - b'0');
+    let mut capitals = Vec::new(alloc);
+    for byte in word {
+        capitals.push(capital(*byte))?;
     }
-    value as i64
+    Ok(Text::from_vec(capitals))
+}
+
+/// An ASCII letter in capitals, and any other byte as it is.
+fn capital(byte: u8) -> u8
+    ensures { result ≡ capital byte }
+{
+    byte.to_ascii_uppercase()
 }

@@ -1,5 +1,5 @@
 use Rattle.std.proofs.Common.{◌≡◌, map, drop}
-use Rattle.qc_sql.specs.Grammar.{is_among}
+use Rattle.qc_sql.specs.Reading.{is_among}
 use Rattle.qc_parse.proofs.words.is_one_of.Given as goal
 
 abbrev pub invariant-loop-other : goal.invariant-loop-other

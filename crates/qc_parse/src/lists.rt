@@ -1,0 +1,67 @@
+//! Lists with commas.
+
+ghost use Rattle.std.specs.Prelude.{◌≡◌, Result};
+ghost use Rattle.qc_sql.specs.Reading as meant;
+ghost use Rattle.qc_sql.specs.Reading.{Unread, Stop};
+ghost use Rattle.qc_parse.specs.Cursors.{unread, Takes, Reads, Shortens, beside};
+
+use crate::cursor::Cursor;
+use crate::halt::{Halt, unsupported};
+use qc_types::{Or, OwnedList};
+use std::alloc::Global;
+
+/// What stands in a list with a comma between each two.
+pub trait Member: Drop {
+    /// How it is read.
+    ghost rule: { Unread → Result (Self × Unread) Stop };
+
+    /// It gives no tokens back.
+    ghost shortens: { Shortens rule };
+
+    /// Takes one.
+    fn read(alloc: Global, cursor: &mut Cursor<'_>) -> Result<Self, Or<Halt>>
+        ensures { Reads (λ x. x) result (unread cursor.new) (rule (unread cursor.old)) };
+}
+
+/// One or more, with a comma between each two. Linear in their number, beside what each of them costs.
+pub fn listed<T: Member>(alloc: Global, cursor: &mut Cursor<'_>) -> Result<OwnedList<T>, Or<Halt>>
+    ensures { Reads (λ x. x) result (unread cursor.new) (meant.listed T.rule (unread cursor.old)) }
+{
+    let mut members = OwnedList::new(alloc);
+    members.push(T::read(alloc, cursor)?)?;
+    'commas: while cursor.at_sign(b",") {
+        cursor.sign(b",")?;
+        members.push(T::read(alloc, cursor)?)?;
+    }
+    Ok(members)
+}
+
+/// Takes an opening bracket, with no SELECT behind it.
+#[tactic(auto, unfolding(qc_sql::specs::Reading::opened))]
+pub fn open_bracket(alloc: Global, cursor: &mut Cursor<'_>) -> Result<(), Or<Halt>>
+    ensures { Reads (λ x. x) result (unread cursor.new) (meant.opened (unread cursor.old)) }
+{
+    cursor.sign(b"(")?;
+    if cursor.at_word(b"SELECT") {
+        return Err(unsupported(alloc, b"subquery"));
+    }
+    Ok(())
+}
+
+/// Takes the closing bracket behind what stands inside.
+pub fn closed<T: Drop>(cursor: &mut Cursor<'_>, inside: T) -> Result<T, Halt>
+    ensures { Takes (λ x. x) result (unread cursor.new) (meant.closes inside (unread cursor.old)) }
+{
+    cursor.sign(b")")?;
+    Ok(inside)
+}
+
+/// What was read before, beside what a reader gives now; where it stops, only why.
+pub fn beside<T: Drop, U, E>(before: T, now: Result<U, E>) -> Result<(T, U), E>
+    ensures { result ≡ beside before now }
+{
+    match now {
+        Ok(now) => Ok((before, now)),
+        Err(why) => Err(why),
+    }
+}
