@@ -13,9 +13,9 @@ use Rattle.qc_sql.specs.Database.{Name, Database, tables_of, table_of}
 use Rattle.qc_sql.specs.Effects.{Effect, effect, effect_of, lacking, refuse_lacking, new_rows}
 use Rattle.qc_sql.specs.Rows.{◌>>=◌, refuse_if, bound_in, Bound}
 use Rattle.qc_sql.proofs.Depends.{bind_ok}
-use Rattle.qc_parse.specs.declared.form.Form.{Form}
-use Rattle.qc_parse.specs.declared.form.Form.TheVariants as form
-use Rattle.qc_parse.specs.Laws.{tree_of}
+use Rattle.qc_execute.specs.declared.form.Form.{Form}
+use Rattle.qc_execute.specs.declared.form.Form.TheVariants as form
+use Rattle.qc_execute.specs.Forms.{Written, tree_of}
 use Rattle.qc_app.specs.Run.{is_short, makes_short_names, has_short_names}
 
 ok_is : (x y : Effect) → ◌≡◌ {A = Result Effect SqlError} (Ok x) (Ok y) → x ≡ y
@@ -41,17 +41,17 @@ first_is : (a b : Bool) → (a && b) ≡ true → b ≡ true
 first_is true b h = h
 first_is false b h = absurd (true≢false (sym h))
 
-pub change_is_short : (f : Form) (d : Database) (db : Name) (o : RowOp) (n : ℕ) → has_short_names f ≡ true → effect (tree_of f 0) d db 1 ≡ Ok (effect_of (o ∷ []) n) → makes_short_names o ≡ true
+pub change_is_short : (f : Form) (w : Written) (d : Database) (db : Name) (o : RowOp) (n : ℕ) → has_short_names f ≡ true → effect (tree_of f w) d db 1 ≡ Ok (effect_of (o ∷ []) n) → makes_short_names o ≡ true
 unfolding effect
-change_is_short (form.CreateDatabase name) d db o n s h =
+change_is_short (form.CreateDatabase name) w d db o n s h =
     let same = one_step (is_some (tables_of name d)) _ (effect_of (op.CreateDb name ∷ []) 1) (effect_of (o ∷ []) n) h in
     subst (λ (p : RowOp). makes_short_names p ≡ true) (one_is (op.CreateDb name) o (ap (λ (x : Effect). x.operations) same)) s
-change_is_short (form.CreateTable table column) d db o n s h =
+change_is_short (form.CreateTable table column) w d db o n s h =
     let t : TableName = record { db = db; name = table } in
     let key : Column = record { name = column; kind = kind.Int; not_null = true; primary = true } in
     let same = three_steps (length db == 0) (is_none (tables_of db d)) (is_some (table_of t d)) _ _ _ (effect_of (op.CreateTable t (key ∷ []) ∷ []) 0) (effect_of (o ∷ []) n) h in
     subst (λ (p : RowOp). makes_short_names p ≡ true) (one_is (op.CreateTable t (key ∷ [])) o (ap (λ (x : Effect). x.operations) same)) (rw (first_is (is_short table) (is_short column) s) refl)
-change_is_short (form.Insert table k) d db o n s h =
+change_is_short (form.Insert table k) w d db o n s h =
     let t : TableName = record { db = db; name = table } in
     let tuples : List (List Value) = (value.Int k ∷ []) ∷ [] in
     let bound = bind_ok (bound_in d t table) (λ b. refuse_lacking (lacking b.table.columns b.table.columns) >>= λ _. new_rows t b.table b.table.columns [] 1 tuples >>= λ rows. Ok (effect_of (map (λ row. op.Put t row) rows) (length rows))) (effect_of (o ∷ []) n) h in
@@ -59,7 +59,7 @@ change_is_short (form.Insert table k) d db o n s h =
     let named = bind_ok (refuse_lacking (lacking b.table.columns b.table.columns)) (λ _. new_rows t b.table b.table.columns [] 1 tuples >>= λ rows. Ok (effect_of (map (λ row. op.Put t row) rows) (length rows))) (effect_of (o ∷ []) n) bound.2 in
     let made = bind_ok (new_rows t b.table b.table.columns [] 1 tuples) (λ rows. Ok (effect_of (map (λ row. op.Put t row) rows) (length rows))) (effect_of (o ∷ []) n) named.2 in
     puts_one t made.0 o (ap (λ (x : Effect). x.operations) (ok_is (effect_of (map (λ row. op.Put t row) made.0) (length made.0)) (effect_of (o ∷ []) n) made.2))
-change_is_short (form.Select column table) d db o n s h =
+change_is_short (form.Select column table) w d db o n s h =
     let nothing : effect_of [] 0 ≡ effect_of (o ∷ []) n = ok_is (effect_of [] 0) (effect_of (o ∷ []) n) h in
     let apart : [] ≡ o ∷ [] = ap (λ (x : Effect). x.operations) nothing in
     absurd cc

@@ -11,3 +11,5 @@ pub mod Nexts
 pub mod Pieces
 pub mod Reports
 pub mod Tops
+pub mod Told
+pub mod Texts

@@ -9,8 +9,10 @@ use Rattle.qc_sql.specs.declared.replies.Reply.TheVariants as reply
 use Rattle.qc_sql.specs.declared.tables.RowOp.{RowOp}
 use Rattle.qc_sql.specs.Database.{Name, Database, Tables, tables_of}
 use Rattle.qc_sql.specs.Effects.{effect, effect_of}
+use Rattle.qc_sql.specs.declared.statements.Statement.{Statement}
+use Rattle.qc_sql.specs.declared.statements.Statement.TheVariants as statement
 use Rattle.qc_sql.specs.Grammar.{meaning, trimmed}
-use Rattle.qc_sql.specs.Rows.{Rows, rows, rows_over}
+use Rattle.qc_sql.specs.Rows.{Rows, rows}
 use Rattle.qc_model.specs.declared.events.Event.{Event}
 use Rattle.qc_model.specs.declared.events.Event.TheVariants as event
 use Rattle.qc_model.specs.declared.events.How.TheVariants as how
@@ -25,12 +27,11 @@ use Rattle.qc_model.specs.Needs.{HasOwnNeeds}
 use Rattle.qc_model.specs.Agrees.{line, who_of, word_of, key_of_command}
 use Rattle.qc_sessions.specs.Runs.{Stand, stand, own, Answers, HasItsEvent, HasNoEvent}
 use Rattle.qc_sessions.proofs.Steps.{one_more, before_it}
-use Rattle.qc_parse.specs.declared.form.Form.{Form}
-use Rattle.qc_parse.specs.declared.form.Form.TheVariants as form
-use Rattle.qc_parse.specs.Forms.{form_of}
-use Rattle.qc_parse.specs.Laws.{FormsAreGrammatical, tree_of, select_tree}
+use Rattle.qc_execute.specs.declared.form.Form.{Form}
+use Rattle.qc_execute.specs.declared.form.Form.TheVariants as form
+use Rattle.qc_execute.specs.Forms.{form_in, Written, tree_of, select_tree}
 use Rattle.qc_execute.specs.Outcomes.{is_executed, first_flags}
-use Rattle.qc_app.specs.Stage.{takes, first_machine}
+use Rattle.qc_app.specs.Stage.{takes, takes_text, first_machine}
 use Rattle.qc_app.specs.Words.{without_cache}
 use Rattle.qc_app.specs.Run.{next_who, form_refusal, state_in, is_simple}
 use Rattle.qc_app.proofs.Journals.{cache_empty, own_length, event_count_is, fill_is_none, by_event, is_first}
@@ -123,59 +124,57 @@ abbrev pub is_change : Form → Bool
 is_change (form.Select column table) = false
 is_change _ = true
 
-tree_executes : (J : Journal) (db : Name) (text : List ℕ) (f : Form) (at : ℕ) (o : RowOp) (n : ℕ) → is_change f ≡ true → is_within_rows (present J) ≡ true
-    → effect (tree_of f 0) (present J) db 1 ≡ Ok (effect_of (o ∷ []) n)
-    → ExecutesText without_cache (next_who J) (state_in db) text J (Ok (tree_of f at)) (event.Commit (next_who J) (o ∷ [])) (reply.Ok n 2) (state_in db)
-tree_executes J db text (form.CreateDatabase name) at o n c within e = rw (none_full (present J) within, e) (refl, refl, refl)
-tree_executes J db text (form.CreateTable table column) at o n c within e = rw (none_full (present J) within, e) (refl, refl, refl)
-tree_executes J db text (form.Insert table value) at o n c within e = rw e (refl, refl, refl)
-tree_executes J db text (form.Select column table) at o n c within e = absurd (true≢false (sym c))
+tree_executes : (J : Journal) (db : Name) (text : List ℕ) (f : Form) (w : Written) (o : RowOp) (n : ℕ) → is_change f ≡ true → is_within_rows (present J) ≡ true
+    → effect (tree_of f w) (present J) db 1 ≡ Ok (effect_of (o ∷ []) n)
+    → ExecutesText without_cache (next_who J) (state_in db) text J (Ok (tree_of f w)) (event.Commit (next_who J) (o ∷ [])) (reply.Ok n 2) (state_in db)
+tree_executes J db text (form.CreateDatabase name) w o n c within e = rw (none_full (present J) within, e) (refl, refl, refl)
+tree_executes J db text (form.CreateTable table column) w o n c within e = rw (none_full (present J) within, e) (refl, refl, refl)
+tree_executes J db text (form.Insert table value) w o n c within e = rw e (refl, refl, refl)
+tree_executes J db text (form.Select column table) w o n c within e = absurd (true≢false (sym c))
 
-select_executes : (J : Journal) (db : Name) (text column table : List ℕ) (at : ℕ) (r : Rows) → rows (select_tree column table at) (present J) db first_flags 1 ≡ Ok r
-    → ExecutesText without_cache (next_who J) (state_in db) text J (Ok (tree_of (form.Select column table) at)) (event.Run (next_who J) (how.Plain reason.Off)) (rows_reply first_flags r) (state_in db)
-select_executes J db text column table at r e = record { chosen = (how.Plain reason.Off, refl, rw e refl); answered = rw e refl; same = refl }
+select_executes : (J : Journal) (db : Name) (text column table : List ℕ) (w : Written) (r : Rows) → rows (select_tree column table w) (present J) db first_flags 1 ≡ Ok r
+    → ExecutesText without_cache (next_who J) (state_in db) text J (Ok (tree_of (form.Select column table) w)) (event.Run (next_who J) (how.Plain reason.Off)) (rows_reply first_flags r) (state_in db)
+select_executes J db text column table w r e = record { chosen = (how.Plain reason.Off, refl, rw e refl); answered = rw e refl; same = refl }
 
--- where the item stands makes no difference
-place_is_free : (column table : List ℕ) (at : ℕ) (d : Database) (db : Name) → rows (select_tree column table at) d db first_flags 1 ≡ rows (select_tree column table 0) d db first_flags 1
-unfolding rows rows_over
-place_is_free column table at d db = refl
+-- a statement of a form has its own event
+local_none : (J : Journal) (db : Name) (text : List ℕ) (f : Form) (w : Written) → meaning (trimmed text) false ≡ Ok (tree_of f w) → local (state_in db) (command.Query text) ≡ None
+local_none J db text (form.CreateDatabase name) w e = rw e refl
+local_none J db text (form.CreateTable table column) w e = rw e refl
+local_none J db text (form.Insert table value) w e = rw e refl
+local_none J db text (form.Select column table) w e = rw e refl
 
--- a text of a form has its tree, and so has its own event
-local_none : (J : Journal) (db : Name) (text : List ℕ) (f : Form) (at : ℕ) → meaning (trimmed text) false ≡ Ok (tree_of f at) → local (state_in db) (command.Query text) ≡ None
-local_none J db text (form.CreateDatabase name) at e = rw e refl
-local_none J db text (form.CreateTable table column) at e = rw e refl
-local_none J db text (form.Insert table value) at e = rw e refl
-local_none J db text (form.Select column table) at e = rw e refl
+change_taken : (f : Form) (w : Written) (d : Database) (db : Name) (o : RowOp) (n : ℕ) → is_change f ≡ true → effect (tree_of f w) d db 1 ≡ Ok (effect_of (o ∷ []) n) → is_executed d db (tree_of f w) ≡ true
+change_taken (form.CreateDatabase name) w d db o n c e = rw e refl
+change_taken (form.CreateTable table column) w d db o n c e = rw e refl
+change_taken (form.Insert table value) w d db o n c e = rw e refl
+change_taken (form.Select column table) w d db o n c e = absurd (true≢false (sym c))
 
-change_taken : (f : Form) (d : Database) (db : Name) (o : RowOp) (n : ℕ) → is_change f ≡ true → effect (tree_of f 0) d db 1 ≡ Ok (effect_of (o ∷ []) n) → is_executed d db f ≡ true
-change_taken (form.CreateDatabase name) d db o n c e = rw e refl
-change_taken (form.CreateTable table column) d db o n c e = rw e refl
-change_taken (form.Insert table value) d db o n c e = rw e refl
-change_taken (form.Select column table) d db o n c e = absurd (true≢false (sym c))
+-- a statement of a form is taken exactly where it isn't refused
+pub form_taken : (J : Journal) (db : Name) (s : Statement) (f : Form) (b : Bool) → form_in s ≡ Some f → is_executed (present J) db s ≡ b → takes_text (state_in db) J (Ok s) ≡ b
+form_taken J db s f b formed h = rw (formed, h) refl
 
 -- ---- the commands
 
-module _ (grammatical : FormsAreGrammatical) where
-  pub changes : (J : Journal) (db : Name) (text : List ℕ) (f : Form) (o : RowOp) (n : ℕ) → list_all is_simple J ≡ true → is_simple (event.Commit (next_who J) (o ∷ [])) ≡ true
-      → is_within_rows (present J) ≡ true → form_of text ≡ Some f → is_change f ≡ true → effect (tree_of f 0) (present J) db 1 ≡ Ok (effect_of (o ∷ []) n)
-      → Answers first_machine without_cache 1 (stand J (state_in db) (length J)) (command.Query text) (line (length J + 1) word.Other (reply.Ok n 2)) (stand (J ++ event.Commit (next_who J) (o ∷ []) ∷ []) (state_in db) (length J + 1))
-  changes J db text f o n simple one within is c e =
-      let g = grammatical text f is in
-      let takes_it : takes (state_in db) J (command.Query text) ≡ true = rw is (change_taken f (present J) db o n c e) in
-      let does : Executes without_cache (next_who J) (state_in db) (command.Query text) J (event.Commit (next_who J) (o ∷ [])) (reply.Ok n 2) (state_in db)
-      = rw g.1 (tree_executes J db text f g.0 o n c within e) in
-      taken J db db (command.Query text) (event.Commit (next_who J) (o ∷ [])) (reply.Ok n 2) simple one takes_it (local_none J db text f g.0 g.1) does
+pub changes : (J : Journal) (db : Name) (text : List ℕ) (f : Form) (w : Written) (o : RowOp) (n : ℕ) → list_all is_simple J ≡ true → is_simple (event.Commit (next_who J) (o ∷ [])) ≡ true
+    → is_within_rows (present J) ≡ true → meaning (trimmed text) false ≡ Ok (tree_of f w) → form_in (tree_of f w) ≡ Some f → is_change f ≡ true
+    → effect (tree_of f w) (present J) db 1 ≡ Ok (effect_of (o ∷ []) n)
+    → Answers first_machine without_cache 1 (stand J (state_in db) (length J)) (command.Query text) (line (length J + 1) word.Other (reply.Ok n 2)) (stand (J ++ event.Commit (next_who J) (o ∷ []) ∷ []) (state_in db) (length J + 1))
+changes J db text f w o n simple one within is formed c e =
+    let takes_it : takes (state_in db) J (command.Query text) ≡ true = rw is (form_taken J db (tree_of f w) f true formed (change_taken f w (present J) db o n c e)) in
+    let does : Executes without_cache (next_who J) (state_in db) (command.Query text) J (event.Commit (next_who J) (o ∷ [])) (reply.Ok n 2) (state_in db)
+    = rw is (tree_executes J db text f w o n c within e) in
+    taken J db db (command.Query text) (event.Commit (next_who J) (o ∷ [])) (reply.Ok n 2) simple one takes_it (local_none J db text f w is) does
 
-  pub selects : (J : Journal) (db : Name) (text column table : List ℕ) (r : Rows) → list_all is_simple J ≡ true
-      → form_of text ≡ Some (form.Select column table) → rows (select_tree column table 0) (present J) db first_flags 1 ≡ Ok r
-      → Answers first_machine without_cache 1 (stand J (state_in db) (length J)) (command.Query text) (line (length J + 1) word.Plain (rows_reply first_flags r)) (stand (J ++ event.Run (next_who J) (how.Plain reason.Off) ∷ []) (state_in db) (length J + 1))
-  selects J db text column table r simple is e =
-      let g = grammatical text (form.Select column table) is in
-      let here : rows (select_tree column table g.0) (present J) db first_flags 1 ≡ Ok r = place_is_free column table g.0 (present J) db ∙ e in
-      let takes_it : takes (state_in db) J (command.Query text) ≡ true = rw is (rw e refl) in
-      let does : Executes without_cache (next_who J) (state_in db) (command.Query text) J (event.Run (next_who J) (how.Plain reason.Off)) (rows_reply first_flags r) (state_in db)
-      = rw g.1 (select_executes J db text column table g.0 r here) in
-      taken J db db (command.Query text) (event.Run (next_who J) (how.Plain reason.Off)) (rows_reply first_flags r) simple refl takes_it (local_none J db text (form.Select column table) g.0 g.1) does
+pub selects : (J : Journal) (db : Name) (text column table : List ℕ) (w : Written) (r : Rows) → list_all is_simple J ≡ true
+    → meaning (trimmed text) false ≡ Ok (statement.Select (select_tree column table w)) → form_in (statement.Select (select_tree column table w)) ≡ Some (form.Select column table)
+    → rows (select_tree column table w) (present J) db first_flags 1 ≡ Ok r
+    → Answers first_machine without_cache 1 (stand J (state_in db) (length J)) (command.Query text) (line (length J + 1) word.Plain (rows_reply first_flags r)) (stand (J ++ event.Run (next_who J) (how.Plain reason.Off) ∷ []) (state_in db) (length J + 1))
+selects J db text column table w r simple is formed e =
+    let executed : is_executed (present J) db (statement.Select (select_tree column table w)) ≡ true = rw e refl in
+    let takes_it : takes (state_in db) J (command.Query text) ≡ true = rw is (form_taken J db (statement.Select (select_tree column table w)) (form.Select column table) true formed executed) in
+    let does : Executes without_cache (next_who J) (state_in db) (command.Query text) J (event.Run (next_who J) (how.Plain reason.Off)) (rows_reply first_flags r) (state_in db)
+    = rw is (select_executes J db text column table w r e) in
+    taken J db db (command.Query text) (event.Run (next_who J) (how.Plain reason.Off)) (rows_reply first_flags r) simple refl takes_it (local_none J db text (form.Select column table) w is) does
 
 pub uses : (J : Journal) (db name : Name) (ts : Tables) → list_all is_simple J ≡ true → tables_of name (present J) ≡ Some ts
     → Answers first_machine without_cache 1 (stand J (state_in db) (length J)) (command.InitDb name) (line (length J + 1) word.Other (reply.Ok 0 2)) (stand (J ++ event.Run (next_who J) how.Other ∷ []) (state_in name) (length J + 1))

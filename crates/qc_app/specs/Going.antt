@@ -1,12 +1,14 @@
 -- What the session's methods do.
-use Rattle.std.specs.Prelude.{◌≡◌, ℕ, true, List, [], ◌∷◌, ◌++◌, length, Some}
+use Rattle.std.specs.Prelude.{◌≡◌, ℕ, true, false, List, [], ◌∷◌, ◌++◌, length, Some, Ok}
 use Rattle.qc_sql.specs.declared.commands.Command.{Command}
 use Rattle.qc_sql.specs.declared.commands.Command.TheVariants as command
+use Rattle.qc_sql.specs.declared.statements.Statement.{Statement}
+use Rattle.qc_sql.specs.Grammar.{meaning, trimmed}
 use Rattle.qc_model.specs.declared.events.Event.{Event}
 use Rattle.qc_model.specs.declared.reports.ReportLine.{ReportLine}
 use Rattle.qc_sessions.specs.Runs.{Stand, stand, Answers, Runs}
-use Rattle.qc_parse.specs.declared.form.Form.{Form}
-use Rattle.qc_parse.specs.Forms.{form_of}
+use Rattle.qc_execute.specs.declared.form.Form.{Form}
+use Rattle.qc_execute.specs.Forms.{form_in}
 use Rattle.qc_execute.specs.Outcomes.{only_session}
 use Rattle.qc_app.specs.declared.session.Session.{Session}
 use Rattle.qc_app.specs.Words.{without_cache}
@@ -42,7 +44,7 @@ pub record DoesOne (c : Command) (old new : Session) : Type 0 where
 
 -- a query of a text of this form was answered
 abbrev pub DoesForm : Form → Session → Session → Type 0
-DoesForm f old new = (text : List ℕ) → form_of text ≡ Some f → DoesOne (command.Query text) old new
+DoesForm f old new = (text : List ℕ) (s : Statement) → meaning (trimmed text) false ≡ Ok s → form_in s ≡ Some f → DoesOne (command.Query text) old new
 
 -- the session has taken these commands
 pub record HasTaken (cs : List Command) (s : Session) : Type 0 where

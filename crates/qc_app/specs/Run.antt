@@ -1,5 +1,5 @@
 -- A session that runs by itself: what holds between two of its commands.
-use Rattle.std.specs.Prelude.{◌≡◌, ◌==◌, ◌+◌, codes, Bool, true, false, ◌&&◌, [], ◌∷◌, length, nat_le, None}
+use Rattle.std.specs.Prelude.{◌≡◌, ◌==◌, ◌+◌, ◌≤◌, codes, Bool, true, false, ◌&&◌, [], ◌∷◌, length, nat_le, None}
 use Rattle.std.specs.List.{list_all, AllByRecursion}
 use Rattle.qc_sql.specs.declared.tables.RowOp.{RowOp}
 use Rattle.qc_sql.specs.declared.tables.RowOp.TheVariants as op
@@ -10,8 +10,9 @@ use Rattle.qc_model.specs.declared.events.How.TheVariants as how
 use Rattle.qc_model.specs.declared.events.Reason.TheVariants as reason
 use Rattle.qc_sql.specs.declared.replies.Reply.{Reply}
 use Rattle.qc_sql.specs.Errors.{not_supported}
-use Rattle.qc_parse.specs.declared.form.Form.{Form}
-use Rattle.qc_parse.specs.declared.form.Form.TheVariants as form
+use Rattle.qc_sql.specs.Grammar.{ParseFault, Unsupported}
+use Rattle.qc_execute.specs.declared.form.Form.{Form}
+use Rattle.qc_execute.specs.declared.form.Form.TheVariants as form
 use Rattle.qc_model.specs.declared.events.Who.{Who}
 use Rattle.qc_model.specs.Machine.{refused}
 use Rattle.qc_model.specs.Agrees.{who_of}
@@ -74,6 +75,11 @@ next_who journal = who_of only_session (length journal + 1)
 
 abbrev pub form_refusal : Reply
 form_refusal = refused (not_supported (codes "form"))
+
+-- what isn't supported is said in at most 68 bytes
+abbrev pub IsTold : ParseFault → Type 0
+IsTold (Unsupported what) = length what ≤ 68
+IsTold _ = Unit {0}
 
 -- the names that a form has are short
 abbrev pub has_short_names : Form → Bool

@@ -1,8 +1,10 @@
 //! Runs a script.
 
-ghost use Rattle.std.specs.Prelude.{◌≡◌, ◌≢◌, true, IfOk};
+ghost use Rattle.std.specs.Prelude.{◌≡◌, ◌≢◌, ◌≤◌, true, length, IfOk};
 ghost use Rattle.std.specs.List.{list_all};
 ghost use Rattle.qc_sql.specs.declared.commands.CommandEnd.TheVariants as end;
+ghost use Rattle.qc_sql.specs.Commands.{command_payload};
+ghost use Rattle.qc_sql.specs.Packets.{most_payload};
 ghost use Rattle.qc_model.specs.Agrees as model;
 ghost use Rattle.qc_model.specs.Agrees.{Agrees};
 ghost use Rattle.qc_script.specs.ShortNames.{HasShortNames};
@@ -89,7 +91,8 @@ pub fn run_session(alloc: Global, input: &[u8]) -> Result<(Session, Ending), NoM
 
 /// Takes the next command from the front of an input, or says how the input ends, as it does by a Quit.
 fn next_command(alloc: Global, left: &mut &[u8]) -> Result<Command, Or<Ending>>
-    ensures { Advances result left.old.now left.new.now }
+    ensures next { Advances result left.old.now left.new.now }
+    ensures within { IfOk result (λ c. length (command_payload c) ≤ most_payload) }
 {
     let command = match read_command(alloc, left) {
         Ok(command) => command,

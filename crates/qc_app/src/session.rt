@@ -1,26 +1,29 @@
 //! A session that runs by itself, command by command.
 
-ghost use Rattle.std.specs.Prelude.{◌≡◌, ◌+◌, ◌≤◌, true, [], ◌∷◌, ◌++◌, length, IfOk, OnOk};
+ghost use Rattle.std.specs.Prelude.{◌≡◌, ◌+◌, ◌≤◌, ◌<◌, true, [], ◌∷◌, ◌++◌, length, IfOk, OnOk};
 ghost use Rattle.qc_sql.specs.declared.commands.Command.TheVariants as command;
 ghost use Rattle.qc_sql.specs.declared.replies.Reply.TheVariants as reply;
 ghost use Rattle.qc_model.specs.declared.events.Event.TheVariants as event;
 ghost use Rattle.qc_model.specs.declared.reports.Word.TheVariants as word;
 ghost use Rattle.qc_sql.specs.Database.{apply_one};
-ghost use Rattle.qc_sql.specs.Errors.{error_of, unknown_command};
-ghost use Rattle.qc_sql.specs.Packets.{packets};
+ghost use Rattle.qc_sql.specs.Commands.{command_payload};
+ghost use Rattle.qc_sql.specs.Errors.{error_of, unknown_command, syntax_error, not_supported};
+ghost use Rattle.qc_sql.specs.Packets.{packets, most_payload};
 ghost use Rattle.qc_model.specs.Agrees.{line};
-ghost use Rattle.qc_model.specs.Machine.{refused};
+ghost use Rattle.qc_model.specs.Machine.{refused, fault_error};
+ghost use Rattle.qc_parse.specs.Refusals.{as_meant};
 ghost use Rattle.qc_execute.specs.Outcomes.{MayApply};
-ghost use Rattle.qc_app.specs.Run.{has_short_names, next_who, form_refusal};
+ghost use Rattle.qc_app.specs.Run.{IsTold, has_short_names, next_who, form_refusal};
 
-use qc_execute::{Outcome, execute_form};
+use qc_execute::{Form, Outcome, execute_form, form_of};
+use qc_lex::trimmed;
 use qc_model::events::{Event, Events, How, Reason, Who};
 use qc_model::reports::{ReportLine, ReportLines, Word};
-use qc_parse::{Form, read_form};
+use qc_parse::{ParseRefusal, parse};
 use qc_sql::commands::Command;
 use qc_sql::tables::{Ops, RowOp};
 use qc_table::Database;
-use qc_types::{NoMemory, SqlError, Text};
+use qc_types::{NoMemory, Or, SqlError, Text};
 use qc_wire::{put_err, put_ok};
 use std::alloc::Global;
 
@@ -54,21 +57,35 @@ impl Session {
         })
     }
 
-    /// Answers one command: what it does to the database, its event and its line.
+    /// Answers one command, of a payload that one packet carries: what it does to the database, its event and its line.
     pub fn execute(&mut self, alloc: Global, command: &Command) -> Result<(), NoMemory>
-        requires { IsFit self.old }
+        requires fit { IsFit self.old }
+        requires within { length (command_payload command.now) ≤ most_payload }
         ensures { OnOk result (DoesOne command.now self.old self.new) }
     {
         match command {
-            Command::Query(text) => match read_form(alloc, text.bytes())? {
-                Some(form) => self.execute_form(alloc, &form),
-                None => self.refuse(alloc),
-            },
+            Command::Query(text) => self.query(alloc, text.bytes()),
             Command::InitDb(name) => self.use_db(alloc, name),
             Command::Ping => self.answer(ok_reply(alloc, 0)?),
             Command::Unknown(_) | Command::Empty => self.answer(unknown_reply(alloc)?),
             // It ends a session, and isn't answered.
             Command::Quit => self.refuse(alloc),
+        }
+    }
+
+    /// COM_QUERY: a statement of one of the four forms is carried out, another is refused, and what is no statement is answered so.
+    fn query(&mut self, alloc: Global, text: &[u8]) -> Result<(), NoMemory>
+        requires fit { IsFit self.old }
+        requires within { length text.now < most_payload }
+        ensures { OnOk result (DoesOne (command.Query text.now) self.old self.new) }
+    {
+        match parse(alloc, trimmed(text), false) {
+            Ok(statement) => match form_of(statement) {
+                Some(form) => self.execute_form(alloc, &form),
+                None => self.refuse(alloc),
+            },
+            Err(Or::Other(refusal)) => self.answer(fault_reply(alloc, &refusal)?),
+            Err(Or::Memory) => Err(NoMemory),
         }
     }
 
@@ -178,6 +195,35 @@ fn refusal_reply(alloc: Global) -> Result<Text, NoMemory>
     ensures { IfOk result (λ bytes. bytes ≡ packets form_refusal) }
 {
     error_reply(alloc, 1235, b"42000", b"Not supported: form")
+}
+
+/// The answer to a text that is no statement.
+fn fault_reply(alloc: Global, refusal: &ParseRefusal) -> Result<Text, NoMemory>
+    requires { IsTold (as_meant refusal.now) }
+    ensures { IfOk result (λ bytes. bytes ≡ packets (refused (fault_error (as_meant refusal.now)))) }
+{
+    match refusal {
+        ParseRefusal::Syntax(at) => syntax_reply(alloc, *at),
+        ParseRefusal::Unsupported(what) => unsupported_reply(alloc, what.bytes()),
+        ParseRefusal::TooManyTables => error_reply(alloc, 1116, b"HY000", b"Too many tables"),
+    }
+}
+
+fn syntax_reply(alloc: Global, at: u32) -> Result<Text, NoMemory>
+    ensures { IfOk result (λ bytes. bytes ≡ packets (refused (syntax_error at))) }
+{
+    let mut message = Text::of(alloc, b"Syntax error at byte ")?;
+    message.extend(at.to_string(alloc)?.as_bytes())?;
+    error_reply(alloc, 1064, b"42000", message.bytes())
+}
+
+fn unsupported_reply(alloc: Global, what: &[u8]) -> Result<Text, NoMemory>
+    requires { length what.now ≤ 68 }
+    ensures { IfOk result (λ bytes. bytes ≡ packets (refused (not_supported what.now))) }
+{
+    let mut message = Text::of(alloc, b"Not supported: ")?;
+    message.extend(what)?;
+    error_reply(alloc, 1235, b"42000", message.bytes())
 }
 
 /// The answer to a payload that is no command.

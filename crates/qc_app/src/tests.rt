@@ -347,6 +347,18 @@ fn answer_line(answer: &str) -> &'static str {
     } else if answer == "form" {
         // 1235, 42000, Not supported: form
         "0 local 1c000001ffd3042334323030304e6f7420737570706f727465643a20666f726d\n"
+    } else if answer == "syntax" {
+        // 1064, 42000, Syntax error at byte 0
+        "0 local 1f000001ff280423343230303053796e746178206572726f7220617420627974652030\n"
+    } else if answer == "end" {
+        // 1064, 42000, Syntax error at byte 14
+        "0 local 20000001ff280423343230303053796e746178206572726f722061742062797465203134\n"
+    } else if answer == "union" {
+        // 1235, 42000, Not supported: UNION
+        "0 local 1d000001ffd3042334323030304e6f7420737570706f727465643a20554e494f4e\n"
+    } else if answer == "tables" {
+        // 1116, HY000, Too many tables
+        "0 local 18000001ff5c04234859303030546f6f206d616e79207461626c6573\n"
     } else if answer == "created" {
         "1 other 0700000100010002000000\n"
     } else {
@@ -382,7 +394,7 @@ fn stream_report(
 fn streams_of_a_session(rt: HostRuntime) -> Result<(), Fail> {
     let alloc = rt.alloc();
     // what stands behind `session 1`, the answers, the ending, and whether a database is made
-    let rows: [(&str, &str, &str, bool); 24] = [
+    let rows: [(&str, &str, &str, bool); 31] = [
         ("raw ", "", "input", false),
         ("raw 01", "", "cut 1", false),
         ("raw 010000", "", "cut 3", false),
@@ -422,7 +434,24 @@ fn streams_of_a_session(rt: HostRuntime) -> Result<(), Fail> {
             "quit",
             true,
         ),
-        ("query x\nping", "form ping", "input", false),
+        ("query x\nping", "syntax ping", "input", false),
+        ("query SELEC 1", "syntax", "input", false),
+        ("query ", "syntax", "input", false),
+        ("query SELECT id FROM ; ", "end", "input", false),
+        ("query  SELECT id FROM", "end", "input", false),
+        (
+            "query SELECT a FROM t UNION SELECT b FROM t",
+            "union",
+            "input",
+            false,
+        ),
+        (
+            "query SELECT x FROM a, b, c, d, e, f, g, h, i",
+            "tables",
+            "input",
+            false,
+        ),
+        ("query SELECT 1\nping", "form ping", "input", false),
     ];
     for (lines, answers, ending, created) in rows {
         let script = format!(in alloc; "session 1\n{lines}")?;
@@ -465,7 +494,7 @@ fn commands_of_every_form(rt: HostRuntime) -> Result<(), Fail> {
     let longest = format!(in alloc; "query CREATE DATABASE {NAME_OF_64}")?;
     let too_long = format!(in alloc; "query CREATE DATABASE {NAME_OF_64}m")?;
     // what is sent after the start, and the answers to it
-    let rows: [(&[u8], &str); 39] = [
+    let rows: [(&[u8], &str); 43] = [
         (b"", ""),
         (b"query CREATE DATABASE e", "4 other, "),
         (b"query CREATE DATABASE e\n", "4 other, "),
@@ -479,8 +508,9 @@ fn commands_of_every_form(rt: HostRuntime) -> Result<(), Fail> {
         (b"query CREATE DATABASE E", "3 local, "),
         (b"query CREATE DATABASE e1", "3 local, "),
         (b"query CREATE DATABASE e\x80", "3 local, "),
-        (b"query create database e", "3 local, "),
-        (b"query CREATE DATABASE e;", "3 local, "),
+        (b"query create database e", "4 other, "),
+        (b"query CREATE DATABASE e;", "4 other, "),
+        (b"query  CREATE DATABASE `e` ; ", "4 other, "),
         (b"query CREATE TABLE u(id BIGINT PRIMARY KEY)", "4 other, "),
         (
             b"query CREATE  TABLE u  (  id BIGINT PRIMARY KEY  )",
@@ -518,7 +548,10 @@ fn commands_of_every_form(rt: HostRuntime) -> Result<(), Fail> {
             b"query SELECT id FROM t\nquery x\nquery SELECT id FROM t",
             "4 plain, 4 local, 5 plain, ",
         ),
-        (b"query SELECT\tid FROM t", "3 local, "),
+        (b"query SELECT\tid FROM t", "4 plain, "),
+        (b"query select `id` AS id from t t -- x", "4 plain, "),
+        (b"query SELECT id AS x FROM t", "3 local, "),
+        (b"query SELECT id FROM t WHERE id = 7", "3 local, "),
         (b"query ", "3 local, "),
         (b"query \xff\x80\0", "3 local, "),
         (b"init e\nquery SELECT id FROM t", "3 local, 4 plain, "),

@@ -1,6 +1,6 @@
 -- What the forms that change the database mean.
 use Rattle.std.proofs.Common.{◌≡◌, ℕ, ℤ, ◌+◌, ◌<◌, ◌≤◌, ◌==◌, Bool, true, false, [], ◌∷◌, length, refl, sym, ap, ◌∙◌, arith, Option, Result, Ok, Err, true≢false, Bor}
-use Rattle.std.specs.Prelude.{Some, None, is_some, is_none, is_ok, option_copied, not, nat_lt, option_and_then}
+use Rattle.std.specs.Prelude.{IfOk, Some, None, is_some, is_none, is_ok, option_copied, not, nat_lt, option_and_then}
 use Rattle.std.proofs.lemmas.Bool.Decides.{nat_tests}
 use Rattle.qc_types.specs.declared.names.TableName.{TableName}
 use Rattle.qc_types.specs.declared.sql_error.SqlError.{SqlError}
@@ -12,11 +12,13 @@ use Rattle.qc_sql.specs.Effects.{effect, has_key}
 use Rattle.qc_sql.specs.Errors.{unknown_database}
 use Rattle.qc_sql.specs.Rows.{◌>>=◌, refuse_if, found_table, Bound, bound_in}
 use Rattle.qc_sql.proofs.Untouched.{bytes_eq_self}
-use Rattle.qc_parse.specs.declared.form.Form.{Form}
-use Rattle.qc_parse.specs.declared.form.Form.TheVariants as form
+use Rattle.qc_execute.specs.declared.form.Form.{Form}
+use Rattle.qc_execute.specs.declared.form.Form.TheVariants as form
 use Rattle.qc_table.specs.Stored.{key_column}
+use Rattle.qc_execute.specs.declared.outcome.Outcome.{Outcome}
 use Rattle.qc_execute.specs.declared.outcome.Outcome.TheVariants as outcome
 use Rattle.qc_execute.specs.Outcomes.{IsOutcome, MayApply}
+use Rattle.qc_execute.proofs.Trees.{unwritten}
 
 -- a table of a database
 abbrev pub in_db : Name → Name → TableName
@@ -70,40 +72,40 @@ nowhere d t called named h = rw named (rw h (by (is_some (tables_of t.db d))))
 
 pub database_made : (d : Database) (db name : Name) → is_some (tables_of name d) ≡ false → IsOutcome d db (form.CreateDatabase name) (outcome.Changed (op.CreateDb name) 1)
 unfolding effect
-database_made d db name h = (rw h refl, record { taken = h; fits = none_where _ h; room = tt })
+database_made d db name h = λ w. (rw h refl, record { taken = h; fits = none_where _ h; room = tt })
 
 pub database_refused : (d : Database) (db name : Name) → is_some (tables_of name d) ≡ true → IsOutcome d db (form.CreateDatabase name) outcome.Refused
 unfolding effect
-database_refused d db name h = rw h refl
+database_refused d db name h = λ w. rw h refl
 
 -- ---- CREATE TABLE
 
 pub table_made : (d : Database) (db table column : Name) → (length db == 0) ≡ false → is_some (tables_of db d) ≡ true → is_some (table_of (in_db db table) d) ≡ false
     → IsOutcome d db (form.CreateTable table column) (outcome.Changed (op.CreateTable (in_db db table) (key_column column ∷ [])) 0)
 unfolding effect
-table_made d db table column named known new =
+table_made d db table column named known new = λ w.
     let there = not_none_where (tables_of db d) known in
     let none = none_where (table_of (in_db db table) d) new in
     (rw named (rw there (rw new refl)), record { taken = (known, is_nothing _ new, (column, refl)); fits = rw known (rw none refl); room = tt })
 
 pub table_unnamed : (d : Database) (db table column : Name) → (length db == 0) ≡ true → IsOutcome d db (form.CreateTable table column) outcome.Refused
 unfolding effect
-table_unnamed d db table column h = rw h refl
+table_unnamed d db table column h = λ w. rw h refl
 
 pub table_unknown : (d : Database) (db table column : Name) → (length db == 0) ≡ false → is_some (tables_of db d) ≡ false → IsOutcome d db (form.CreateTable table column) outcome.Refused
 unfolding effect
-table_unknown d db table column named h = let none = none_where (tables_of db d) h in rw named (rw none refl)
+table_unknown d db table column named h = λ w. let none = none_where (tables_of db d) h in rw named (rw none refl)
 
 pub table_there : (d : Database) (db table column : Name) → (length db == 0) ≡ false → is_some (tables_of db d) ≡ true → is_some (table_of (in_db db table) d) ≡ true → IsOutcome d db (form.CreateTable table column) outcome.Refused
 unfolding effect
-table_there d db table column named known h = let there = not_none_where (tables_of db d) known in rw named (rw there (rw h refl))
+table_there d db table column named known h = λ w. let there = not_none_where (tables_of db d) known in rw named (rw there (rw h refl))
 
 -- ---- INSERT
 
 pub row_put : (d : Database) (db table column : Name) (n : ℤ) (t : Table) → (length db == 0) ≡ false → table_of (in_db db table) d ≡ Some t → t.columns ≡ key_column column ∷ [] → has_key t n ≡ false → length t.rows < 1048576
     → IsOutcome d db (form.Insert table n) (outcome.Changed (op.Put (in_db db table) (value.Int n ∷ [])) 1)
 unfolding effect
-row_put d db table column n t named found columns new room =
+row_put d db table column n t named found columns new room = λ w.
     let known = database_of d (in_db db table) t found in
     let few : nat_lt 1048576 (length t.rows + 1) ≡ false = grind (arith, nat_tests) in (
       rw named (rw known (rw found (rw columns (rw (bytes_eq_self column) (rw new (rw few refl)))))),
@@ -112,32 +114,37 @@ row_put d db table column n t named found columns new room =
 
 pub row_unnamed : (d : Database) (db table : Name) (n : ℤ) → (length db == 0) ≡ true → IsOutcome d db (form.Insert table n) outcome.Refused
 unfolding effect
-row_unnamed d db table n h = rw h refl
+row_unnamed d db table n h = λ w. rw h refl
 
 pub row_nowhere : (d : Database) (db table : Name) (n : ℤ) → (length db == 0) ≡ false → table_of (in_db db table) d ≡ None → IsOutcome d db (form.Insert table n) outcome.Refused
 unfolding effect
-row_nowhere d db table n named h = refused_first _ _ (nowhere d (in_db db table) table named h)
+row_nowhere d db table n named h = λ w. refused_first _ _ (nowhere d (in_db db table) table named h)
 
 pub row_there : (d : Database) (db table column : Name) (n : ℤ) (t : Table) → (length db == 0) ≡ false → table_of (in_db db table) d ≡ Some t → t.columns ≡ key_column column ∷ [] → has_key t n ≡ true
     → IsOutcome d db (form.Insert table n) outcome.Refused
 unfolding effect
-row_there d db table column n t named found columns h =
+row_there d db table column n t named found columns h = λ w.
     let known = database_of d (in_db db table) t found in
     rw named (rw known (rw found (rw columns (rw (bytes_eq_self column) (rw h refl)))))
 
 pub row_without_room : (d : Database) (db table column : Name) (n : ℤ) (t : Table) → (length db == 0) ≡ false → table_of (in_db db table) d ≡ Some t → t.columns ≡ key_column column ∷ [] → has_key t n ≡ false → 1048576 ≤ length t.rows
     → IsOutcome d db (form.Insert table n) outcome.Refused
 unfolding effect
-row_without_room d db table column n t named found columns new full =
+row_without_room d db table column n t named found columns new full = λ w.
     let known = database_of d (in_db db table) t found in
     let many : nat_lt 1048576 (length t.rows + 1) ≡ true = grind (arith, nat_tests) in
     rw named (rw known (rw found (rw columns (rw (bytes_eq_self column) (rw new (rw many refl))))))
 
 -- ---- for callers
 
+-- what holds for each current database holds for one
+pub for_one : {E : Type 0} (d : Database) (db : Name) (f : Form) (r : Result Outcome E) → IfOk r (λ o. (n : Name) → IsOutcome d n f o) → IfOk r (IsOutcome d db f)
+for_one d db f (Ok o) h = h db
+for_one d db f (Err e) h = tt
+
 -- a change that a form makes may be applied
 pub may_apply : (d : Database) (db : Name) (f : Form) (o : RowOp) (affected : ℕ) → IsOutcome d db f (outcome.Changed o affected) → MayApply o d
-may_apply d db (form.CreateDatabase name) o affected h = h.1
-may_apply d db (form.CreateTable table column) o affected h = h.1
-may_apply d db (form.Insert table n) o affected h = h.1
-may_apply d db (form.Select column table) o affected h = absurd h
+may_apply d db (form.CreateDatabase name) o affected h = (h unwritten).1
+may_apply d db (form.CreateTable table column) o affected h = (h unwritten).1
+may_apply d db (form.Insert table n) o affected h = (h unwritten).1
+may_apply d db (form.Select column table) o affected h = absurd (h unwritten)

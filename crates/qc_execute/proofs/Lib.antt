@@ -3,3 +3,4 @@ pub mod Replies
 pub mod Selects
 pub mod Sizes
 pub mod Within
+pub mod Trees

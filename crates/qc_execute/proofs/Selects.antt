@@ -1,5 +1,5 @@
 -- What a select of the key column gives.
-use Rattle.std.proofs.Common.{◌≡◌, ℤ, ◌*◌, ◌≤◌, Bool, true, false, List, [], ◌∷◌, length, map, take, get_or, refl, sym, ap, ◌∙◌, arith, Ok, Result, ◌==◌}
+use Rattle.std.proofs.Common.{◌≡◌, ℕ, ℤ, ◌*◌, ◌≤◌, Bool, true, false, List, [], ◌∷◌, length, map, take, get_or, refl, sym, ap, ◌∙◌, arith, Ok, Result, ◌==◌}
 use Rattle.std.specs.Prelude.{is_ok, not, bytes_eq, Some, None, filter, nat_lt}
 use Rattle.qc_types.specs.declared.names.TableName.{TableName}
 use Rattle.qc_types.specs.declared.names.Value.{Value}
@@ -13,9 +13,9 @@ use Rattle.qc_sql.proofs.Untouched.{bytes_eq_self}
 use Rattle.qc_model.specs.Licence.{is_within_rows}
 use Rattle.qc_execute.proofs.Changes.{in_db, database_of, nowhere, refused_first}
 use Rattle.qc_execute.proofs.Within.{rows_within}
-use Rattle.qc_parse.specs.Laws.{select_tree}
+use Rattle.qc_execute.specs.Forms.{Written, select_tree}
 use Rattle.qc_table.specs.Stored.{key_row, key_column}
-use Rattle.qc_parse.specs.declared.form.Form.TheVariants as form
+use Rattle.qc_execute.specs.declared.form.Form.TheVariants as form
 use Rattle.qc_execute.specs.declared.outcome.Outcome.TheVariants as outcome
 use Rattle.qc_sql.specs.declared.replies.Reply.TheVariants as reply
 use Rattle.qc_sql.specs.Packets.{packets}
@@ -67,28 +67,40 @@ limited t column keys h =
     let e = length-map keys key_values in
     ap (λ cs. take 18446744073709551615 (rows_of cs)) (ordered t column keys) ∙ ap (take 18446744073709551615) (shown_rows keys) ∙ take_all 18446744073709551615 _ (omega arith)
 
-over : (t : TableName) (column : Name) (keys : List ℤ) → length keys ≤ 1048576
-    → rows_over (select_tree column t.name 0) t.db first_flags only_session (bound t column keys ∷ []) ≡ Ok (record { columns = key_def t column ∷ []; rows = map key_values keys })
+abbrev key_rows : TableName → Name → List ℤ → Result Rows SqlError
+key_rows t column keys = Ok (record { columns = key_def t column ∷ []; rows = map key_values keys })
+
+-- an item that has its column's name once more is the same column
+over_again : (t : TableName) (column : Name) (keys : List ℤ) (again : Bool) (from to : ℕ) (words : List ℕ) → length keys ≤ 1048576
+    → rows_over (select_tree column t.name (record { again = again; from = from; to = to; words = words })) t.db first_flags only_session (bound t column keys ∷ []) ≡ key_rows t column keys
 unfolding rows_over
-over t column keys h =
+over_again t column keys true from to words h =
+    let e = few keys h in
+    let answer : List (List Value) → Result Rows SqlError = λ rs. Ok (record { columns = key_def t column ∷ []; rows = rs }) in
+    rw (bytes_eq_self column) (rw e (ap answer (limited t column keys h)))
+over_again t column keys false from to words h =
     let e = few keys h in
     let answer : List (List Value) → Result Rows SqlError = λ rs. Ok (record { columns = key_def t column ∷ []; rows = rs }) in
     rw (bytes_eq_self column) (rw e (ap answer (limited t column keys h)))
 
-other : (t : TableName) (column m : Name) (table : Table) → length table.rows ≤ 1048576 → table.columns ≡ key_column m ∷ [] → bytes_eq m column ≡ false
-    → is_ok (rows_over (select_tree column t.name 0) t.db first_flags only_session (record { called = t.name; name = t; table = table } ∷ [])) ≡ false
+over : (t : TableName) (column : Name) (keys : List ℤ) (w : Written) → length keys ≤ 1048576
+    → rows_over (select_tree column t.name w) t.db first_flags only_session (bound t column keys ∷ []) ≡ key_rows t column keys
+over t column keys w h = over_again t column keys w.again w.from w.to w.words h
+
+other : (t : TableName) (column m : Name) (table : Table) (w : Written) → length table.rows ≤ 1048576 → table.columns ≡ key_column m ∷ [] → bytes_eq m column ≡ false
+    → is_ok (rows_over (select_tree column t.name w) t.db first_flags only_session (record { called = t.name; name = t; table = table } ∷ [])) ≡ false
 unfolding rows_over
-other t column m table few_rows columns differs =
+other t column m table w few_rows columns differs =
     let e : nat_lt 1099511627776 (length table.rows * 1) ≡ false = grind (arith, nat_tests) in
     rw e (rw columns (rw differs refl))
 
 -- ---- the table of FROM
 
 -- a select of a table that is there
-there : (d : Database) (db column name : Name) (table : Table) → (length db == 0) ≡ false → table_of (in_db db name) d ≡ Some table
-    → rows (select_tree column name 0) d db first_flags only_session ≡ rows_over (select_tree column name 0) db first_flags only_session (record { called = name; name = record { db = db; name = name }; table = table } ∷ [])
+there : (d : Database) (db column name : Name) (table : Table) (w : Written) → (length db == 0) ≡ false → table_of (in_db db name) d ≡ Some table
+    → rows (select_tree column name w) d db first_flags only_session ≡ rows_over (select_tree column name w) db first_flags only_session (record { called = name; name = record { db = db; name = name }; table = table } ∷ [])
 unfolding rows
-there d db column name table named found =
+there d db column name table w named found =
     let e = database_of d (in_db db name) table found in
     rw named (rw e (rw found refl))
 
@@ -115,10 +127,10 @@ texts_are (k ∷ ks) = ap (λ rest. key_texts k ∷ rest) (texts_are ks)
 
 selected_column : (d : Database) (db name column : Name) (keys : List ℤ) → is_within_rows d ≡ true → (length db == 0) ≡ false → table_of (in_db db name) d ≡ Some (key_table column keys)
     → IsOutcome d db (form.Select column name) (outcome.Rows (packets (keys_reply (key_def (in_db db name) column) keys)))
-selected_column d db name column keys within named found =
+selected_column d db name column keys within named found = λ w.
     let few_keys = number_of_keys d (in_db db name) column keys within found in (
       record { columns = key_def (in_db db name) column ∷ []; rows = map key_values keys },
-      there d db column name (key_table column keys) named found ∙ over (in_db db name) column keys few_keys,
+      there d db column name (key_table column keys) w named found ∙ over (in_db db name) column keys w few_keys,
       ap (λ texts. packets (reply.Rows (key_def (in_db db name) column ∷ []) texts idle_status)) (sym (texts_are keys)),
     )
 
@@ -132,13 +144,13 @@ selected d db name column m table keys within named found columns keys_are same 
 
 pub column_unknown : (d : Database) (db name column m : Name) (table : Table) → is_within_rows d ≡ true → (length db == 0) ≡ false → table_of (in_db db name) d ≡ Some table
     → table.columns ≡ key_column m ∷ [] → bytes_eq m column ≡ false → IsOutcome d db (form.Select column name) outcome.Refused
-column_unknown d db name column m table within named found columns differs =
-    ap is_ok (there d db column name table named found) ∙ other (in_db db name) column m table (rows_within d (in_db db name) table within found) columns differs
+column_unknown d db name column m table within named found columns differs = λ w.
+    ap is_ok (there d db column name table w named found) ∙ other (in_db db name) column m table w (rows_within d (in_db db name) table within found) columns differs
 
 pub select_unnamed : (d : Database) (db name column : Name) → (length db == 0) ≡ true → IsOutcome d db (form.Select column name) outcome.Refused
 unfolding rows
-select_unnamed d db name column h = rw h refl
+select_unnamed d db name column h = λ w. rw h refl
 
 pub select_nowhere : (d : Database) (db name column : Name) → (length db == 0) ≡ false → table_of (in_db db name) d ≡ None → IsOutcome d db (form.Select column name) outcome.Refused
 unfolding rows
-select_nowhere d db name column named h = refused_first _ _ (refused_first _ _ (nowhere d (in_db db name) name named h))
+select_nowhere d db name column named h = λ w. refused_first _ _ (refused_first _ _ (nowhere d (in_db db name) name named h))

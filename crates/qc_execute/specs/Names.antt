@@ -1,8 +1,8 @@
 -- Names as sessions and statements have them.
 use Rattle.std.specs.Prelude.{◌≤◌, length}
 use Rattle.qc_sql.specs.Database.{Name}
-use Rattle.qc_parse.specs.declared.form.Form.{Form}
-use Rattle.qc_parse.specs.declared.form.Form.TheVariants as form
+use Rattle.qc_execute.specs.declared.form.Form.{Form}
+use Rattle.qc_execute.specs.declared.form.Form.TheVariants as form
 
 -- at most 64 bytes
 abbrev pub IsShort : Name → Type 0

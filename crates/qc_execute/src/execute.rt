@@ -1,16 +1,16 @@
 //! Each form is carried out on the database that it is given, which no form changes by itself.
 
 ghost use Rattle.std.specs.Prelude.{◌≡◌, ◌∷◌, [], true, IfOk};
-ghost use Rattle.qc_parse.specs.declared.form.Form.TheVariants as form;
+ghost use Rattle.qc_execute.specs.declared.form.Form.TheVariants as form;
 ghost use Rattle.qc_model.specs.Licence.{is_within_rows};
 ghost use Rattle.qc_sql.specs.Database.{Name};
 ghost use Rattle.qc_table.specs.Stored.{key_column};
 ghost use Rattle.qc_execute.specs.Names.{HasShortNames};
 ghost use Rattle.qc_execute.specs.Outcomes.{IsOutcome};
 
+use crate::form::Form;
 use crate::outcome::Outcome;
 use crate::reply::{definition, reply_of_keys};
-use qc_parse::Form;
 use qc_sql::tables::{Column, Columns, Kind, RowOp, StoredRow};
 use qc_table::Database;
 use qc_types::{NoMemory, OwnedList, TableName, Text, Value};
@@ -40,7 +40,6 @@ pub fn execute_form(
     }
 }
 
-#[tactic(auto, using(crate::proofs::Changes::database_made))]
 fn create_database(alloc: Global, database: &Database, name: &Text) -> Result<Outcome, NoMemory>
     ensures { IfOk result (λ o. (db : Name) → IsOutcome database.now db (form.CreateDatabase name.now) o) }
 {

@@ -5,11 +5,14 @@ ghost use Rattle.qc_table.specs.Stored.{IsTaken};
 ghost use Rattle.qc_execute.specs.Names.{HasShortNames};
 ghost use Rattle.qc_execute.specs.Sizes.{is_within};
 
-use crate::{Outcome, execute_form};
-use qc_parse::Form;
+use crate::{Form, Outcome, execute_form, form_of};
+use qc_sql::statements::{
+    ColumnName, Expr, Head, Insert, Item, Items, Part, PartKind, Parts, Select, Source, Sources,
+    Statement, TableRef,
+};
 use qc_sql::tables::RowOp;
 use qc_table::Database;
-use qc_types::{NoMemory, Text};
+use qc_types::{NoMemory, OwnedList, Text, Value};
 use std::alloc::{AllocError, Global};
 use std::process::Abort;
 use std::test::Fail;
@@ -62,7 +65,7 @@ fn text_of(alloc: Global, name: &str) -> Result<Text, NoMemory> {
     Text::of(alloc, name.as_bytes())
 }
 
-fn form_of(alloc: Global, case: Case<'_>) -> Result<Form, NoMemory> {
+fn made(alloc: Global, case: Case<'_>) -> Result<Form, NoMemory> {
     match case {
         Case::CreateDatabase(name) => Ok(Form::CreateDatabase {
             name: text_of(alloc, name)?,
@@ -99,7 +102,7 @@ fn has_short_names(db: &[u8], form: &Form) -> bool
 }
 
 /// Gives the server a form, and carries out what it changes.
-#[tactic(auto, using(crate::proofs::Sizes::within_rows, crate::proofs::Changes::may_apply))]
+#[tactic(auto, using(crate::proofs::Sizes::within_rows))]
 fn step(
     rt: &impl Abort,
     alloc: Global,
@@ -108,7 +111,7 @@ fn step(
     case: Case<'_>,
 ) -> Result<Outcome, NoMemory> {
     let db = db.as_bytes();
-    let form = form_of(alloc, case)?;
+    let form = made(alloc, case)?;
     assert!(rt; has_short_names(db, &form));
     assert!(rt; server.rows <= MOST_ROWS);
     let outcome = execute_form(alloc, &server.database, db, &form)?;
@@ -250,5 +253,187 @@ fn numbers_the_packets(rt: HostRuntime) -> Result<(), Fail> {
         assert_eq!(rt; packet.1.get(1..), Some(key.as_bytes()), "at row {row}");
     }
     assert!(rt; reply.bytes().ends_with(b"\x05\0\0\x30\xfe\0\0\x02\0"));
+    Ok(())
+}
+
+fn plain_table(alloc: Global, name: &str) -> Result<TableRef, NoMemory> {
+    Ok(TableRef {
+        db: None,
+        name: text_of(alloc, name)?,
+    })
+}
+
+/// CREATE TABLE of one column.
+fn table_of(
+    alloc: Global,
+    table: &str,
+    column: &str,
+    kind: PartKind,
+    primary: bool,
+) -> Result<Statement, NoMemory> {
+    let mut parts = Parts::new(alloc);
+    parts.push(Part::Column {
+        name: text_of(alloc, column)?,
+        kind,
+        not_null: false,
+        primary,
+    })?;
+    Ok(Statement::CreateTable(plain_table(alloc, table)?, parts))
+}
+
+/// INSERT of a row of these numbers.
+fn row_of(alloc: Global, table: &str, numbers: &[i64]) -> Result<Statement, NoMemory> {
+    let mut row = OwnedList::new(alloc);
+    for number in numbers {
+        row.push(Value::Int(*number))?;
+    }
+    let mut rows = OwnedList::new(alloc);
+    rows.push(row)?;
+    Ok(Statement::Insert(Insert {
+        table: plain_table(alloc, table)?,
+        names: None,
+        rows,
+    }))
+}
+
+/// SELECT of a column, with an alias or none, from a table under a name.
+fn select_of(
+    alloc: Global,
+    column: &str,
+    alias: Option<&str>,
+    table: &str,
+    called: &str,
+    lock: bool,
+) -> Result<Statement, NoMemory> {
+    let name = match alias {
+        Some(alias) => Some(text_of(alloc, alias)?),
+        None => None,
+    };
+    let mut items = Items::new(alloc);
+    items.push(Item {
+        value: Expr::Column(ColumnName {
+            source: None,
+            name: text_of(alloc, column)?,
+        }),
+        name,
+        from: 7,
+        to: 9,
+        words: text_of(alloc, column)?,
+    })?;
+    let mut from = Sources::new(alloc);
+    from.push(Source {
+        table: plain_table(alloc, table)?,
+        name: text_of(alloc, called)?,
+    })?;
+    Ok(Statement::Select(Select {
+        cache: Head::Bare,
+        star: false,
+        items,
+        from,
+        cond: None,
+        order: OwnedList::new(alloc),
+        limit: None,
+        lock,
+    }))
+}
+
+/// The form of a statement, in words.
+fn form_told(alloc: Global, statement: Statement) -> Result<Text, NoMemory> {
+    let mut told = Text::of(alloc, &[])?;
+    match form_of(statement) {
+        None => told.extend(b"none")?,
+        Some(Form::CreateDatabase { name }) => {
+            told.extend(b"database ")?;
+            told.extend(name.bytes())?;
+        }
+        Some(Form::CreateTable { table, column }) => {
+            told.extend(b"table ")?;
+            told.extend(table.bytes())?;
+            told.extend(b" ")?;
+            told.extend(column.bytes())?;
+        }
+        Some(Form::Insert { table, value }) => {
+            let number = format!(in alloc; " {value}")?;
+            told.extend(b"row ")?;
+            told.extend(table.bytes())?;
+            told.extend(number.as_bytes())?;
+        }
+        Some(Form::Select { column, table }) => {
+            told.extend(b"column ")?;
+            told.extend(column.bytes())?;
+            told.extend(b" ")?;
+            told.extend(table.bytes())?;
+        }
+    }
+    Ok(told)
+}
+
+// 64 letters
+const LONGEST: &str = "abcdefghijklmnopqrstuvwxyzabcdefghijklmnopqrstuvwxyzabcdefghijkl";
+
+#[test]
+fn forms_of_databases_and_tables(rt: HostRuntime) -> Result<(), Fail> {
+    let alloc = rt.alloc();
+    for (name, wanted) in [
+        ("d", "database d"),
+        ("az", "database az"),
+        (
+            LONGEST,
+            "database abcdefghijklmnopqrstuvwxyzabcdefghijklmnopqrstuvwxyzabcdefghijkl",
+        ),
+        (
+            "abcdefghijklmnopqrstuvwxyzabcdefghijklmnopqrstuvwxyzabcdefghijklm",
+            "none",
+        ),
+        ("", "none"),
+        ("D", "none"),
+        ("d1", "none"),
+        ("a`b", "none"),
+        ("a{b", "none"),
+    ] {
+        let told = form_told(alloc, Statement::CreateDb(text_of(alloc, name)?))?;
+        assert_eq!(rt; told.bytes(), wanted.as_bytes());
+    }
+    for (table, column, kind, primary, wanted) in [
+        ("t", "id", PartKind::BigInt, true, "table t id"),
+        ("t", "id", PartKind::BigInt, false, "none"),
+        ("t", "id", PartKind::VarChar(9), true, "none"),
+        ("T", "id", PartKind::BigInt, true, "none"),
+        ("t", "i_d", PartKind::BigInt, true, "none"),
+    ] {
+        let told = form_told(alloc, table_of(alloc, table, column, kind, primary)?)?;
+        assert_eq!(rt; told.bytes(), wanted.as_bytes());
+    }
+    let dropped = form_told(alloc, Statement::DropDb(text_of(alloc, "d")?))?;
+    assert_eq!(rt; dropped.bytes(), b"none".as_slice());
+    Ok(())
+}
+
+#[test]
+fn forms_of_rows(rt: HostRuntime) -> Result<(), Fail> {
+    let alloc = rt.alloc();
+    let rows: [(&[i64], &str); 7] = [
+        (&[7], "row t 7"),
+        (&[0], "row t 0"),
+        (&[-1], "none"),
+        (&[999_999_999_999_999_999], "row t 999999999999999999"),
+        (&[1_000_000_000_000_000_000], "none"),
+        (&[], "none"),
+        (&[7, 8], "none"),
+    ];
+    for (numbers, wanted) in rows {
+        let told = form_told(alloc, row_of(alloc, "t", numbers)?)?;
+        assert_eq!(rt; told.bytes(), wanted.as_bytes());
+    }
+    for (alias, called, lock, wanted) in [
+        (None, "t", false, "column id t"),
+        (Some("id"), "t", false, "column id t"),
+        (Some("other"), "t", false, "none"),
+        (None, "u", false, "none"),
+        (None, "t", true, "none"),
+    ] {
+        let told = form_told(alloc, select_of(alloc, "id", alias, "t", called, lock)?)?;
+        assert_eq!(rt; told.bytes(), wanted.as_bytes());
+    }
     Ok(())
 }
