@@ -1,0 +1,9 @@
+pub mod Tiles
+pub mod Kept
+pub mod Cells
+pub mod Sizes
+pub mod Settled
+pub mod Ready
+pub mod Trees
+pub mod TreeFalls
+pub mod Crowded

@@ -1,0 +1,9 @@
+//! Laws of tilings.
+
+ghost use Rattle.qc_tiles.specs.Crowded.{BoundsRegion};
+
+/// A law, with no code: with at most b blocks handed out, of at most M words each, and every free block smaller than M, a region has fewer than (2b + 1) M
+/// words. Where no free block holds a need, it follows that the region is crowded: between any two free blocks stands one that is handed out.
+pub fn small_blocks_crowd()
+    ensures { BoundsRegion }
+{}

@@ -1,0 +1,20 @@
+//! The cache's memory: words in blocks, of which some are free and the others handed out.
+#![tactic(auto)]
+
+mod blocks;
+mod free_index;
+mod laws;
+mod places;
+mod plain;
+mod settle;
+#[cfg(test)]
+mod tests;
+mod tiles;
+mod tree;
+mod walk;
+
+pub use blocks::{Block, Move, NoTile, Tile};
+pub use laws::small_blocks_crowd;
+pub use plain::PlainTiles;
+pub use qc_types::Totals;
+pub use tiles::Tiles;
