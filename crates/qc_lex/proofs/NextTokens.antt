@@ -1,7 +1,7 @@
 -- The next token, by what stands in front.
-use Rattle.std.proofs.Common.{◌≡◌, ℕ, ◌+◌, ◌-◌, Bool, List, [], length, take, drop, Some, None, refl, sym, ap, ◌∙◌}
+use Rattle.std.proofs.Common.{◌≡◌, ℕ, ◌+◌, ◌-◌, ◌≤◌, Bool, List, [], length, take, drop, Some, None, refl, sym, ap, ◌∙◌, subst, arith}
 use Rattle.std.specs.Prelude.{unwrap_or}
-use Rattle.std.proofs.lemmas.List.{take_rest}
+use Rattle.std.proofs.lemmas.List.{take_rest, drop-drop}
 use Rattle.qc_sql.specs.Tokens.{Front, Lexed, LexFault, front, goes_on, with_token}
 use Rattle.qc_sql.specs.Tokens as meaning
 use Rattle.qc_lex.specs.declared.token.TokenKind.{TokenKind}
@@ -10,7 +10,8 @@ use Rattle.qc_lex.specs.declared.front.Fault.TheVariants as lent
 use Rattle.qc_lex.specs.Seen.{kind_of, refusal_of}
 use Rattle.qc_lex.specs.Fronts.{Shown, Ends, Skips, Gives, Faults, shown, fault_of}
 use Rattle.qc_lex.specs.Laws.{Means}
-use Rattle.qc_lex.specs.Ahead.{lexeme_of, fault}
+use Rattle.qc_lex.specs.declared.ahead.Lexeme as lent_as
+use Rattle.qc_lex.specs.Ahead.{lexeme_of, fault, IsLent}
 use Rattle.qc_lex.proofs.Meanings.{Reads, front_reads}
 use Rattle.qc_lex.proofs.LexLoop.{lexed_at, lexed_first}
 
@@ -69,3 +70,18 @@ module _ (ansi : Bool) (at : ℕ) (text : List ℕ) where
       same lent.TextTooLong = refl
       same lent.LongName = refl
       same lent.Executable = refl
+
+-- ---- where the bytes stand
+
+pub from_front : (at : ℕ) (text : List ℕ) → text ≡ drop (at - at) text
+from_front at text = let none : at - at ≡ 0 = omega arith in rw none refl
+
+pub farther : (at start k : ℕ) (text rest : List ℕ) → start ≤ at → rest ≡ drop (at - start) text → take (length rest - k) (drop k rest) ≡ drop ((at + k) - start) text
+farther at start k text rest on e =
+    let on_by : (at + k) - start ≡ (at - start) + k = omega (arith, on) in
+    take_rest rest k ∙ ap (drop k) e ∙ drop-drop k (at - start) text ∙ ap (λ n. drop n text) (sym on_by)
+
+pub lends : (at start k : ℕ) (text rest : List ℕ) → rest ≡ drop (at - start) text → (what : lent_as.Lexeme) → IsLent what (take k rest) → IsLent what (take ((at + k) - at) (drop (at - start) text))
+lends at start k text rest e what h =
+    let bytes : (at + k) - at ≡ k = omega arith in
+    rw bytes (subst (λ xs. IsLent what (take k xs)) e h)

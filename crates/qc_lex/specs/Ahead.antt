@@ -1,5 +1,5 @@
 -- Tokens one after another, each with its bytes.
-use Rattle.std.specs.Prelude.{ℕ, ◌+◌, true, false, List, [], length, Some, None, unwrap_or}
+use Rattle.std.specs.Prelude.{◌≡◌, ℕ, ◌+◌, ◌-◌, ◌≤◌, Bool, true, false, List, [], length, take, drop, Some, None, unwrap_or}
 use Rattle.qc_sql.specs.Tokens.{Word, Quoted, Words, Digits, Sign, LexFault, BadByte, OpenQuote, OpenComment, NumberTooLarge, TextTooLong, LongName, Executable, Lexed, with_token, lexed_from, number_from}
 use Rattle.qc_sql.specs.Tokens as meaning
 use Rattle.qc_lex.specs.declared.token.TokenKind.{TokenKind}
@@ -56,3 +56,26 @@ abbrev pub with_ahead : Ahead → Lexed → Lexed
 with_ahead (ahead.Token what from to) later = with_token (record { what = said what; from = from; to = to }) later
 with_ahead ahead.End later = ([], None)
 with_ahead (ahead.Refused r) later = ([], Some (fault r))
+
+-- what a token lends are these bytes
+abbrev pub IsLent : Lexeme → List ℕ → Type 0
+IsLent (lexeme.Word lent) bytes = lent.now ≡ bytes
+IsLent (lexeme.QuotedName lent) bytes = lent.now ≡ bytes
+IsLent (lexeme.Text lent) bytes = lent.now ≡ bytes
+IsLent (lexeme.Number n) bytes = Unit {0}
+IsLent (lexeme.Sign lent) bytes = lent.now ≡ bytes
+
+-- a token that stands next lends the bytes of its span, which is not in front of the lexer
+abbrev pub HasBytes : Ahead → Lexer → Type 0
+HasBytes (ahead.Token what from to) l = (l.at ≤ from) × IsLent what (take (to - from) (drop (from - l.at) l.rest.now))
+HasBytes _ l = Unit {0}
+
+-- at the front of a text, with ANSI quotes on or off
+abbrev pub IsAtFront : List ℕ → Bool → Lexer → Type 0
+IsAtFront text ansi l = (l.ansi ≡ ansi) × (l.at ≡ 0) × (l.rest.now ≡ text)
+
+-- the lexer goes behind the token that it takes, and stays where it is where it takes none
+abbrev pub GoesBehind : Ahead → Lexer → Lexer → Type 0
+GoesBehind (ahead.Token what from to) old new = (new.ansi ≡ old.ansi) × (new.at ≡ to) × (new.rest.now ≡ drop (to - old.at) old.rest.now)
+GoesBehind ahead.End old new = new ≡ old
+GoesBehind (ahead.Refused r) old new = new ≡ old

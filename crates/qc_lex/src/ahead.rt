@@ -2,7 +2,7 @@
 
 ghost use Rattle.std.specs.Prelude.{◌≡◌, ◌<◌, ◌^◌, length};
 ghost use Rattle.qc_sql.specs.Tokens.{lexed};
-ghost use Rattle.qc_lex.specs.Ahead.{said, left, with_ahead, lexeme_of};
+ghost use Rattle.qc_lex.specs.Ahead.{said, left, with_ahead, IsAtFront, GoesBehind, HasBytes, IsLent, lexeme_of};
 
 use crate::front::{Front, front_of};
 use crate::number::number_value;
@@ -44,7 +44,8 @@ impl<'a> Lexer<'a> {
     #[tactic(auto, unfolding(qc_sql::specs::Tokens::lexed))]
     pub fn new(text: &'a [u8], ansi: bool) -> Lexer<'a>
         requires { length text.now < 2 ^ 32 }
-        ensures { left result ≡ lexed text.now ansi }
+        ensures ahead { left result ≡ lexed text.now ansi }
+        ensures stands { IsAtFront text.now ansi result }
     {
         Lexer {
             ansi,
@@ -53,10 +54,12 @@ impl<'a> Lexer<'a> {
         }
     }
 
-    /// Takes the next token. At the end, or where a byte begins no token, the lexer stays where it is.
+    /// Takes the next token, and stands behind it then. At the end, or where a byte begins no token, the lexer stays where it is.
     /// Linear in the bytes up to the end of the token; all tokens of a text together are linear in the text.
     pub fn next(&mut self) -> Ahead<'a>
-        ensures { left self.old ≡ with_ahead result (left self.new) }
+        ensures ahead { left self.old ≡ with_ahead result (left self.new) }
+        ensures bytes { HasBytes result self.old }
+        ensures stands { GoesBehind result self.old self.new }
     {
         let ansi = self.ansi;
         let mut at = self.at;
@@ -87,7 +90,8 @@ impl<'a> Lexer<'a> {
 
 /// What a token of this kind is. Linear in its bytes.
 fn said_by(kind: TokenKind, bytes: &[u8]) -> Lexeme<'_>
-    ensures { said result ≡ lexeme_of kind bytes.now }
+    ensures says { said result ≡ lexeme_of kind bytes.now }
+    ensures lent { IsLent result bytes.now }
 {
     match kind {
         TokenKind::Word => Lexeme::Word(bytes),

@@ -2,8 +2,8 @@
 
 use crate::TokenKind::{Number, QuotedName, Sign, Text, Word};
 use crate::{
-    Head, LexRefusal, Token, TokenKind, Tokens, head, number_value, quoted_name, quoted_text,
-    token_bytes, tokens, trimmed,
+    Ahead, Head, LexRefusal, Lexeme, Lexer, Token, TokenKind, Tokens, head, is_same_word,
+    number_value, quoted_name, quoted_text, token_bytes, tokens, trimmed,
 };
 use qc_types::{NoMemory, Or};
 use std::alloc::Global;
@@ -283,6 +283,55 @@ fn refusals_and_places(rt: HostRuntime) {
     ];
     let found = misjudged(rt.alloc(), &rows);
     assert!(rt; found.is_none(), "{found:?} isn't refused so");
+}
+
+/// What a token lends: its bytes, or the value of digits.
+fn is_lent(what: Lexeme<'_>, kind: TokenKind, bytes: &[u8]) -> bool {
+    match what {
+        Lexeme::Word(lent) => kind == Word && lent == bytes,
+        Lexeme::QuotedName(lent) => kind == QuotedName && lent == bytes,
+        Lexeme::Text(lent) => kind == Text && lent == bytes,
+        Lexeme::Number(value) => kind == Number && number_value(bytes) == Some(value),
+        Lexeme::Sign(lent) => kind == Sign && lent == bytes,
+    }
+}
+
+/// Whether this token is next.
+fn is_next(lexer: &mut Lexer<'_>, kind: TokenKind, bytes: &[u8], span: (u32, u32)) -> bool {
+    match lexer.next() {
+        Ahead::Token { what, from, to } => is_lent(what, kind, bytes) && (from, to) == span,
+        _ => false,
+    }
+}
+
+/// Whether this refusal is next, or the end.
+fn is_last(lexer: &mut Lexer<'_>, refusal: Option<LexRefusal>) -> bool {
+    match lexer.next() {
+        Ahead::Token { .. } => false,
+        Ahead::End => refusal.is_none(),
+        Ahead::Refused(found) => refusal == Some(found),
+    }
+}
+
+#[test]
+fn tokens_one_by_one(rt: HostRuntime) {
+    let mut plain = Lexer::new(b" a$ /* ' */ `b``c`\t'it\\'s' 07<=\"d\" @ e", PLAIN);
+    assert!(rt; is_next(&mut plain, Word, b"a$", (1, 3)));
+    assert!(rt; is_next(&mut plain, QuotedName, b"`b``c`", (12, 18)));
+    assert!(rt; is_next(&mut plain, Text, b"'it\\'s'", (19, 26)));
+    assert!(rt; is_next(&mut plain, Number, b"07", (27, 29)));
+    assert!(rt; is_next(&mut plain, Sign, b"<=", (29, 31)));
+    assert!(rt; is_next(&mut plain, Text, b"\"d\"", (31, 34)));
+    assert!(rt; is_last(&mut plain, Some(LexRefusal::BadByte(35))));
+    assert!(rt; is_last(&mut plain, Some(LexRefusal::BadByte(35))));
+    let mut ansi = Lexer::new(b"SELECT\"d\" # '", ANSI);
+    assert!(rt; is_next(&mut ansi, Word, b"SELECT", (0, 6)));
+    assert!(rt; is_next(&mut ansi, QuotedName, b"\"d\"", (6, 9)));
+    assert!(rt; is_last(&mut ansi, None));
+    assert!(rt; is_last(&mut ansi, None));
+    assert!(rt; is_same_word(b"Sql_Cache", b"sQL_cACHE"));
+    assert!(rt; !is_same_word(b"SQL_CACHE", b"SQL_CACHES"));
+    assert!(rt; !is_same_word(b"\xc3\x84", b"\xc3\xa4"));
 }
 
 /// A front, so many pieces, and an end.

@@ -3,8 +3,7 @@ use Rattle.std.proofs.Common.{◌≡◌, ℕ, zero, suc, ◌≤◌, Bool, true, 
 use Rattle.std.specs.Prelude.{codes}
 use Rattle.qc_sql.specs.Tokens.{Lexeme, Token}
 use Rattle.qc_sql.specs.Reading.{Unread, Stop, Reader, pure, then_read, ◌>>=◌, token_is, next_is, next, is_sign, at_most, many}
-use Rattle.qc_parse.specs.Cursors.{Shortens}
-use Rattle.qc_parse.specs.Shorter.{Takes, reads_take, takes_then}
+use Rattle.qc_parse.specs.Shorter.{Shortens, Takes, reads_take, takes_then}
 
 -- nothing passes where nothing is next
 none_passes : (f : Lexeme → Bool) (ts : List Token) → length ts ≤ 0 → token_is f ts ≡ false

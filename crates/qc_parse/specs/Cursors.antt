@@ -1,10 +1,10 @@
 -- Where a cursor stands, and what the calls that read from it answer.
-use Rattle.std.specs.Prelude.{◌≡◌, ℕ, ◌≤◌, List, [], ◌∷◌, length, Result, Ok, Err}
+use Rattle.std.specs.Prelude.{◌≡◌, ℕ, List, [], ◌∷◌, Result, Ok, Err}
 use Rattle.qc_types.specs.declared.memory.NoMemory.{NoMemory}
 use Rattle.qc_types.specs.declared.memory.Or.{Or}
 use Rattle.qc_types.specs.declared.memory.Or.TheVariants as or
 use Rattle.qc_sql.specs.Tokens.{Token}
-use Rattle.qc_sql.specs.Reading.{Unread, Reader, past, Stop, Before, Refused, Unsupported, TooManyTables}
+use Rattle.qc_sql.specs.Reading.{Unread, past, Stop, Before, Refused, Unsupported, TooManyTables}
 use Rattle.qc_lex.specs.Ahead.{left, with_ahead}
 use Rattle.qc_parse.specs.declared.cursor.Cursor.{Cursor}
 use Rattle.qc_parse.specs.declared.halt.Halt.{Halt}
@@ -47,15 +47,6 @@ abbrev pub Reads : {X Y : Type 0} → (X → Y) → Result X (Or Halt) → Unrea
 Reads view (Ok x) u read = read ≡ Ok (view x, u)
 Reads view (Err or.Memory) u read = Unit {0}
 Reads view (Err (or.Other why)) u read = read ≡ Err (stopped why u)
-
--- what is left has at most so many tokens
-abbrev pub Within : {A : Type 0} → ℕ → Result (A × Unread) Stop → Type 0
-Within n (Ok x) = length x.1.tokens ≤ n
-Within n (Err e) = Unit {0}
-
--- a reader gives no tokens back
-abbrev pub Shortens : {A : Type 0} → Reader A → Type 0
-Shortens p = (u : Unread) → Within (length u.tokens) (p u)
 
 -- what was read before, beside what is read now
 abbrev pub beside : {A B E : Type 0} → A → Result B E → Result (A × B) E

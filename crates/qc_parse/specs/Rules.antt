@@ -17,8 +17,7 @@ use Rattle.qc_sql.specs.Rules.{same_word, in_capitals}
 use Rattle.qc_sql.specs.Database.{Name}
 use Rattle.qc_sql.specs.Reading.{Reader, pure, ◌>>=◌, stop, refuse, reads, word, sign, branch, passed, separated, listed, opened, bracketed, at_word, at_sign, next_is, name, number, words, any_word, at_name, at_number, at_words}
 use Rattle.qc_sql.specs.Grammar.{dotted, column, ends_value, is_arithmetic, signed, bare_literal, literal, tuple, at_literal, at_call, at_aggregate, call_word, is_known_call, column_argument, counted, arguments, call_of, value_of, too_deep, call_at, value_at, null_test, in_test, between_test, list_or_range, test_behind, test_of, op_ahead, op, negated, grouped, joined_by, like_at, all_of, any_of, brackets_or_test, member_of, member_at, most_open, condition, alias, spanned, place, span_text, item, order, assignment, right_side, primary_key, part_kind, other_type, other_kind, length_part, null_part, key_part, part, key_of_table, column_part}
-use Rattle.qc_parse.specs.Cursors.{Shortens}
-use Rattle.qc_parse.specs.Shorter.{shortens_pure, shortens_stop, shortens_refuse, shortens_then, shortens_branch, shortens_if, shortens_reads, shortens_separated, shortens_in_place}
+use Rattle.qc_parse.specs.Shorter.{Shortens, shortens_pure, shortens_stop, shortens_refuse, shortens_then, shortens_branch, shortens_if, shortens_reads, shortens_separated, shortens_in_place}
 
 -- a reader, and then something of what it gives
 map_shortens : {A B : Type 0} (p : Reader A) (f : A → B) → Shortens p → Shortens (p >>= λ x. pure (f x))

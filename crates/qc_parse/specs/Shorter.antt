@@ -2,7 +2,15 @@
 use Rattle.std.proofs.Common.{ℕ, zero, suc, ◌≤◌, Bool, true, false, cond, List, [], ◌∷◌, length, Option, Some, None, Result, Ok, Err, arith}
 use Rattle.qc_sql.specs.Tokens.{Lexeme, Token}
 use Rattle.qc_sql.specs.Reading.{Unread, Stop, Before, Refused, Reader, pure, then_read, ◌>>=◌, stop, refuse, reads, read_first, read_as, branch, at_most, many, separated, with_words, in_place_of_syntax}
-use Rattle.qc_parse.specs.Cursors.{Within, Shortens}
+
+-- what is left has at most so many tokens
+abbrev pub Within : {A : Type 0} → ℕ → Result (A × Unread) Stop → Type 0
+Within n (Ok x) = length x.1.tokens ≤ n
+Within n (Err e) = Unit {0}
+
+-- a reader gives no tokens back
+abbrev pub Shortens : {A : Type 0} → Reader A → Type 0
+Shortens p = (u : Unread) → Within (length u.tokens) (p u)
 
 within_more : {A : Type 0} (m n : ℕ) (r : Result (A × Unread) Stop) → m ≤ n → Within m r → Within n r
 within_more m n (Ok x) le h = omega (arith, le, h)

@@ -3,7 +3,8 @@
 ghost use Rattle.std.specs.Prelude.{◌≡◌, Result};
 ghost use Rattle.qc_sql.specs.Reading as meant;
 ghost use Rattle.qc_sql.specs.Reading.{Unread, Stop};
-ghost use Rattle.qc_parse.specs.Cursors.{unread, Takes, Reads, Shortens, beside};
+ghost use Rattle.qc_parse.specs.Cursors.{unread, Takes, Reads, beside};
+ghost use Rattle.qc_parse.specs.Shorter.{Shortens};
 
 use crate::cursor::Cursor;
 use crate::halt::{Halt, unsupported};

@@ -4,19 +4,27 @@ use Rattle.std.specs.Prelude.{Some}
 use Rattle.qc_lex.specs.Fronts.{Skips, Gives}
 use Rattle.qc_lex.specs.Ahead.{fault}
 use Rattle.qc_lex.proofs.LexLoop.{shown_within}
-use Rattle.qc_lex.proofs.NextTokens.{ended, skipped, given, faulted}
+use Rattle.qc_lex.proofs.NextTokens.{ended, skipped, given, faulted, from_front, farther, lends}
 use Rattle.qc_lex.proofs.place.Lexer.next.Goals as goal
 
 pub skips-init : goal.skips-init
-skips-init c = record { so_far = refl; bytes = c.args.self.now.fits }
+skips-init c = record { so_far = refl; bytes = c.args.self.now.fits; same = refl; on = omega arith; rest = from_front c.args.self.now.at c.args.self.now.rest.now }
 
 pub returns-in-Ends : goal.returns-in-Ends
-returns-in-Ends c = c.skips.invariant.so_far ∙ ended c.args.self.now.ansi c.skips.at c.skips.rest.now c.in-Ends.ensures
+returns-in-Ends c = record {
+  ahead = c.skips.invariant.so_far ∙ ended c.args.self.now.ansi c.skips.at c.skips.rest.now c.in-Ends.ensures;
+  bytes = tt;
+  stands = c.skips.invariant.same;
+}
 
 pub returns-in-Faults : goal.returns-in-Faults
-returns-in-Faults c =
-    c.skips.invariant.so_far ∙ faulted c.args.self.now.ansi c.skips.at c.skips.rest.now c.in-Faults.fault c.in-Faults.ensures
-    ∙ ap (λ r. ([], Some (fault r))) (sym c.at.ensures)
+returns-in-Faults c = record {
+  ahead =
+      c.skips.invariant.so_far ∙ faulted c.args.self.now.ansi c.skips.at c.skips.rest.now c.in-Faults.fault c.in-Faults.ensures
+      ∙ ap (λ r. ([], Some (fault r))) (sym c.at.ensures);
+  bytes = tt;
+  stands = c.skips.invariant.same;
+}
 
 pub overflow_cast-at : goal.overflow_cast-at
 overflow_cast-at c = omega (arith, c.skips.invariant.bytes, shown_within c.args.self.now.ansi c.skips.rest.now (Skips c.in-Skips.bytes) c.in-Skips.ensures)
@@ -41,6 +49,9 @@ skips-preserved c = record {
   bytes =
       rw (take_rest c.skips.rest.now c.in-Skips.bytes)
       (omega (arith, c.skips.invariant.bytes, length-drop c.in-Skips.bytes c.skips.rest.now, shown_within c.args.self.now.ansi c.skips.rest.now (Skips c.in-Skips.bytes) c.in-Skips.ensures));
+  same = c.skips.invariant.same;
+  on = omega (arith, c.skips.invariant.on);
+  rest = farther c.skips.at c.args.self.now.at c.in-Skips.bytes c.args.self.now.rest.now c.skips.rest.now c.skips.invariant.on c.skips.invariant.rest;
 }
 
 pub overflow_cast-to : goal.overflow_cast-to
@@ -66,4 +77,8 @@ invariant_of-self c = record {
 }
 
 pub returns-in-Gives : goal.returns-in-Gives
-returns-in-Gives c = c.skips.invariant.so_far ∙ given c.args.self.now.ansi c.skips.at c.skips.rest.now c.in-Gives.bytes c.in-Gives.kind _ c.in-Gives.ensures c.said_by-what.ensures
+returns-in-Gives c = record {
+  ahead = c.skips.invariant.so_far ∙ given c.args.self.now.ansi c.skips.at c.skips.rest.now c.in-Gives.bytes c.in-Gives.kind _ c.in-Gives.ensures c.said_by-what.ensures.says;
+  bytes = (c.skips.invariant.on, lends c.skips.at c.args.self.now.at c.in-Gives.bytes c.args.self.now.rest.now c.skips.rest.now c.skips.invariant.rest c.said_by-what.result c.said_by-what.ensures.lent);
+  stands = (refl, refl, farther c.skips.at c.args.self.now.at c.in-Gives.bytes c.args.self.now.rest.now c.skips.rest.now c.skips.invariant.on c.skips.invariant.rest);
+}
