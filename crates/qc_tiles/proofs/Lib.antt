@@ -18,6 +18,6 @@ pub mod Quiet
 pub mod Holes
 pub mod Passing
 pub mod Changes
-pub mod TreeCuts
 pub mod Crowds
+pub mod Refusals
 pub mod Examples

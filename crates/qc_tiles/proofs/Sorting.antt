@@ -1,5 +1,5 @@
 -- Blocks by size: the order, and what one more block changes.
-use Rattle.std.proofs.Common.{◌≡◌, ℕ, ◌+◌, Bool, true, false, cond, List, [], ◌∷◌, ◌++◌, length, refl, sym, ap, ◌∙◌, arith, suc}
+use Rattle.std.proofs.Common.{◌≡◌, ◌+◌, Bool, true, false, cond, List, [], ◌∷◌, ◌++◌, length, refl, sym, ap, ◌∙◌, arith, suc}
 use Rattle.std.specs.List.{AllByRecursion}
 use Rattle.std.proofs.lemmas.Bool.Decides.{nat_tests}
 use Rattle.qc_tiles.specs.declared.blocks.Block.{Block}
@@ -12,15 +12,8 @@ use Rattle.qc_tiles.specs.Sizes.{is_smaller, insert_block, IsBySize, block_words
 pub itself : (b : Block) → is_smaller b.first b.words b ≡ false
 itself b = grind (arith, nat_tests)
 
--- what is smaller than a block is smaller than one that isn't smaller than that
-pub smaller_still : (first words : ℕ) (b c : Block) → is_smaller first words b ≡ true → is_smaller first words c ≡ false → is_smaller c.first c.words b ≡ true
-smaller_still first words b c h k = grind (arith, nat_tests)
-
 pub not_both : (b c : Block) → is_smaller b.first b.words c ≡ true → is_smaller c.first c.words b ≡ false
 not_both b c h = grind (arith, nat_tests)
-
-pub smaller_then : (first words : ℕ) (b c : Block) → is_smaller b.first b.words c ≡ true → is_smaller first words b ≡ true → is_smaller first words c ≡ true
-smaller_then first words b c h k = grind (arith, nat_tests)
 
 same_numbers : (b c : Block) → is_smaller b.first b.words c ≡ false → is_smaller c.first c.words b ≡ false → (b.words ≡ c.words) × (b.first ≡ c.first)
 same_numbers b c h k = (grind (arith, nat_tests), grind (arith, nat_tests))
@@ -120,43 +113,6 @@ added_sorted t false s h = h
 pub by_size-sorted : (ts : List Tile) → IsBySize (by_size ts)
 by_size-sorted [] = tt
 by_size-sorted (t ∷ ts) = added_sorted t t.free (by_size ts) (by_size-sorted ts)
-
--- where a block goes
-pub record Splits (b : Block) (s : List Block) : Type 0 where
-  pub low : List Block
-  pub high : List Block
-  pub is : s ≡ low ++ high
-  pub made : insert_block b s ≡ low ++ (b ∷ high)
-  pub smaller : AllByRecursion (λ x. is_smaller b.first b.words x ≡ true) low
-  pub larger : AllByRecursion (λ x. is_smaller b.first b.words x ≡ false) high
-
-splits_behind : (b c : Block) (cs : List Block) → is_smaller b.first b.words c ≡ true → Splits b cs → Splits b (c ∷ cs)
-splits_behind b c cs e h = record {
-  low = c ∷ h.low;
-  high = h.high;
-  is = ap (λ xs. c ∷ xs) h.is;
-  made = insert-behind b c cs e ∙ ap (λ xs. c ∷ xs) h.made;
-  smaller = (e, h.smaller);
-  larger = h.larger;
-}
-
-splits_front : (b c : Block) (cs : List Block) → is_smaller b.first b.words c ≡ false → IsBySize (c ∷ cs) → Splits b (c ∷ cs)
-splits_front b c cs e h = record {
-  low = [];
-  high = c ∷ cs;
-  is = refl;
-  made = insert-front b c cs e;
-  smaller = tt;
-  larger = (e, none_smaller b c cs e h.0);
-}
-
-pub splits : (b : Block) (s : List Block) → IsBySize s → Splits b s
-splits b [] h = record { low = []; high = []; is = refl; made = refl; smaller = tt; larger = tt }
-splits b (c ∷ cs) h =
-    elim (is_smaller b.first b.words c) as (λ v. is_smaller b.first b.words c ≡ v → Splits b (c ∷ cs)) [
-      | true ↦ λ e. splits_behind b c cs e (splits b cs h.1)
-      | false ↦ λ e. splits_front b c cs e h
-    ] refl
 
 -- ---- counts
 

@@ -4,6 +4,4 @@ pub mod Cells
 pub mod Sizes
 pub mod Settled
 pub mod Ready
-pub mod Trees
-pub mod TreeFalls
 pub mod Crowded

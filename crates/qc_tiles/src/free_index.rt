@@ -2,34 +2,37 @@
 
 ghost use Rattle.std.specs.Prelude.{◌≡◌, ℕ, ◌+◌, ◌-◌, ◌<◌, ◌≤◌, ◌^◌, [], List, length, IfOk};
 ghost use Rattle.qc_tiles.specs.declared.blocks.Block.{Block};
-ghost use Rattle.qc_tiles.specs.Sizes.{IsBySize, Indexed, Parts, block_words, first_of, insert_block, last_of, words_or_none};
+ghost use Rattle.qc_tiles.specs.Sizes.{IsBySize, Indexed, Parts, block_words, first_of, insert_block, key_of, last_of, words_or_none};
 
 use crate::blocks::Block;
-use crate::tree::{Fork, Tree, free_node, merge, pop_first, single, split};
+use qc_index::{Blank, Index, Key};
 use qc_types::NoMemory;
 use std::alloc::Global;
 use std::marker::Model;
-use std::mem;
+
+impl Blank for Block {
+    fn blank(_alloc: Global) -> Block {
+        Block { first: 0, words: 0 }
+    }
+}
 
 /// The free blocks by size and place, with room for a number of blocks that is taken once. Each call but `new` costs the logarithm of how many there are,
-/// as far as the hash of blocks spreads, and takes no memory.
+/// as the calls of `Index` do, and takes no memory.
 #[derive(Drop)]
 pub(crate) struct FreeIndex {
-    tree: Tree,
-    spare: Vec<Box<Fork>>,
+    list: Index<Block>,
     count: u32,
     words: u32,
 }
 
 impl Model for FreeIndex {
-    ghost use Rattle.std.specs.Prelude.{vec_len, vec_capacity};
-    ghost use Rattle.qc_tiles.specs.Sizes.{Indexed, IsIndex};
+    ghost use Rattle.qc_tiles.specs.Sizes.{Indexed, IsIndex, blocks_of};
 
     ghost Value = { Indexed };
 
-    ghost view = { λ i. record { blocks = i.tree; room = vec_len i.spare } };
+    ghost view = { λ i. record { blocks = blocks_of i.list.items; room = i.list.room } };
 
-    ghost invariant = { λ i. IsIndex i.tree (vec_len i.spare) (vec_capacity i.spare) i.count i.words };
+    ghost invariant = { λ i. IsIndex i.list.items i.list.room i.count i.words };
 }
 
 impl FreeIndex {
@@ -38,13 +41,8 @@ impl FreeIndex {
         requires { room ≤ 131072 }
         ensures { IfOk result (λ i. i ≡ record { blocks = []; room = room }) }
     {
-        let mut spare = Vec::with_capacity(alloc, room as usize)?;
-        for n in 0..room {
-            spare.push_reserved(free_node(alloc)?);
-        }
         Ok(FreeIndex {
-            tree: Tree::empty(),
-            spare,
+            list: Index::new(alloc, room)?,
             count: 0,
             words: 0,
         })
@@ -57,12 +55,7 @@ impl FreeIndex {
         requires fits { block_words self.old.blocks + block.words < 2 ^ 32 }
         ensures { self.new ≡ record { blocks = insert_block block self.old.blocks; room = self.old.room - 1 } }
     {
-        let Some(node) = self.spare.pop() else {
-            unreachable!()
-        };
-        let tree = mem::replace(&mut self.tree, Tree::empty());
-        let (low, high) = split(tree, block);
-        self.tree = merge(merge(low, single(node, block)), high);
+        self.list.insert(key_of(block), block);
         self.count += 1;
         self.words += block.words;
     }
@@ -72,13 +65,7 @@ impl FreeIndex {
         requires { (others : List Block) × (self.old.blocks ≡ insert_block block others) × IsBySize others }
         ensures { (others : List Block) → self.old.blocks ≡ insert_block block others → IsBySize others → self.new ≡ record { blocks = others; room = self.old.room + 1 } }
     {
-        let tree = mem::replace(&mut self.tree, Tree::empty());
-        let (low, rest) = split(tree, block);
-        let Some((node, high)) = pop_first(rest) else {
-            unreachable!()
-        };
-        self.tree = merge(low, high);
-        self.spare.push_reserved(node);
+        let _ = self.list.remove_from(key_of(block));
         self.count -= 1;
         self.words -= block.words;
     }
@@ -87,15 +74,16 @@ impl FreeIndex {
     pub(crate) fn first_from(&self, words: u32) -> Option<Block>
         ensures { Parts 0 words self.now.blocks (λ low high. result ≡ first_of high) }
     {
-        self.tree.first_from(Block { first: 0, words })
+        let found = self.list.first_from(key_of(Block { first: 0, words }))?;
+        Some(found.value)
     }
 
     /// The words of the largest block, or 0.
     pub(crate) fn largest(&self) -> u32
         ensures { result ≡ words_or_none (last_of self.now.blocks) }
     {
-        match self.tree.last() {
-            Some(block) => block.words,
+        match self.list.last() {
+            Some(member) => member.value.words,
             None => 0,
         }
     }
@@ -112,5 +100,15 @@ impl FreeIndex {
         ensures { result ≡ block_words self.now.blocks }
     {
         self.words
+    }
+}
+
+/// What a block stands by: its size, and its place among equally large ones.
+fn key_of(block: Block) -> Key
+    ensures { result ≡ key_of block }
+{
+    Key {
+        major: u64::from(block.words),
+        minor: u64::from(block.first),
     }
 }

@@ -10,11 +10,10 @@ mod settle;
 #[cfg(test)]
 mod tests;
 mod tiles;
-mod tree;
 mod walk;
 
 pub use blocks::{Block, Move, NoTile, Tile};
-pub use laws::small_blocks_crowd;
+pub use laws::{small_blocks_are_refused, small_blocks_crowd};
 pub use plain::PlainTiles;
 pub use qc_types::Totals;
 pub use tiles::Tiles;

@@ -129,6 +129,14 @@ impl PlainTiles {
         has_used(self.tiles.as_slice(), block)
     }
 
+    /// How many words the region has.
+    pub fn words(&self) -> u32
+        ensures words { result ≡ region_words self.now }
+        ensures tiling { IsTiling result self.now }
+    {
+        self.words
+    }
+
     /// How many blocks there are, how many of them are free, and the words of these.
     pub fn totals(&self) -> Totals
         ensures { result ≡ totals_of self.now }

@@ -40,6 +40,7 @@ fn unpin(rt: &impl Abort, tiles: &mut Tiles, block: Block) {
 #[test]
 fn a_small_region_step_by_step(rt: HostRuntime) -> Result<(), Fail> {
     let mut tiles = Tiles::new(rt.alloc(), 384)?;
+    assert_eq!(rt; tiles.words(), 384);
     assert_eq!(rt; tiles.take(10), Ok(block(0, 64)));
     assert_eq!(rt; tiles.take(300), Ok(block(64, 320)));
     assert_eq!(rt;
@@ -67,7 +68,7 @@ fn a_small_region_step_by_step(rt: HostRuntime) -> Result<(), Fail> {
 }
 
 #[test]
-fn regions_of_each_size(rt: HostRuntime) -> Result<(), Fail> {
+fn a_region_of_no_words(rt: HostRuntime) -> Result<(), Fail> {
     let mut none = Tiles::new(rt.alloc(), 0)?;
     assert_eq!(rt;
         none.take(1),
@@ -78,7 +79,11 @@ fn regions_of_each_size(rt: HostRuntime) -> Result<(), Fail> {
     );
     assert_eq!(rt; none.move_down(), None);
     assert_eq!(rt; (none.totals(), none.largest()), (totals(0, 0, 0), 0));
+    Ok(())
+}
 
+#[test]
+fn a_region_of_two_blocks(rt: HostRuntime) -> Result<(), Fail> {
     let mut small = Tiles::new(rt.alloc(), 128)?;
     assert_eq!(rt;
         small.take(129),
@@ -106,7 +111,11 @@ fn regions_of_each_size(rt: HostRuntime) -> Result<(), Fail> {
     );
     give_back(&rt, &mut small, block(64, 64));
     assert_eq!(rt; small.take(65), Ok(block(0, 128)));
+    Ok(())
+}
 
+#[test]
+fn the_largest_region(rt: HostRuntime) -> Result<(), Fail> {
     let mut large = Tiles::new(rt.alloc(), 8_388_608)?;
     assert_eq!(rt; large.totals(), totals(1, 1, 8_388_608));
     assert_eq!(rt; large.take(1), Ok(block(0, 64)));

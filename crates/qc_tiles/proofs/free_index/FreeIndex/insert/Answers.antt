@@ -1,27 +1,29 @@
-use Rattle.std.proofs.Common.{◌≡◌, ◌-◌, refl, ap, sym, arith, vec_len}
-use Rattle.qc_tiles.specs.Sizes.{Indexed, IsBySize, insert_block}
+use Rattle.std.proofs.Common.{◌∙◌, ◌-◌, ap, arith, length}
+use Rattle.qc_index.specs.Ordered.{Members}
+use Rattle.qc_tiles.specs.Sizes.{Indexed, blocks_of, block_words, insert_block}
 use Rattle.qc_tiles.proofs.Sorting.{insert-length, insert-words}
-use Rattle.qc_tiles.proofs.Indexes.{inserted}
+use Rattle.qc_tiles.proofs.Indexes.{put, same_index}
 use Rattle.qc_tiles.proofs.free_index.FreeIndex.insert.Goals as goal
 
 pub invariant_of-self : goal.invariant_of-self
 invariant_of-self c =
-    let s = c.self.inside.tree in
-    let view = ap (λ (i : Indexed). i.blocks) c.self.view_is in
-    let sorted : IsBySize s = rw (sym view) at c.requires.sorted in
-    let made : c.merge-2.result ≡ insert_block c.args.block s = inserted c.args.block s c.split-low.result.0 c.split-low.result.1 c.single.result c.merge.result c.merge-2.result sorted (rw c.replace-tree.ensures.value at c.split-low.ensures) c.single.ensures c.merge.ensures c.merge-2.ensures in
-    rw made (record {
-      counted = omega (arith, c.self.invariant.counted, insert-length c.args.block s);
-      summed = omega (arith, c.self.invariant.summed, insert-words c.args.block s);
-      fits = omega (arith, c.self.invariant.fits, c.in-Some.ensures {u = tt}, insert-length c.args.block s);
-      few = omega (arith, c.self.invariant.few, c.in-Some.ensures {u = tt}, insert-length c.args.block s);
-    })
+    let ms = c.self.inside.list.items in
+    let made = put c.args.block c.key_of.result ms c.insert.new.self.items c.key_of.ensures c.self.invariant.keyed (ap (λ (m : Members _). m.items) c.insert.ensures.members) in
+    let longer = ap length made.blocks ∙ insert-length c.args.block (blocks_of ms) in
+    let wider = ap block_words made.blocks ∙ insert-words c.args.block (blocks_of ms) in
+    let room = ap (λ (m : Members _). m.room) c.insert.ensures.members in
+    let had = ap (λ (i : Indexed). i.room) c.self.view_is in
+    record {
+      keyed = made.keyed;
+      counted = omega (arith, c.self.invariant.counted, longer);
+      summed = omega (arith, c.self.invariant.summed, wider);
+      few = omega (arith, c.self.invariant.few, longer, room, had, c.requires.room);
+    }
 
 pub returns : goal.returns
 returns c =
-    let s = c.self.inside.tree in
-    let view = ap (λ (i : Indexed). i.blocks) c.self.view_is in
-    let sorted : IsBySize s = rw (sym view) at c.requires.sorted in
-    let made : c.merge-2.result ≡ insert_block c.args.block s = inserted c.args.block s c.split-low.result.0 c.split-low.result.1 c.single.result c.merge.result c.merge-2.result sorted (rw c.replace-tree.ensures.value at c.split-low.ensures) c.single.ensures c.merge.ensures c.merge-2.ensures in
-    let spare : vec_len c.pop.new.self ≡ vec_len c.self.inside.spare - 1 = omega (arith, c.in-Some.ensures {u = tt}) in
-    rw (← c.self.view_is, made, spare) refl
+    let ms = c.self.inside.list.items in
+    let made = put c.args.block c.key_of.result ms c.insert.new.self.items c.key_of.ensures c.self.invariant.keyed (ap (λ (m : Members _). m.items) c.insert.ensures.members) in
+    same_index _ _ _ _
+    (made.blocks ∙ ap (λ (i : Indexed). insert_block c.args.block i.blocks) c.self.view_is)
+    (ap (λ (m : Members _). m.room) c.insert.ensures.members ∙ ap (λ (i : Indexed). i.room - 1) c.self.view_is)

@@ -1,0 +1,5 @@
+use Rattle.qc_tiles.proofs.Tilings.{tiling_words}
+use Rattle.qc_tiles.proofs.tiles.Tiles.words.Goals as goal
+
+pub returns-clause-words : goal.returns-clause-words
+returns-clause-words c = rw (← c.self.view_is) (tiling_words c.self.inside.words c.self.inside.places c.self.invariant.tiling)
