@@ -1,0 +1,11 @@
+pub mod Words
+pub mod Pieces
+pub mod Views
+pub mod Calls
+pub mod Releases
+pub mod Keys
+pub mod Listed
+pub mod Turns
+pub mod FreeNames
+pub mod Stores
+pub mod Checks

@@ -1,0 +1,6 @@
+pub mod Words
+pub mod Chains
+pub mod Ends
+pub mod Pieces
+pub mod Stored
+pub mod Alone

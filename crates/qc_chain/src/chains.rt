@@ -1,0 +1,232 @@
+//! Chains of blocks under their names.
+
+ghost use Rattle.std.specs.Prelude.{◌≡◌, ℕ, ◌+◌, ◌-◌, ◌*◌, ◌/◌, ◌<◌, ◌≤◌, ◌^◌, ◌∷◌, [], map, length, slice_set, slice_get, slice_index_or, Contains, IsTrue, ◌↔◌, Some, None, option_map, IfOk};
+ghost use Rattle.qc_tiles.specs.Tiles.{IsTiling, region_words};
+ghost use Rattle.qc_chain.specs.Words.{words_of, word_at, spot_at};
+ghost use Rattle.qc_chain.specs.Chains.{Chain, Begun, AreHandedOut, EndsInLast, no_chains, chain_at, extent_of, empty_chain, with_chain, after_append, after_shift, after_release, used_words, cut_chain, after_cut};
+ghost use Rattle.qc_chain.specs.Stored.{extent_at};
+
+use crate::members::{FreeName, Held, Standing, key};
+use crate::names::{ChainName, Extent, Spot};
+use crate::ranges::Ranges;
+use crate::tables::{add, block_at, give_back_all, move_all, place_of, push_blocks, rewrite};
+use qc_index::Index;
+use qc_tiles::{Block, Move, Tiles};
+use qc_types::NoMemory;
+use std::alloc::Global;
+use std::marker::Model;
+
+/// Chains of blocks under their names, each with a byte length. Contracts see the chains by their numbers, and how many more blocks there is room for.
+/// After `new` no call takes memory.
+#[derive(Drop)]
+pub struct Chains {
+    /// How much each chain has that was begun, by its number.
+    extents: Vec<Option<Extent>>,
+    free: Index<FreeName>,
+    /// The blocks by chain and index.
+    pieces: Index<Held>,
+    /// The same blocks by place.
+    places: Index<Standing>,
+    room: u32,
+}
+
+impl Model for Chains {
+    ghost use Rattle.qc_chain.specs.Chains.{Chained};
+    ghost use Rattle.qc_chain.specs.Pieces.{chained};
+    ghost use Rattle.qc_chain.specs.Stored.{lengths_of, pieces_in, IsStored};
+
+    ghost Value = { Chained };
+
+    ghost view = { λ c. chained (lengths_of c.extents.items) (pieces_in c.pieces.items) c.room };
+
+    ghost invariant = { λ c. IsStored c.extents.items c.pieces c.places c.free c.room };
+}
+
+impl Chains {
+    /// No chains, and room for so many blocks in all; as many names are free. Fails where memory lacks; no other call takes any. Costs the blocks times
+    /// their logarithm.
+    pub fn new(alloc: Global, blocks: u32) -> Result<Chains, NoMemory>
+        ensures { IfOk result (λ c. c ≡ no_chains blocks) }
+    {
+        let mut extents = Vec::with_capacity(alloc, blocks as usize)?;
+        let mut free = Index::new(alloc, blocks)?;
+        for number in 0..blocks {
+            extents.push_reserved(None);
+            free.insert(key(number, 0), FreeName { number });
+        }
+        let pieces = Index::new(alloc, blocks)?;
+        let places = Index::new(alloc, blocks)?;
+        Ok(Chains {
+            extents,
+            free,
+            pieces,
+            places,
+            room: blocks,
+        })
+    }
+
+    /// Whether a name is free, so that a chain may be begun.
+    pub fn has_free_name(&self) -> bool
+        ensures { IsTrue result ↔ Contains self.now.chains None }
+    {
+        match self.free.first_from(key(0, 0)) {
+            Some(_) => true,
+            None => false,
+        }
+    }
+
+    /// How many more blocks there is room for.
+    pub fn room(&self) -> u32
+        ensures { result ≡ self.now.room }
+    {
+        self.room
+    }
+
+    /// How much a chain has. None exactly where no chain of that name was begun, or where it was released.
+    pub fn extent(&self, chain: ChainName) -> Option<Extent>
+        ensures { result ≡ option_map extent_of (chain_at chain.number self.now) }
+    {
+        extent_at(self.extents.as_slice(), chain.number)
+    }
+
+    /// Begins a chain with no blocks and no bytes, under a free name. Costs the logarithm of how many there are.
+    pub fn begin(&mut self) -> ChainName
+        requires { Contains self.old.chains None }
+        ensures free { slice_get self.old.chains result.number ≡ Some None }
+        ensures begun { self.new ≡ with_chain result.number (Some empty_chain) self.old }
+    {
+        let Some(free) = self.free.remove_from(key(0, 0)) else {
+            unreachable!()
+        };
+        let number = free.value.number;
+        self.extents[number as usize] = Some(Extent {
+            blocks: 0,
+            words: 0,
+            bytes: 0,
+        });
+        ChainName { number }
+    }
+
+    /// Puts a block at the end of a chain, whose byte length is then that of all its words. Costs the logarithm of the blocks of all chains.
+    pub fn append_block(&mut self, chain: ChainName, block: Block)
+        requires begun { (held : Chain) × Begun chain.number self.old held × (words_of held.blocks + block.words ≤ 8388608) }
+        requires room { 0 < self.old.room }
+        ensures { (held : Chain) → Begun chain.number self.old held → self.new ≡ after_append chain.number block held self.old }
+    {
+        let Some(extent) = extent_at(self.extents.as_slice(), chain.number) else {
+            unreachable!()
+        };
+        add(
+            &mut self.pieces,
+            &mut self.places,
+            chain.number,
+            extent.blocks,
+            block,
+        );
+        let words = extent.words + block.words;
+        self.extents[chain.number as usize] = Some(Extent {
+            blocks: extent.blocks + 1,
+            words,
+            bytes: 8 * words,
+        });
+        self.room -= 1;
+    }
+
+    /// Where a byte of a chain stands, counted through its blocks in order, where 32 bits hold its word's place. Costs the blocks in front of it, times a
+    /// logarithm.
+    pub fn spot(&self, chain: ChainName, byte: u32) -> Spot
+        requires { (held : Chain) × Begun chain.number self.now held × (byte < held.bytes) }
+        ensures { (held : Chain) → Begun chain.number self.now held → word_at (byte / 8) held.blocks < 2 ^ 32 → result ≡ spot_at byte held.blocks }
+    {
+        let Some(extent) = extent_at(self.extents.as_slice(), chain.number) else {
+            unreachable!()
+        };
+        Spot {
+            word: place_of(&self.pieces, chain.number, extent.blocks, byte / 8),
+            byte: (byte % 8) as u8,
+        }
+    }
+
+    /// Makes the ranges those of a chain: its blocks, and its byte length. Costs the chain's blocks times a logarithm.
+    pub fn ranges(&self, chain: ChainName, out: &mut Ranges)
+        requires { (held : Chain) × Begun chain.number self.now held × (length held.blocks ≤ out.old.room) }
+        ensures { (held : Chain) → Begun chain.number self.now held → out.new ≡ record { blocks = held.blocks; bytes = held.bytes; room = out.old.room } }
+    {
+        let Some(extent) = extent_at(self.extents.as_slice(), chain.number) else {
+            unreachable!()
+        };
+        out.clear();
+        push_blocks(&self.pieces, chain.number, extent.blocks, out);
+        out.set_bytes(extent.bytes);
+    }
+
+    /// Follows a block that moved, in whatever chain it is. Costs the logarithm of the blocks of all chains.
+    pub fn shift(&mut self, change: Move)
+        ensures { self.new ≡ after_shift change self.old }
+    {
+        if change.from != change.to {
+            move_all(&mut self.pieces, &mut self.places, change);
+        }
+    }
+
+    /// Gives a chain's blocks back to the tiles, and its name. The blocks are handed out there, and stand in the chain once each. Costs the chain's blocks
+    /// times a logarithm.
+    pub fn release(&mut self, chain: ChainName, tiles: &mut Tiles)
+        requires { (held : Chain) × Begun chain.number self.old held × AreHandedOut tiles.old held.blocks }
+        ensures chains { (held : Chain) → Begun chain.number self.old held → self.new ≡ record { chains = slice_set self.old.chains chain.number None; room = self.old.room + length held.blocks } }
+        ensures tiles { (held : Chain) → Begun chain.number self.old held → tiles.new ≡ after_release held.blocks tiles.old }
+        ensures tiling { IsTiling (region_words tiles.old) tiles.new }
+    {
+        let Some(extent) = extent_at(self.extents.as_slice(), chain.number) else {
+            unreachable!()
+        };
+        give_back_all(
+            &mut self.pieces,
+            &mut self.places,
+            chain.number,
+            extent.blocks,
+            tiles,
+        );
+        self.room += extent.blocks;
+        self.extents[chain.number as usize] = None;
+        self.free.insert(
+            key(chain.number, 0),
+            FreeName {
+                number: chain.number,
+            },
+        );
+    }
+
+    /// Cuts a chain to so many bytes, which end in its last block: that one is trimmed to the words that they use. The blocks are handed out in the
+    /// tiles, and stand in the chain once each. Costs the logarithm of the blocks.
+    pub fn trim_last(&mut self, chain: ChainName, bytes: u32, tiles: &mut Tiles)
+        requires { (held : Chain) × Begun chain.number self.old held × AreHandedOut tiles.old held.blocks × EndsInLast held.blocks bytes }
+        ensures chains { (held : Chain) → Begun chain.number self.old held → self.new ≡ with_chain chain.number (Some (cut_chain bytes held)) self.old }
+        ensures tiles { (held : Chain) → Begun chain.number self.old held → tiles.new ≡ after_cut (used_words held.blocks bytes) held.blocks tiles.old }
+        ensures tiling { IsTiling (region_words tiles.old) tiles.new }
+    {
+        let Some(extent) = extent_at(self.extents.as_slice(), chain.number) else {
+            unreachable!()
+        };
+        let at = extent.blocks - 1;
+        let last = block_at(&self.pieces, chain.number, at);
+        let before = extent.words - last.words;
+        let left = tiles.trim(last, bytes.div_ceil(8) - before);
+        rewrite(&mut self.pieces, chain.number, at, left);
+        self.extents[chain.number as usize] = Some(Extent {
+            blocks: extent.blocks,
+            words: before + left.words,
+            bytes,
+        });
+    }
+}
+
+/// How much a chain has. None where there is no such chain.
+fn extent_at(extents: &[Option<Extent>], chain: u32) -> Option<Extent>
+    ensures { result ≡ extent_at chain extents.now }
+{
+    match extents.get(chain as usize) {
+        Some(extent) => *extent,
+        None => None,
+    }
+}

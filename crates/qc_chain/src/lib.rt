@@ -1,0 +1,17 @@
+//! Chains of blocks: the memory of a result that is larger than one block, or that is still being made.
+#![tactic(auto)]
+
+mod chains;
+mod members;
+mod names;
+mod plain;
+mod ranges;
+mod tables;
+#[cfg(test)]
+mod tests;
+
+pub use chains::Chains;
+pub use names::{ChainName, Extent, Spot};
+pub use plain::PlainChains;
+pub use qc_tiles::{Block, Move, Tiles};
+pub use ranges::Ranges;
