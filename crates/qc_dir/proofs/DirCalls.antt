@@ -1,0 +1,454 @@
+-- What the directory's indexes answer.
+use Rattle.std.proofs.Common.{◌≡◌, ℕ, ◌+◌, ◌-◌, ◌<◌, ◌≤◌, ◌^◌, Bool, true, false, cond, not, nat_lt, ◌&&◌, List, [], ◌∷◌, ◌++◌, map, length, refl, sym, ap, ◌∙◌, subst, Option, Some, None, ◌==◌, arith}
+use Rattle.std.specs.List.{AllByRecursion, list_any, find, filter}
+use Rattle.std.specs.List.Sorted.{IsPermutation}
+use Rattle.std.specs.Option.{IsSomeAnd}
+use Rattle.std.proofs.lemmas.List.Sorted.{IsPermutation-refl, IsPermutation-cons, IsPermutation-trans, IsPermutation-sym, IsPermutation-middle}
+use Rattle.std.proofs.lemmas.Option.{none-some, same_Some}
+use Rattle.std.proofs.lemmas.Bool.Decides.{nat_tests}
+use Rattle.qc_types.specs.declared.names.TableName.{TableName}
+use Rattle.qc_sql.specs.Database.{same_table}
+use Rattle.qc_tiles.specs.declared.blocks.Move.{Move}
+use Rattle.qc_tiles.specs.declared.blocks.Block.{Block}
+use Rattle.qc_index.specs.declared.keys.Key.{Key}
+use Rattle.qc_index.specs.declared.keys.Keyed.{Keyed}
+use Rattle.qc_index.specs.Keys.{key_before, is_before}
+use Rattle.qc_index.specs.Ordered.{IsOrdered}
+use Rattle.qc_dir.specs.declared.entries.Entry.{Entry}
+use Rattle.qc_dir.specs.declared.tables.TableBlock.{TableBlock}
+use Rattle.qc_dir.specs.Directory.{Directory, has_serial, has_hash, entry_at, serials_under, changed, names_table, moved, moved_entry, moved_table, after_shift}
+use Rattle.qc_dir.specs.Keys.{Keys, total, bit, times, same_key, first_key, IsLeastFrom, IsStrict, HasMinors, is_under, minors_under}
+use Rattle.qc_dir.specs.Slots.{Numbered, IsInOrder, has_number, is_of, number_of, numbered_at, moved_numbered}
+use Rattle.qc_dir.specs.Uses.{placed_text}
+use Rattle.qc_dir.specs.Indexed.{IsDir, hash_key, text_key, numbered_as, numbers_in, entry_times, holding, naming, texts_at}
+use Rattle.qc_dir.proofs.KeyCounts.{same_itself, same_both}
+use Rattle.qc_dir.proofs.Names.{same_is, same_itself as same_name}
+use Rattle.qc_dir.proofs.SlotSteps.{each_counted}
+use Rattle.qc_dir.proofs.SlotCalls.{found_at}
+use Rattle.qc_dir.proofs.Totals.{total-map, total-append}
+use Rattle.qc_dir.proofs.EntryTotals.{entry-serial, total-changed, total-changed_one, any-total, some_any, any_some, some_one, bit_true, total-same, total-le}
+use Rattle.qc_dir.proofs.DirSteps.{tables_in, numbered_as-is, number_none, held_counts}
+
+-- ---- keys, each once
+
+pub strict : {T : Type 0} (xs : List (Keyed T)) → IsOrdered xs → ((k : Key) → times k (map (λ m. m.key) xs) ≤ 1) → IsStrict (map (λ m. m.key) xs)
+strict [] ordered once = tt
+strict {T = T} (x ∷ xs) ordered once = (above xs ordered.0 (omega (arith, once x.key, itself)), strict xs ordered.1 (λ k. omega (arith, once k)))
+  where
+    itself : bit (same_key x.key x.key) ≡ 1
+    itself = rw (same_itself x.key) refl
+
+    first : (a b : Key) → key_before b a ≡ false → same_key a b ≡ false → key_before a b ≡ true
+    first a b p q = grind (arith, nat_tests)
+
+    above : (ys : List (Keyed T)) → AllByRecursion (λ y. is_before x.key y ≡ false) ys → times x.key (map (λ m. m.key) ys) ≡ 0 → AllByRecursion (λ k. key_before x.key k ≡ true) (map (λ m. m.key) ys)
+    above [] all none = tt
+    above (y ∷ ys) all none =
+        elim (same_key x.key y.key) as (λ v. same_key x.key y.key ≡ v → bit v + times x.key (map (λ m. m.key) ys) ≡ 0 → AllByRecursion (λ k. key_before x.key k ≡ true) (map (λ m. m.key) (y ∷ ys))) [
+          | true ↦ λ e n. absurd (omega (arith, n))
+          | false ↦ λ e n. (first x.key y.key all.0 e, above ys all.1 (omega (arith, n)))
+        ] refl none
+
+pub minors : {T : Type 0} (xs : List (Keyed T)) → AllByRecursion (λ m. m.key.minor < 2 ^ 64) xs → HasMinors (map (λ m. m.key) xs)
+minors [] all = tt
+minors (x ∷ xs) all = (all.0, minors xs all.1)
+
+-- ---- the walk over the keys with one first number
+
+abbrev numbered_key : ℕ → ℕ → Key
+numbered_key major n = record { major = major; minor = n }
+
+none_more : (major from : ℕ) (keys : List Key) → AllByRecursion (λ k. is_under major from k ≡ false) keys → filter (is_under major from) keys ≡ []
+none_more major from [] all = refl
+none_more major from (k ∷ ks) all = rw all.0 (none_more major from ks all.1)
+
+pub walk_end : (major from : ℕ) (keys : List Key) → IsStrict keys → first_key (numbered_key major from) keys ≡ None → minors_under major (Some from) keys ≡ []
+walk_end major from [] strict h = refl
+walk_end major from (k ∷ ks) strict h =
+    elim (key_before k (numbered_key major from)) as (λ v. key_before k (numbered_key major from) ≡ v → cond v (first_key (numbered_key major from) ks) (Some k) ≡ None → minors_under major (Some from) (k ∷ ks) ≡ []) [
+      | true ↦ λ e p. rw (low e) (walk_end major from ks strict.1 p)
+      | false ↦ λ e p. absurd (cc p)
+    ] refl h
+  where
+    low : key_before k (numbered_key major from) ≡ true → is_under major from k ≡ false
+    low e = grind (arith, nat_tests)
+
+all_behind : (major from : ℕ) (k : Key) (ks : List Key) → key_before k (numbered_key major from) ≡ false → (k.major ≡ major → ⊥) → AllByRecursion (λ j. key_before k j ≡ true) ks → AllByRecursion (λ j. is_under major from j ≡ false) ks
+all_behind major from k [] e other all = tt
+all_behind major from k (j ∷ js) e other all = (high j all.0, all_behind major from k js e other all.1)
+  where
+    high : (j : Key) → key_before k j ≡ true → is_under major from j ≡ false
+    high j p = grind (arith, nat_tests)
+
+-- the first that is found has another first number
+pub walk_past : (major from : ℕ) (keys : List Key) (k : Key) → IsStrict keys → first_key (numbered_key major from) keys ≡ Some k → (k.major ≡ major → ⊥) → minors_under major (Some from) keys ≡ []
+walk_past major from [] k strict h other = absurd (none-some k h)
+walk_past major from (j ∷ js) k strict h other =
+    elim (key_before j (numbered_key major from)) as (λ v. key_before j (numbered_key major from) ≡ v → cond v (first_key (numbered_key major from) js) (Some j) ≡ Some k → minors_under major (Some from) (j ∷ js) ≡ []) [
+      | true ↦ λ e p. rw (low e) (walk_past major from js k strict.1 p other)
+      | false ↦ λ e p. past e (λ q. other (ap (λ (i : Key). i.major) (sym (same_Some j k p)) ∙ q))
+    ] refl h
+  where
+    low : key_before j (numbered_key major from) ≡ true → is_under major from j ≡ false
+    low e = grind (arith, nat_tests)
+
+    here : key_before j (numbered_key major from) ≡ false → (j.major ≡ major → ⊥) → is_under major from j ≡ false
+    here e q = grind (arith, nat_tests)
+
+    past : key_before j (numbered_key major from) ≡ false → (j.major ≡ major → ⊥) → minors_under major (Some from) (j ∷ js) ≡ []
+    past e q = rw (here e q, none_more major from js (all_behind major from j js e q strict.0)) refl
+
+-- the first that is found, and those behind it
+pub walk_on : (major from : ℕ) (keys : List Key) (k : Key) → IsStrict keys → first_key (numbered_key major from) keys ≡ Some k → k.major ≡ major → minors_under major (Some from) keys ≡ k.minor ∷ minors_under major (Some (k.minor + 1)) keys
+walk_on major from [] k strict h is = absurd (none-some k h)
+walk_on major from (j ∷ js) k strict h is =
+    elim (key_before j (numbered_key major from)) as (λ v. key_before j (numbered_key major from) ≡ v → cond v (first_key (numbered_key major from) js) (Some j) ≡ Some k → minors_under major (Some from) (j ∷ js) ≡ k.minor ∷ minors_under major (Some (k.minor + 1)) (j ∷ js)) [
+      | true ↦ λ e p. rw (low e, lower e (above js p)) (walk_on major from js k strict.1 p is)
+      | false ↦ λ e p. subst (λ (i : Key). minors_under major (Some from) (j ∷ js) ≡ i.minor ∷ minors_under major (Some (i.minor + 1)) (j ∷ js)) (same_Some j k p) (here e (ap (λ (i : Key). i.major) (same_Some j k p) ∙ is))
+    ] refl h
+  where
+    low : key_before j (numbered_key major from) ≡ true → is_under major from j ≡ false
+    low e = grind (arith, nat_tests)
+
+    above : (is : List Key) → first_key (numbered_key major from) is ≡ Some k → key_before k (numbered_key major from) ≡ false
+    above [] p = absurd (none-some k p)
+    above (i ∷ is) p =
+        elim (key_before i (numbered_key major from)) as (λ v. key_before i (numbered_key major from) ≡ v → cond v (first_key (numbered_key major from) is) (Some i) ≡ Some k → key_before k (numbered_key major from) ≡ false) [
+          | true ↦ λ e q. above is q
+          | false ↦ λ e q. subst (λ (x : Key). key_before x (numbered_key major from) ≡ false) (same_Some i k q) e
+        ] refl p
+
+    lower : key_before j (numbered_key major from) ≡ true → key_before k (numbered_key major from) ≡ false → is_under major (k.minor + 1) j ≡ false
+    lower e q = grind (arith, nat_tests)
+
+    stands : key_before j (numbered_key major from) ≡ false → j.major ≡ major → is_under major from j ≡ true
+    stands e q = grind (arith, nat_tests)
+
+    gone : j.major ≡ major → is_under major (j.minor + 1) j ≡ false
+    gone q = grind (arith, nat_tests)
+
+    alike : (is : List Key) → key_before j (numbered_key major from) ≡ false → j.major ≡ major → AllByRecursion (λ i. key_before j i ≡ true) is → filter (is_under major from) is ≡ filter (is_under major (j.minor + 1)) is
+    alike [] e q all = refl
+    alike (i ∷ is) e q all = rw (same i all.0, alike is e q all.1) refl
+      where
+        same : (i : Key) → key_before j i ≡ true → is_under major from i ≡ is_under major (j.minor + 1) i
+        same i p = grind (arith, nat_tests)
+
+    here : key_before j (numbered_key major from) ≡ false → j.major ≡ major → minors_under major (Some from) (j ∷ js) ≡ j.minor ∷ minors_under major (Some (j.minor + 1)) (j ∷ js)
+    here e q = rw (stands e q, gone q, alike js e q strict.0) refl
+
+pub walk_last : (major from : ℕ) (keys : List Key) → HasMinors keys → 2 ^ 64 ≤ from → minors_under major (Some from) keys ≡ []
+walk_last major from [] all h = refl
+walk_last major from (k ∷ ks) all h = rw (low k.minor all.0) (walk_last major from ks all.1 h)
+  where
+    low : (n : ℕ) → n < 2 ^ 64 → (k.major == major && not (nat_lt n from)) ≡ false
+    low n p = let test : nat_lt n from ≡ true = grind (arith, nat_tests) in rw test (never (k.major == major))
+      where
+        never : (b : Bool) → (b && false) ≡ false
+        never true = refl
+        never false = refl
+
+-- ---- the serials under a hash
+
+abbrev occurs : ℕ → List ℕ → ℕ
+occurs n ns = total (λ m. bit (m == n)) ns
+
+occurs-cut : (n : ℕ) (ns : List ℕ) → 0 < occurs n ns → (low : List ℕ) × (high : List ℕ) × (ns ≡ low ++ n ∷ high)
+occurs-cut n [] h = absurd (omega (arith, h))
+occurs-cut n (m ∷ ms) h =
+    elim (m == n) as (λ v. (m == n) ≡ v → 0 < bit v + occurs n ms → (low : List ℕ) × (high : List ℕ) × (m ∷ ms ≡ low ++ n ∷ high)) [
+      | true ↦ λ e k. let same : m ≡ n = grind (arith, nat_tests) in ([], ms, ap (λ x. x ∷ ms) same)
+      | false ↦ λ e k. later (occurs-cut n ms (omega (arith, k)))
+    ] refl h
+  where
+    later : ((low : List ℕ) × (high : List ℕ) × (ms ≡ low ++ n ∷ high)) → (low : List ℕ) × (high : List ℕ) × (m ∷ ms ≡ low ++ n ∷ high)
+    later cut = (m ∷ cut.0, cut.1, ap (λ xs. m ∷ xs) cut.2)
+
+permutation_from_occurs : (xs ys : List ℕ) → ((n : ℕ) → occurs n xs ≡ occurs n ys) → IsPermutation xs ys
+permutation_from_occurs [] [] same = IsPermutation-refl []
+permutation_from_occurs [] (y ∷ ys) same = absurd (omega (arith, same y, itself y))
+  where
+    itself : (n : ℕ) → bit (n == n) ≡ 1
+    itself n = grind (arith, nat_tests)
+permutation_from_occurs (x ∷ xs) ys same =
+    let cut = occurs-cut x ys (omega (arith, same x, itself x)) in
+    let rest = permutation_from_occurs xs (cut.0 ++ cut.1) (λ n. omega (arith, same n, ap (λ zs. occurs n zs) cut.2, total-append (λ m. bit (m == n)) cut.0 (x ∷ cut.1), total-append (λ m. bit (m == n)) cut.0 cut.1)) in
+    rw cut.2 (IsPermutation-trans (x ∷ xs) (x ∷ (cut.0 ++ cut.1)) (cut.0 ++ x ∷ cut.1) (IsPermutation-cons x xs (cut.0 ++ cut.1) rest) (IsPermutation-sym (cut.0 ++ x ∷ cut.1) (x ∷ (cut.0 ++ cut.1)) (IsPermutation-middle cut.0 x cut.1)))
+  where
+    itself : (n : ℕ) → bit (n == n) ≡ 1
+    itself n = grind (arith, nat_tests)
+
+occurs-minors : (h n : ℕ) (keys : List Key) → occurs n (minors_under h (Some 0) keys) ≡ times (numbered_key h n) keys
+occurs-minors h n [] = refl
+occurs-minors h n (k ∷ ks) =
+    elim (is_under h 0 k) as (λ v. is_under h 0 k ≡ v → occurs n (map (λ j. j.minor) (cond v (k ∷ filter (is_under h 0) ks) (filter (is_under h 0) ks))) ≡ times (numbered_key h n) (k ∷ ks)) [
+      | true ↦ λ e. omega (arith, occurs-minors h n ks, ap bit (same e))
+      | false ↦ λ e. rw (other e) (omega (arith, occurs-minors h n ks))
+    ] refl
+  where
+    same : is_under h 0 k ≡ true → (k.minor == n) ≡ same_key (numbered_key h n) k
+    same e = grind (arith, nat_tests)
+
+    other : is_under h 0 k ≡ false → same_key (numbered_key h n) k ≡ false
+    other e = grind (arith, nat_tests)
+
+occurs-serials : (h n : ℕ) (es : List Entry) → occurs n (serials_under h es) ≡ total (λ e. bit (same_key (numbered_key h n) (hash_key e))) es
+occurs-serials h n [] = refl
+occurs-serials h n (e ∷ es) =
+    elim (has_hash h e) as (λ v. has_hash h e ≡ v → occurs n (map (λ (x : Entry). x.serial) (cond v (e ∷ filter (has_hash h) es) (filter (has_hash h) es))) ≡ bit (same_key (numbered_key h n) (hash_key e)) + total (λ x. bit (same_key (numbered_key h n) (hash_key x))) es) [
+      | true ↦ λ p. omega (arith, occurs-serials h n es, ap bit (same p))
+      | false ↦ λ p. rw (other p) (omega (arith, occurs-serials h n es))
+    ] refl
+  where
+    same : has_hash h e ≡ true → (e.serial == n) ≡ same_key (numbered_key h n) (hash_key e)
+    same p = grind (arith, nat_tests)
+
+    other : has_hash h e ≡ false → same_key (numbered_key h n) (hash_key e) ≡ false
+    other p = grind (arith, nat_tests)
+
+pub candidates-are : (h : ℕ) (keys : List Key) (es : List Entry) → ((k : Key) → times k keys ≡ total (λ e. bit (same_key k (hash_key e))) es) → IsPermutation (minors_under h (Some 0) keys) (serials_under h es)
+candidates-are h keys es stands = permutation_from_occurs (minors_under h (Some 0) keys) (serials_under h es) (λ n. occurs-minors h n keys ∙ (stands (numbered_key h n) ∙ sym (occurs-serials h n es)))
+
+pub hash_once : (k : Key) (es : List Entry) → ((n : ℕ) → total (λ e. bit (has_serial n e)) es ≤ 1) → total (λ e. bit (same_key k (hash_key e))) es ≤ 1
+hash_once k es once = omega (arith, once k.minor, total-le (λ e. bit (same_key k (hash_key e))) (λ e. bit (has_serial k.minor e)) es (λ e. lower e))
+  where
+    lower : (e : Entry) → bit (same_key k (hash_key e)) ≤ bit (has_serial k.minor e)
+    lower e = grind (arith, nat_tests)
+
+-- ---- entries on a table
+
+itself : (n : ℕ) → (n == n) ≡ true
+itself n = grind (arith, nat_tests)
+
+entry_one : (t : TableName) (n : ℕ) (held : List Numbered) (e : Entry) → holding t held ≤ 1 → number_of t held ≡ Some n → names_table t e ≡ true → 0 < entry_times (numbered_key n e.serial) held e
+entry_one t n held e once is h =
+    let u = some_one (λ u. bit (same_table t u)) e.tables (any_some (same_table t) e.tables h) in
+    let same : t ≡ u.0 = same_is t u.0 (bit_true (same_table t u.0) u.1) in
+    let one : numbered_as n u.0 held ≡ 1 = subst (λ v. numbered_as n v held ≡ 1) same (numbered_as-is n n t held once is ∙ ap bit (itself n)) in
+    rw (itself e.serial) (omega (arith, u.2 (λ v. numbered_as n v held), one))
+
+-- a table that has a number stands with that, since an entry names it
+pub named_stands : (t : TableName) (n : ℕ) (es : List Entry) (room : ℕ) (held : List Numbered) (hashes named texts : Keys) → IsDir es room held hashes named texts → number_of t held ≡ Some n → (s : ℕ) × (0 < times (numbered_key n s) named.keys)
+named_stands t n es room held hashes named texts d is =
+    let some : 0 < naming t es = there (d.blocks t) (held_counts t n held is) in
+    let e = some_one (λ e. bit (names_table t e)) es some in
+    let one = entry_one t n held e.0 (d.once t) is (bit_true (names_table t e.0) e.1) in
+    (e.0.serial, omega (arith, d.by_name (numbered_key n e.0.serial), e.2 (λ x. entry_times (numbered_key n e.0.serial) held x), one))
+  where
+    there : nat_lt 0 (naming t es) ≡ nat_lt 0 (holding t held) → 0 < holding t held → 0 < naming t es
+    there p q = grind (arith, nat_tests)
+
+pub not_named : (t : TableName) (es : List Entry) (room : ℕ) (held : List Numbered) (hashes named texts : Keys) → IsDir es room held hashes named texts → None ≡ number_of t held → list_any (names_table t) es ≡ false
+not_named t es room held hashes named texts d is = any-total (names_table t) es ∙ (d.blocks t ∙ ap (λ n. nat_lt 0 n) (number_none t held (sym is)))
+
+none_numbered : (n : ℕ) (u : TableName) (hs : List Numbered) → AllByRecursion (λ h. n < h.number) hs → numbered_as n u hs ≡ 0
+none_numbered n u [] all = refl
+none_numbered n u (h ∷ hs) all = let test : has_number n h ≡ false = other h.number all.0 in rw test (omega (arith, none_numbered n u hs all.1))
+  where
+    other : (m : ℕ) → n < m → (m == n) ≡ false
+    other m l = grind (arith, nat_tests)
+
+at_number : (n : ℕ) (u : TableName) (hs : List Numbered) (g : Numbered) → IsInOrder hs → numbered_at n hs ≡ Some g → 0 < numbered_as n u hs → is_of u g ≡ true
+at_number n u [] g rising is some = absurd (none-some g is)
+at_number n u (x ∷ xs) g rising is some =
+    elim (has_number n x) as (λ v. has_number n x ≡ v → cond v (Some x) (numbered_at n xs) ≡ Some g → 0 < bit (v && is_of u x) + numbered_as n u xs → is_of u g ≡ true) [
+      | true ↦ λ e k q. subst (λ (y : Numbered). is_of u y ≡ true) (same_Some x g k) (bit_true (is_of u x) (omega (arith, q, none_numbered n u xs (larger e))))
+      | false ↦ λ e k q. at_number n u xs g rising.1 k (omega (arith, q))
+    ] refl is some
+  where
+    larger : has_number n x ≡ true → AllByRecursion (λ h. n < h.number) xs
+    larger e = let same : x.number ≡ n = grind (arith, nat_tests) in subst (λ m. AllByRecursion (λ (h : Numbered). m < h.number) xs) same rising.0
+
+find_is : (t : TableName) (hs : List Numbered) (g : Numbered) → find (is_of t) hs ≡ Some g → is_of t g ≡ true
+find_is t [] g e = absurd (none-some g e)
+find_is t (x ∷ xs) g e =
+    elim (is_of t x) as (λ v. is_of t x ≡ v → cond v (Some x) (find (is_of t) xs) ≡ Some g → is_of t g ≡ true) [
+      | true ↦ λ p k. subst (λ (y : Numbered). is_of t y ≡ true) (same_Some x g k) p
+      | false ↦ λ p k. find_is t xs g k
+    ] refl e
+
+-- what is counted under a number is of the table with that number
+pub numbered_is : (n : ℕ) (t u : TableName) (held : List Numbered) → IsInOrder held → number_of t held ≡ Some n → 0 < numbered_as n u held → t ≡ u
+numbered_is n t u held rising is some =
+    let g = found_at t n held rising (sym is) in
+    same_is t g.0.table.table (find_is t held g.0 g.1) ∙ sym (same_is u g.0.table.table (at_number n u held g.0 rising g.2 some))
+
+-- an entry that stands with the number of a table, names it
+entry_names : (t : TableName) (n s : ℕ) (held : List Numbered) (e : Entry) → IsInOrder held → number_of t held ≡ Some n → 0 < entry_times (numbered_key n s) held e → names_table t e ≡ true
+entry_names t n s held e rising is some =
+    elim (e.serial == s) as (λ v. 0 < (cond v (numbers_in n held e.tables) 0) → names_table t e ≡ true) [
+      | true ↦ λ q. named q
+      | false ↦ λ q. absurd (omega (arith, q))
+    ] some
+  where
+    named : 0 < numbers_in n held e.tables → names_table t e ≡ true
+    named q =
+        let u = some_one (λ u. numbered_as n u held) e.tables q in
+        let same : t ≡ u.0 = numbered_is n t u.0 held rising is u.1 in
+        let one : bit (same_table t u.0) ≡ 1 = subst (λ v. bit (same_table t v) ≡ 1) same (ap bit (same_name t)) in
+        some_any (same_table t) e.tables (omega (arith, u.2 (λ v. bit (same_table t v)), one))
+
+-- the only entry with a serial is the one that counts
+only_entry : (k : Key) (held : List Numbered) (es : List Entry) → ((n : ℕ) → total (λ e. bit (has_serial n e)) es ≤ 1) → 0 < total (λ e. entry_times k held e) es → (e : Entry) × (entry_at k.minor es ≡ Some e) × (0 < entry_times k held e)
+only_entry k held [] once h = absurd (omega (arith, h))
+only_entry k held (x ∷ xs) once h =
+    elim (has_serial k.minor x) as (λ v. has_serial k.minor x ≡ v → (e : Entry) × (cond v (Some x) (entry_at k.minor xs) ≡ Some e) × (0 < entry_times k held e)) [
+      | true ↦ λ p. (x, refl, omega (arith, h, none xs (omega (arith, rw p at (once k.minor)))))
+      | false ↦ λ p. only_entry k held xs (λ n. omega (arith, once n)) (omega (arith, rw p at h))
+    ] refl
+  where
+    none : (ys : List Entry) → total (λ e. bit (has_serial k.minor e)) ys ≡ 0 → total (λ e. entry_times k held e) ys ≡ 0
+    none [] q = refl
+    none (y ∷ ys) q =
+        elim (has_serial k.minor y) as (λ v. bit v + total (λ e. bit (has_serial k.minor e)) ys ≡ 0 → cond v (numbers_in k.major held y.tables) 0 + total (λ e. entry_times k held e) ys ≡ 0) [
+          | true ↦ λ r. absurd (omega (arith, r))
+          | false ↦ λ r. omega (arith, none ys (omega (arith, r)))
+        ] q
+
+pub names_it : (t : TableName) (n : ℕ) (k : Key) (es : List Entry) (room : ℕ) (held : List Numbered) (hashes named texts : Keys) → IsDir es room held hashes named texts → IsInOrder held → number_of t held ≡ Some n → k.major ≡ n → 0 < times k named.keys → IsSomeAnd (entry_at k.minor es) (λ e. names_table t e ≡ true)
+names_it t n k es room held hashes named texts d rising is same some =
+    let e = only_entry k held es d.serials (omega (arith, some, d.by_name k)) in
+    rw e.1 (entry_names t n k.minor held e.0 rising is (rw (← same) e.2))
+
+no_other : (n s : ℕ) (k : Key) → key_before k (numbered_key n 0) ≡ false → key_before (numbered_key n s) k ≡ false → k.major ≡ n
+no_other n s k a b = grind (arith, nat_tests)
+
+from_none : (n s : ℕ) → key_before (numbered_key n s) (numbered_key n 0) ≡ false
+from_none n s = grind (arith, nat_tests)
+
+-- the first key from a number on is with that, where one stands
+pub first_with : (n s : ℕ) (named : Keys) (o : Option Key) → IsLeastFrom (numbered_key n 0) named.keys o → 0 < times (numbered_key n s) named.keys → (k : Key) × (o ≡ Some k) × (k.major ≡ n) × (0 < times k named.keys)
+first_with n s named None least some = absurd (omega (arith, some, least (numbered_key n s) (from_none n s)))
+first_with n s named (Some k) least some = (k, refl, no_other n s k least.0 (least.2 (numbered_key n s) (from_none n s) some), least.1)
+
+-- ---- texts at a place
+
+pub none_text : (place : ℕ) (texts : Keys) (es : List Entry) (o : Option Key) → ((k : Key) → times k texts.keys ≡ total (λ e. bit (same_key k (text_key e))) es) → IsLeastFrom (numbered_key place 0) texts.keys o → ((k : Key) → o ≡ Some k → k.major ≡ place → ⊥) → texts_at place es ≡ 0
+none_text place texts es o stands least other = none es (each_counted (λ e. e.text.first ≡ place → ⊥) es (λ e counts same.
+    let one : bit (same_key (numbered_key place e.serial) (text_key e)) ≡ 1 = rw (← same, same_itself (text_key e)) refl in
+    let found = first_with place e.serial texts o least (omega (arith, stands (numbered_key place e.serial), counts (λ x. bit (same_key (numbered_key place e.serial) (text_key x))), one)) in
+    other found.0 found.1 found.2))
+  where
+    none : (xs : List Entry) → AllByRecursion (λ e. e.text.first ≡ place → ⊥) xs → texts_at place xs ≡ 0
+    none [] all = refl
+    none (x ∷ xs) all = let test : (x.text.first == place) ≡ false = differ x.text.first all.0 in rw test (omega (arith, none xs all.1))
+      where
+        differ : (n : ℕ) → (n ≡ place → ⊥) → (n == place) ≡ false
+        differ n e = grind (arith, nat_tests)
+
+pub text_there : (k : Key) (es : List Entry) → ((n : ℕ) → total (λ e. bit (has_serial n e)) es ≤ 1) → 0 < total (λ e. bit (same_key k (text_key e))) es → (e : Entry) × (entry_at k.minor es ≡ Some e) × (text_key e ≡ k)
+text_there k [] once h = absurd (omega (arith, h))
+text_there k (x ∷ xs) once h =
+    elim (has_serial k.minor x) as (λ v. has_serial k.minor x ≡ v → (e : Entry) × (cond v (Some x) (entry_at k.minor xs) ≡ Some e) × (text_key e ≡ k)) [
+      | true ↦ λ p. (x, refl, sym (same_both k (text_key x) (bit_true (same_key k (text_key x)) (omega (arith, h, none xs (omega (arith, rw p at (once k.minor))))))))
+      | false ↦ λ p. text_there k xs (λ n. omega (arith, once n)) (omega (arith, h, other p))
+    ] refl
+  where
+    other : has_serial k.minor x ≡ false → bit (same_key k (text_key x)) ≡ 0
+    other p = let test : same_key k (text_key x) ≡ false = grind (arith, nat_tests) in rw test refl
+
+    lower : (y : Entry) → bit (same_key k (text_key y)) ≤ bit (has_serial k.minor y)
+    lower y = grind (arith, nat_tests)
+
+    none : (ys : List Entry) → total (λ e. bit (has_serial k.minor e)) ys ≡ 0 → total (λ e. bit (same_key k (text_key e))) ys ≡ 0
+    none ys q = omega (arith, q, total-le (λ e. bit (same_key k (text_key e))) (λ e. bit (has_serial k.minor e)) ys lower)
+
+pub text_same : (change : Move) (e : Entry) → e.text.first ≡ change.from → (change.from ≡ change.to → ⊥) → moved_entry change (placed_text change.to e) ≡ moved_entry change e
+text_same change e is other =
+    let stood : (e.text.first == change.from) ≡ true = equal e.text.first change.from is in
+    let stands : (change.to == change.from) ≡ false = differ change.to change.from (λ q. other (sym q)) in
+    rw (stood, stands) refl
+  where
+    equal : (a b : ℕ) → a ≡ b → (a == b) ≡ true
+    equal a b q = grind (arith, nat_tests)
+
+    differ : (a b : ℕ) → (a ≡ b → ⊥) → (a == b) ≡ false
+    differ a b q = grind (arith, nat_tests)
+
+pub text_counts : (change : Move) (es : List Entry) (n : ℕ) (e : Entry) → ((m : ℕ) → total (λ x. bit (has_serial m x)) es ≤ 1) → entry_at n es ≡ Some e → e.text.first ≡ change.from → (change.from ≡ change.to → ⊥) → texts_at change.from (changed n (placed_text change.to) es) + 1 ≡ texts_at change.from es
+text_counts change es n e once at is other = omega (arith, total-changed_one (λ x. bit (x.text.first == change.from)) (placed_text change.to) n es e once at, stood e.text.first change.from is, stands change.to change.from (λ q. other (sym q)))
+  where
+    stood : (a b : ℕ) → a ≡ b → bit (a == b) ≡ 1
+    stood a b q = grind (arith, nat_tests)
+
+    stands : (a b : ℕ) → (a ≡ b → ⊥) → bit (a == b) ≡ 0
+    stands a b q = grind (arith, nat_tests)
+
+pub texts-placed : (n first : ℕ) (es : List Entry) (e : Entry) (room room' : ℕ) (held : List Numbered) (hashes named texts between texts' : Keys) → IsDir es room held hashes named texts → entry_at n es ≡ Some e → room' ≡ room
+    → ((k : Key) → times k between.keys + bit (same_key k (text_key e)) ≡ times k texts.keys) → between.room ≡ texts.room + 1
+    → ((k : Key) → times k texts'.keys ≡ times k between.keys + bit (same_key k (numbered_key first n))) → texts'.room + 1 ≡ between.room
+    → IsDir (changed n (placed_text first) es) room' held hashes named texts'
+texts-placed n first es e room room' held hashes named texts between texts' d at rooms one one_room two two_room = record {
+  serials = λ m. rw (total-changed (λ x. bit (has_serial m x)) (placed_text first) n es (λ x. refl)) (d.serials m);
+  once = d.once;
+  few = total-changed (λ x. bit (nat_lt 8 (length x.tables))) (placed_text first) n es (λ x. refl) ∙ d.few;
+  blocks = λ t. rw (total-changed (λ x. bit (names_table t x)) (placed_text first) n es (λ x. refl)) (d.blocks t);
+  by_hash = λ k. d.by_hash k ∙ sym (total-changed (λ x. bit (same_key k (hash_key x))) (placed_text first) n es (λ x. refl));
+  by_text = λ k. omega (arith, one k, rw (← entry-serial n es e at) at (two k), d.by_text k, total-changed_one (λ x. bit (same_key k (text_key x))) (placed_text first) n es e d.serials at);
+  by_name = λ k. d.by_name k ∙ sym (total-changed (λ x. entry_times k held x) (placed_text first) n es (λ x. refl));
+  hash_room = omega (arith, d.hash_room, rooms);
+  text_room = omega (arith, d.text_room, rooms, one_room, two_room);
+  name_room = omega (arith, d.name_room, rooms, total-changed (λ x. 8 - length x.tables) (placed_text first) n es (λ x. refl));
+}
+
+pub moved_dir : (change : Move) (es : List Entry) (room : ℕ) (held new : List Numbered) (hashes named texts : Keys) → IsDir es room held hashes named texts → new ≡ map (moved_numbered change) held → IsDir es room new hashes named texts
+moved_dir change es room held new hashes named texts d is = rw is (record {
+  serials = d.serials;
+  once = λ t. rw (total-map (λ h. bit (is_of t h)) (moved_numbered change) held) (d.once t);
+  few = d.few;
+  blocks = λ t. rw (total-map (λ h. bit (is_of t h)) (moved_numbered change) held) (d.blocks t);
+  by_hash = d.by_hash;
+  by_text = d.by_text;
+  by_name = λ k. d.by_name k ∙ total-same (λ e. entry_times k held e) (λ e. entry_times k (map (moved_numbered change) held) e) es (each_counted (λ e. entry_times k held e ≡ entry_times k (map (moved_numbered change) held) e) es (λ e counts. same_times k e));
+  hash_room = d.hash_room;
+  text_room = d.text_room;
+  name_room = d.name_room;
+})
+  where
+    same_names : (n : ℕ) (ts : List TableName) → numbers_in n held ts ≡ numbers_in n (map (moved_numbered change) held) ts
+    same_names n [] = refl
+    same_names n (t ∷ ts) = omega (arith, same_names n ts, total-map (λ h. bit (has_number n h && is_of t h)) (moved_numbered change) held)
+
+    same_times : (k : Key) (e : Entry) → entry_times k held e ≡ entry_times k (map (moved_numbered change) held) e
+    same_times k e = ap (λ n. cond (e.serial == k.minor) n 0) (same_names k.major e.tables)
+
+pub moved_tables : (change : Move) (held new : List Numbered) → new ≡ map (moved_numbered change) held → tables_in new ≡ map (moved_table change) (tables_in held)
+moved_tables change held new is = rw is (both held)
+  where
+    both : (hs : List Numbered) → tables_in (map (moved_numbered change) hs) ≡ map (moved_table change) (tables_in hs)
+    both [] = refl
+    both (h ∷ hs) = ap (λ bs. moved_table change h.table ∷ bs) (both hs)
+
+texts_moved : (change : Move) (es : List Entry) → texts_at change.from es ≡ 0 → map (moved_entry change) es ≡ es
+texts_moved change [] h = refl
+texts_moved change (x ∷ xs) h =
+    elim (x.text.first == change.from) as (λ v. (x.text.first == change.from) ≡ v → bit v + texts_at change.from xs ≡ 0 → map (moved_entry change) (x ∷ xs) ≡ x ∷ xs) [
+      | true ↦ λ e k. absurd (omega (arith, k))
+      | false ↦ λ e k. rw e (ap (λ ys. x ∷ ys) (texts_moved change xs (omega (arith, k))))
+    ] refl h
+
+abbrev block_at : ℕ → ℕ → Block
+block_at n words = record { first = n; words = words }
+
+unmoved : (change : Move) (b : Block) → change.from ≡ change.to → moved change b ≡ b
+unmoved change b is =
+    elim (b.first == change.from) as (λ v. (b.first == change.from) ≡ v → cond v (record { first = change.to; words = b.words }) b ≡ b) [
+      | true ↦ λ e. let first : b.first ≡ change.from = grind (arith, nat_tests) in ap (λ n. block_at n b.words) (sym (first ∙ is))
+      | false ↦ λ e. refl
+    ] refl
+
+-- a block that stays where it is
+pub shift_none : (change : Move) (d : Directory) → change.from ≡ change.to → d ≡ after_shift change d
+shift_none change d is = rw (entries d.entries, tables d.tables) refl
+  where
+    entries : (es : List Entry) → map (moved_entry change) es ≡ es
+    entries [] = refl
+    entries (e ∷ es) = rw (unmoved change e.text is, entries es) refl
+
+    tables : (bs : List TableBlock) → map (moved_table change) bs ≡ bs
+    tables [] = refl
+    tables (b ∷ bs) = rw (unmoved change b.block is, tables bs) refl
+
+pub shifted : (change : Move) (old new : Directory) → texts_at change.from new.entries ≡ 0 → map (moved_entry change) new.entries ≡ map (moved_entry change) old.entries → new.tables ≡ map (moved_table change) old.tables → new.room ≡ old.room → new.table_room ≡ old.table_room → new ≡ after_shift change old
+shifted change old new none entries tables room table_room =
+    rw (← entries, ← tables, ← room, ← table_room, texts_moved change new.entries none) refl

@@ -1,0 +1,7 @@
+pub mod Blocks
+pub mod Directory
+pub mod Indexed
+pub mod Keys
+pub mod Plain
+pub mod Slots
+pub mod Uses

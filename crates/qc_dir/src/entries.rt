@@ -1,0 +1,65 @@
+//! Entries.
+
+ghost use Rattle.std.specs.Prelude.{◌≡◌};
+ghost use Rattle.qc_dir.specs.Directory.{is_idle};
+
+use crate::tables::TableBlocks;
+use qc_chain::ChainName;
+use qc_index::Blank;
+use qc_tiles::Block;
+use qc_types::Tables;
+use std::alloc::Global;
+
+/// A reply that is kept, or that is still being made, with what its statement is found by.
+#[derive(Debug, Drop)]
+pub struct Entry {
+    /// Its number, by which it is known as long as it is there.
+    pub serial: u64,
+    /// The hash of its key.
+    pub hash: u64,
+    /// The block that holds its key.
+    pub text: Block,
+    /// The bytes of its key.
+    pub text_bytes: u32,
+    /// The tables that its statement reads, at most 8.
+    pub tables: Tables,
+    /// The chain of blocks that holds its reply.
+    pub chain: ChainName,
+    /// Whether the reply is whole.
+    pub complete: bool,
+    /// How many sessions are sending the reply right now.
+    pub users: u32,
+}
+
+impl Entry {
+    /// Whether it is complete and without users.
+    pub(crate) fn is_idle(&self) -> bool
+        ensures { result ≡ is_idle self.now }
+    {
+        self.complete && self.users == 0
+    }
+}
+
+impl Blank for Entry {
+    fn blank(alloc: Global) -> Entry {
+        Entry {
+            serial: 0,
+            hash: 0,
+            text: Block { first: 0, words: 0 },
+            text_bytes: 0,
+            tables: Tables::new(alloc),
+            chain: ChainName { number: 0 },
+            complete: false,
+            users: 0,
+        }
+    }
+}
+
+/// An entry that has left, and the blocks that nobody needs any more.
+#[derive(Debug, Drop)]
+pub struct Removed {
+    /// The entry.
+    pub entry: Entry,
+    /// The tables that no other entry names, with their blocks.
+    pub freed: TableBlocks,
+}

@@ -1,0 +1,199 @@
+//! The tables that have a block, in numbered slots.
+
+ghost use Rattle.std.specs.Prelude.{◌≡◌, ◌≢◌, ◌+◌, ◌<◌, [], ◌∷◌, true, false, map, IfOk, IsSome, MatchOption, IsPermutation, is_some};
+ghost use Rattle.std.specs.List.{AllByRecursion};
+ghost use Rattle.qc_dir.specs.Directory.{block_of};
+ghost use Rattle.qc_dir.specs.Slots.{tables_of, number_of, numbered_at, IsInOrder, NoneUnder, IsNextUnder, is_of, moved_numbered, blocks_at};
+
+use crate::keys::KeySet;
+use crate::tables::{TableBlock, is_same_table};
+use qc_index::Key;
+use qc_key::table_hash;
+use qc_tiles::{Block, Move};
+use qc_types::{NoMemory, TableName};
+use std::alloc::Global;
+use std::marker::Model;
+
+/// The tables that have a block, each in a slot whose number it keeps, with room for a number of them that is taken once. Beside them stand the free
+/// slots, the hashes of the names and the places of the blocks. Contracts see the tables under their numbers. Each call but `new` costs a few logarithms
+/// of their number, where no two names have the same hash.
+#[derive(Drop)]
+pub(crate) struct TableSlots {
+    slots: Vec<Option<TableBlock>>,
+    free: Vec<u32>,
+    names: KeySet,
+    places: KeySet,
+}
+
+impl Model for TableSlots {
+    ghost use Rattle.std.specs.Prelude.{length, vec_capacity};
+    ghost use Rattle.qc_dir.specs.Slots.{Tabled, IsSlots, held_from};
+
+    ghost Value = { Tabled };
+
+    ghost view = { λ s. record { held = held_from 0 s.slots.items; room = length s.free.items } };
+
+    ghost invariant = { λ s. IsSlots s.slots.items s.free.items (vec_capacity s.free) s.names s.places };
+}
+
+impl TableSlots {
+    /// No tables, and room for so many.
+    pub(crate) fn new(alloc: Global, room: u32) -> Result<TableSlots, NoMemory>
+        ensures { IfOk result (λ s. s ≡ record { held = []; room = room }) }
+    {
+        let mut slots = Vec::with_capacity(alloc, room as usize)?;
+        let mut free = Vec::with_capacity(alloc, room as usize)?;
+        for number in 0..room {
+            slots.push_reserved(None);
+            free.push_reserved(number);
+        }
+        let names = KeySet::new(alloc, room)?;
+        let places = KeySet::new(alloc, room)?;
+        Ok(TableSlots {
+            slots,
+            free,
+            names,
+            places,
+        })
+    }
+
+    /// How many more tables there is room for.
+    pub(crate) fn room(&self) -> u32
+        ensures { result ≡ self.now.room }
+    {
+        self.free.len() as u32
+    }
+
+    /// The number of a table, if it has a block. It walks over the tables whose names have the same hash.
+    pub(crate) fn find(&self, table: &TableName) -> Option<u32>
+        ensures number { result ≡ number_of table.now self.now.held }
+        ensures rising { IsInOrder self.now.held }
+    {
+        let hash = table_hash(table);
+        let mut from = 0u64;
+        while let Some(number) = self.next_under(hash, from) {
+            if self.is_at(number, table) {
+                return Some(number);
+            }
+            from = u64::from(number) + 1;
+        }
+        None
+    }
+
+    /// The first number from one on of a table whose name has a hash, if any.
+    fn next_under(&self, hash: u64, from: u64) -> Option<u32>
+        ensures next { MatchOption result (NoneUnder hash from self.now.held) (λ n. IsNextUnder hash from self.now.held n) }
+        ensures rising { IsInOrder self.now.held }
+    {
+        let Some(key) = self.names.first_from(Key {
+            major: hash,
+            minor: from,
+        })
+        else {
+            return None;
+        };
+        if key.major != hash {
+            return None;
+        }
+        Some(key.minor as u32)
+    }
+
+    /// Whether a number is that of a table.
+    fn is_at(&self, number: u32, table: &TableName) -> bool
+        requires { IsSome (numbered_at number self.now.held) }
+        ensures { AllByRecursion (λ h. h.number ≡ number → result ≡ is_of table.now h) self.now.held }
+    {
+        match &self.slots[number as usize] {
+            Some(item) => is_same_table(table, &item.table),
+            None => false,
+        }
+    }
+
+    /// The block of a table, if it has one.
+    pub(crate) fn block(&self, table: &TableName) -> Option<Block>
+        ensures { result ≡ block_of table.now (tables_of self.now) }
+    {
+        let Some(number) = self.find(table) else {
+            return None;
+        };
+        match &self.slots[number as usize] {
+            Some(item) => Some(item.block),
+            None => None,
+        }
+    }
+
+    /// Puts a table in, and gives its number.
+    pub(crate) fn add(&mut self, item: TableBlock) -> u32
+        requires { 0 < self.old.room }
+        ensures held { IsPermutation self.new.held (record { number = result; table = item } ∷ self.old.held) }
+        ensures room { self.new.room + 1 ≡ self.old.room }
+    {
+        let Some(number) = self.free.pop() else {
+            unreachable!()
+        };
+        self.names
+            .insert(table_hash(&item.table), u64::from(number));
+        self.places
+            .insert(u64::from(item.block.first), u64::from(number));
+        self.slots[number as usize] = Some(item);
+        number
+    }
+
+    /// Takes the table with a number out.
+    pub(crate) fn free(&mut self, number: u32) -> TableBlock
+        requires { IsSome (numbered_at number self.old.held) }
+        ensures held { IsPermutation self.old.held (record { number = number; table = result } ∷ self.new.held) }
+        ensures room { self.new.room ≡ self.old.room + 1 }
+    {
+        let Some(item) = self.slots[number as usize].take() else {
+            unreachable!()
+        };
+        self.names.remove(Key {
+            major: table_hash(&item.table),
+            minor: u64::from(number),
+        });
+        self.places.remove(Key {
+            major: u64::from(item.block.first),
+            minor: u64::from(number),
+        });
+        self.free.push_reserved(number);
+        item
+    }
+
+    /// Follows a block that moved to another place, of all tables whose block stood where it moved away.
+    pub(crate) fn shift(&mut self, change: Move)
+        requires { change.from ≢ change.to }
+        ensures held { self.new.held ≡ map (moved_numbered change) self.old.held }
+        ensures room { self.new.room ≡ self.old.room }
+    {
+        while self.shift_one(change) {}
+    }
+
+    /// Follows the block of one table. False where none stands at the place.
+    fn shift_one(&mut self, change: Move) -> bool
+        requires { change.from ≢ change.to }
+        ensures held { map (moved_numbered change) self.new.held ≡ map (moved_numbered change) self.old.held }
+        ensures room { self.new.room ≡ self.old.room }
+        ensures one { result ≡ true → blocks_at change.from self.new.held + 1 ≡ blocks_at change.from self.old.held }
+        ensures none { result ≡ false → blocks_at change.from self.new.held ≡ 0 }
+    {
+        let Some(key) = self.places.first_from(Key {
+            major: u64::from(change.from),
+            minor: 0,
+        })
+        else {
+            return false;
+        };
+        if key.major != u64::from(change.from) {
+            return false;
+        }
+        let Some(mut item) = self.slots[key.minor as usize].take() else {
+            unreachable!()
+        };
+        item.block.first = change.to;
+        self.slots[key.minor as usize] = Some(item);
+        self.places.remove(key);
+        self.places.insert(u64::from(change.to), key.minor);
+        true
+    }
+}
