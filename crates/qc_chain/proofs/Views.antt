@@ -7,8 +7,8 @@ use Rattle.qc_tiles.specs.declared.blocks.Block.{Block}
 use Rattle.qc_tiles.specs.declared.blocks.Move.{Move}
 use Rattle.qc_chain.specs.declared.names.Piece.{Piece}
 use Rattle.qc_chain.specs.Words.{words_of}
-use Rattle.qc_chain.specs.Chains.{Chain, Chained, Begun, chain_at, extent_of, no_chains, after_shift, moved, moved_chain}
-use Rattle.qc_chain.specs.Pieces.{blocks_of, chain_of, chains_from, chained, moved_piece, bytes_at, IsFit, IsSound, AreSound}
+use Rattle.qc_chain.specs.Chains.{Chain, Chained, Begun, IsFit, chain_at, extent_of, no_chains, after_shift, moved, moved_chain}
+use Rattle.qc_chain.specs.Pieces.{blocks_of, chain_of, chains_from, chained, moved_piece, bytes_at, IsSound, AreSound}
 use Rattle.qc_chain.proofs.Pieces.{blocks_moved, words_moved}
 
 -- ---- reading
@@ -145,6 +145,12 @@ length_fits n bytes ls ps sound h = subst (λ (l : Option ℕ). IsSound n l ps) 
 -- a chain that was begun fits
 pub begun_fits : (n : ℕ) (ls : List (Option ℕ)) (ps : List Piece) (held : Chain) → AreSound ls ps → IsBegun n ls ps held → IsFit (blocks_of n ps) held.bytes
 begun_fits n ls ps held sound h = length_fits n held.bytes ls ps sound h.length
+
+-- the same, of the chain as contracts see it
+pub held_fits : (n room : ℕ) (ls : List (Option ℕ)) (ps : List Piece) (v : Chained) (held : Chain) → AreSound ls ps → chained ls ps room ≡ v → Begun n v held → IsFit held.blocks held.bytes
+held_fits n room ls ps v held sound view h =
+    let known = begun_at n room ls ps v held view h in
+    subst (λ (bs : List Block). IsFit bs held.bytes) (sym known.same) (begun_fits n ls ps held sound known)
 
 pub free_has_none : (n : ℕ) (ls : List (Option ℕ)) (ps : List Piece) → AreSound ls ps → slice_get ls n ≡ Some None → blocks_of n ps ≡ []
 free_has_none n ls ps sound h = subst (λ (l : Option ℕ). IsSound n l ps) (ap (option_and_then (λ x. x)) h) (sound n)

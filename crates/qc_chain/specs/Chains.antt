@@ -29,6 +29,11 @@ chain_at n c = option_and_then (λ x. x) (slice_get c.chains n)
 abbrev pub Begun : ℕ → Chained → Chain → Type 0
 Begun n c chain = chain_at n c ≡ Some chain
 
+-- the words and the bytes that a chain may have
+pub record IsFit (blocks : List Block) (bytes : ℕ) : Type 0 where
+  pub most : words_of blocks ≤ 8388608
+  pub within : bytes ≤ 8 * words_of blocks
+
 abbrev pub with_chain : ℕ → Option Chain → Chained → Chained
 with_chain n chain c = record c { chains = slice_set c.chains n chain }
 

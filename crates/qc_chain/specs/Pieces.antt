@@ -1,10 +1,9 @@
 -- Blocks of all chains in one list, each with the number of its chain.
-use Rattle.std.specs.Prelude.{◌≡◌, ℕ, ◌+◌, ◌*◌, ◌<◌, ◌≤◌, ◌^◌, List, [], ◌∷◌, length, Option, Some, None, option_map, option_and_then, slice_get, slice_index_or, ◌==◌, if◌then◌else◌}
+use Rattle.std.specs.Prelude.{◌≡◌, ℕ, ◌+◌, ◌<◌, ◌≤◌, ◌^◌, List, [], ◌∷◌, length, Option, Some, None, option_map, option_and_then, slice_get, slice_index_or, ◌==◌, if◌then◌else◌}
 use Rattle.qc_tiles.specs.declared.blocks.Block.{Block}
 use Rattle.qc_tiles.specs.declared.blocks.Move.{Move}
 use Rattle.qc_chain.specs.declared.names.Piece.{Piece}
-use Rattle.qc_chain.specs.Words.{words_of}
-use Rattle.qc_chain.specs.Chains.{Chain, Chained, moved}
+use Rattle.qc_chain.specs.Chains.{Chain, Chained, IsFit, moved}
 
 -- the blocks of a chain, in order
 abbrev pub blocks_of : ℕ → List Piece → List Block
@@ -28,11 +27,6 @@ moved_piece change p = record { chain = p.chain; block = moved change p.block }
 -- the byte length under a number, if a chain has it
 abbrev pub bytes_at : ℕ → List (Option ℕ) → Option ℕ
 bytes_at n lengths = option_and_then (λ x. x) (slice_get lengths n)
-
--- a chain whose words and bytes fit
-pub record IsFit (blocks : List Block) (bytes : ℕ) : Type 0 where
-  pub most : words_of blocks ≤ 8388608
-  pub within : bytes ≤ 8 * words_of blocks
 
 -- no blocks where there is no chain
 abbrev pub IsSound : ℕ → Option ℕ → List Piece → Type 0

@@ -3,7 +3,7 @@
 ghost use Rattle.std.specs.Prelude.{◌≡◌, ℕ, ◌+◌, ◌-◌, ◌*◌, ◌/◌, ◌<◌, ◌≤◌, ◌^◌, ◌∷◌, [], map, length, slice_set, slice_get, slice_index_or, Contains, IsTrue, ◌↔◌, Some, None, option_map, IfOk};
 ghost use Rattle.qc_tiles.specs.Tiles.{IsTiling, region_words};
 ghost use Rattle.qc_chain.specs.Words.{words_of, word_at, spot_at};
-ghost use Rattle.qc_chain.specs.Chains.{Chain, Begun, AreHandedOut, EndsInLast, no_chains, chain_at, extent_of, empty_chain, with_chain, after_append, after_shift, after_release, used_words, cut_chain, after_cut};
+ghost use Rattle.qc_chain.specs.Chains.{Chain, Begun, IsFit, AreHandedOut, EndsInLast, no_chains, chain_at, extent_of, empty_chain, with_chain, after_append, after_shift, after_release, used_words, cut_chain, after_cut};
 ghost use Rattle.qc_chain.specs.Stored.{extent_at};
 
 use crate::members::{FreeName, Held, Standing, key};
@@ -82,9 +82,11 @@ impl Chains {
         self.room
     }
 
-    /// How much a chain has. None exactly where no chain of that name was begun, or where it was released.
+    /// How much a chain has: at most 8,388,608 words, and no more bytes than its words hold. None exactly where no chain of that name was begun, or where it
+    /// was released.
     pub fn extent(&self, chain: ChainName) -> Option<Extent>
-        ensures { result ≡ option_map extent_of (chain_at chain.number self.now) }
+        ensures extent { result ≡ option_map extent_of (chain_at chain.number self.now) }
+        ensures fit { (held : Chain) → Begun chain.number self.now held → IsFit held.blocks held.bytes }
     {
         extent_at(self.extents.as_slice(), chain.number)
     }
@@ -150,7 +152,8 @@ impl Chains {
     /// Makes the ranges those of a chain: its blocks, and its byte length. Costs the chain's blocks times a logarithm.
     pub fn ranges(&self, chain: ChainName, out: &mut Ranges)
         requires { (held : Chain) × Begun chain.number self.now held × (length held.blocks ≤ out.old.room) }
-        ensures { (held : Chain) → Begun chain.number self.now held → out.new ≡ record { blocks = held.blocks; bytes = held.bytes; room = out.old.room } }
+        ensures ranges { (held : Chain) → Begun chain.number self.now held → out.new ≡ record { blocks = held.blocks; bytes = held.bytes; room = out.old.room } }
+        ensures fit { (held : Chain) → Begun chain.number self.now held → IsFit held.blocks held.bytes }
     {
         let Some(extent) = extent_at(self.extents.as_slice(), chain.number) else {
             unreachable!()

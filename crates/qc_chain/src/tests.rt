@@ -1,6 +1,7 @@
 //! Chains of a few blocks, and of many, by public calls. What is expected was worked out by hand.
 
 mod calls;
+mod many;
 
 ghost use Rattle.std.specs.Prelude.{◌≡◌};
 
@@ -69,6 +70,31 @@ fn names<D: Calls>(rt: &impl Abort, alloc: Global) -> Result<(), Fail> {
 fn names_are_begun_and_released(rt: HostRuntime) -> Result<(), Fail> {
     names::<Chains>(&rt, rt.alloc())?;
     names::<PlainChains>(&rt, rt.alloc())
+}
+
+/// A region of 1,024 bytes.
+fn small<D: Calls>(rt: &impl Abort, alloc: Global) -> Result<(), Fail> {
+    let mut tiles = Tiles::new(alloc, 128)?;
+    let mut chains: D = made(alloc, 2)?;
+    let first = begin(rt, &mut chains);
+    let second = begin(rt, &mut chains);
+    assert!(rt; !chains.has_free_name());
+    append(rt, &mut chains, first, take(rt, &mut tiles, 64, 0));
+    append(rt, &mut chains, second, take(rt, &mut tiles, 64, 64));
+    assert_eq!(rt; (chains.room(), tiles.totals()), (0, totals(2, 0, 0)));
+    trim_last(rt, alloc, &mut chains, second, 1, &mut tiles)?;
+    expect(rt, &list(rt, alloc, &chains, second)?, &[block(64, 64)], 1);
+    release(rt, alloc, &mut chains, first, &mut tiles)?;
+    assert_eq!(rt; (chains.room(), tiles.totals()), (1, totals(2, 1, 64)));
+    release(rt, alloc, &mut chains, second, &mut tiles)?;
+    assert_eq!(rt; (chains.room(), tiles.totals()), (2, totals(1, 1, 128)));
+    Ok(())
+}
+
+#[test]
+fn two_chains_in_the_smallest_region(rt: HostRuntime) -> Result<(), Fail> {
+    small::<Chains>(&rt, rt.alloc())?;
+    small::<PlainChains>(&rt, rt.alloc())
 }
 
 fn cuts<D: Calls>(rt: &impl Abort, alloc: Global) -> Result<(), Fail> {

@@ -2,7 +2,7 @@
 
 ghost use Rattle.std.specs.Prelude.{◌≡◌, false, IfOk};
 ghost use Rattle.qc_chain.specs.Chains.{Chain, Begun, AreHandedOut, extent_of};
-ghost use Rattle.qc_chain.specs.Alone.{IsBehind};
+ghost use Rattle.qc_chain.specs.Alone.{IsBehind, BeginsFrom};
 
 use crate::{Block, ChainName, Chains, Extent, Move, PlainChains, Ranges, Spot, Tiles};
 use qc_types::NoMemory;
@@ -217,14 +217,24 @@ fn is_behind(ranges: &Ranges, from: u32, block: Block) -> bool
     false
 }
 
-/// That each block is handed out, and none stands there twice.
+/// Whether a block stands at an index or behind it, where no block there begins below a word.
+fn stands_behind(ranges: &Ranges, from: u32, lowest: u32, block: Block) -> bool
+    requires { BeginsFrom ranges.now.blocks from lowest }
+    ensures { result ≡ false → IsBehind ranges.now.blocks from block → ⊥ }
+{
+    lowest <= block.first && is_behind(ranges, from, block)
+}
+
+/// That each block is handed out, and none stands there twice. Where they rise, it is linear in their number.
 fn are_handed_out(rt: &impl Abort, tiles: &Tiles, ranges: &Ranges)
     ensures { AreHandedOut tiles.now ranges.now.blocks }
 {
+    let mut lowest = u32::MAX;
     for index in (0..ranges.blocks()).rev() {
         let block = ranges.block(index);
         assert!(rt; tiles.is_handed_out(block));
-        assert!(rt; !is_behind(ranges, index + 1, block));
+        assert!(rt; !stands_behind(ranges, index + 1, lowest, block));
+        lowest = lowest.min(block.first);
     }
 }
 
