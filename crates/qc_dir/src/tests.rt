@@ -1,7 +1,9 @@
 //! Directories of a few entries, by public calls. What is expected was worked out by hand.
 
+mod alike;
 mod calls;
 mod fast;
+mod many;
 
 use crate::{Move, PlainDir};
 use calls::{Calls, block, complete, drain, enter, insert, leave, remove, table, touch};

@@ -200,7 +200,17 @@ pub fn insert<D: Calls>(
     names: &[&str],
     first: u32,
 ) -> Result<(), Fail> {
-    let entry = entry_on(alloc, serial, hash, names)?;
+    put_in(rt, alloc, dir, entry_on(alloc, serial, hash, names)?, first)
+}
+
+/// Puts in an entry, whose fresh blocks stand from a place on.
+pub fn put_in<D: Calls>(
+    rt: &impl Abort,
+    alloc: Global,
+    dir: &mut D,
+    entry: Entry,
+    first: u32,
+) -> Result<(), Fail> {
     assert!(rt; entry.tables.items().len() <= 8);
     let fresh = fresh_for(alloc, dir, &entry, first)?;
     let (room, table_room) = dir.room();
