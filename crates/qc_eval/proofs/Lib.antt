@@ -1,0 +1,14 @@
+pub mod Sorts
+pub mod Orders
+pub mod Places
+pub mod Joins
+pub mod Truths
+pub mod Walks
+pub mod Scans
+pub mod Levels
+pub mod Folds
+pub mod SortKeys
+pub mod Gathers
+pub mod Stages
+pub mod Rows
+pub mod Plans

@@ -1,0 +1,16 @@
+pub mod Buffered
+pub mod Chosen
+pub mod Operands
+pub mod Texts
+pub mod Values
+pub mod Walk
+pub mod Scans
+pub mod Levels
+pub mod Rooms
+pub mod Shown
+pub mod Folds
+pub mod Ahead
+pub mod SortKeys
+pub mod Stages
+pub mod Buffers
+pub mod Plans

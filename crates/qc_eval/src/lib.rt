@@ -1,0 +1,23 @@
+//! The rows of a SELECT.
+#![tactic(auto)]
+
+mod buffer;
+mod comparison;
+mod filters;
+mod gathering;
+mod item;
+mod joined;
+mod operand;
+mod plan;
+mod row;
+mod scan;
+mod scene;
+mod sizes;
+mod sorting;
+mod stage;
+mod texts;
+mod totals;
+mod truth;
+mod values;
+
+pub use plan::Plan;

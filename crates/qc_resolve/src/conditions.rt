@@ -1,0 +1,130 @@
+//! Conditions.
+
+ghost use Rattle.std.specs.Prelude.{◌≡◌};
+ghost use Rattle.std.specs.List.{list_any};
+ghost use Rattle.qc_types.specs.Answers.{Gives};
+ghost use Rattle.qc_sql.specs.Rows.{each, mixes, sort_of_value};
+ghost use Rattle.qc_resolve.specs.Judged.{comparable, compare_judged, in_judged, between_judged, test_judged, condition_judged};
+ghost use Rattle.qc_resolve.specs.Views.{sort_of};
+
+use crate::scope::Scope;
+use crate::test::{Test, Tests};
+use crate::values::{Sort, row_value, sort_of_literal};
+use qc_errors::not_supported;
+use qc_sql::statements::{Cond, Expr, Op, Values};
+use qc_types::{Boxed, Or, SqlError, Value};
+use std::alloc::Global;
+
+/// The test of a condition, where there is one; or the first refusal, from left to right.
+pub fn condition(
+    alloc: Global,
+    scope: &Scope,
+    cond: &Option<Cond>,
+) -> Result<Option<Test>, Or<SqlError>>
+    ensures { Gives (λ t. t) (λ e. e) result (condition_judged scope.now cond.now) }
+{
+    match cond {
+        None => Ok(None),
+        Some(cond) => Ok(Some(test(alloc, scope, cond)?)),
+    }
+}
+
+#[tactic(auto, using(qc_sql::specs::Trees::cond_laws))]
+#[cycle(tests)]
+fn test(alloc: Global, scope: &Scope, cond: &Cond) -> Result<Test, Or<SqlError>>
+    ensures { Gives (λ t. t) (λ e. e) result (test_judged scope.now cond.now) }
+{
+    match cond {
+        Cond::Or(all) => Ok(Test::Any(tests(alloc, scope, all.items())?)),
+        Cond::And(all) => Ok(Test::All(tests(alloc, scope, all.items())?)),
+        Cond::Not(of) => {
+            let of = test(alloc, scope, of.get())?;
+            Ok(Test::Not(Boxed::new(alloc, of)?))
+        }
+        Cond::Compare(a, op, b) => compare(alloc, scope, a, *op, b),
+        Cond::IsNull(of) => {
+            let of = row_value(alloc, scope, of)?;
+            Ok(Test::IsNull(of.formula))
+        }
+        Cond::In(of, values) => is_in(alloc, scope, of, values),
+        Cond::Between(of, low, high) => between(alloc, scope, of, low, high),
+    }
+}
+
+#[cycle(tests)]
+fn tests(alloc: Global, scope: &Scope, conds: &[Cond]) -> Result<Tests, Or<SqlError>>
+    ensures { Gives (λ ts. ts) (λ e. e) result (each (test_judged scope.now) conds.now) }
+{
+    let mut tests = Tests::new(alloc);
+    for cond in conds {
+        tests.push(test(alloc, scope, cond)?)?;
+    }
+    Ok(tests)
+}
+
+fn compare(alloc: Global, scope: &Scope, a: &Expr, op: Op, b: &Expr) -> Result<Test, Or<SqlError>>
+    ensures { Gives (λ t. t) (λ e. e) result (compare_judged scope.now a.now op b.now) }
+{
+    let a = row_value(alloc, scope, a)?;
+    let b = row_value(alloc, scope, b)?;
+    comparable(alloc, a.sort, b.sort)?;
+    Ok(Test::Compare(a.formula, op, b.formula))
+}
+
+fn is_in(alloc: Global, scope: &Scope, of: &Expr, values: &Values) -> Result<Test, Or<SqlError>>
+    ensures { Gives (λ t. t) (λ e. e) result (in_judged scope.now of.now values.now) }
+{
+    let of = row_value(alloc, scope, of)?;
+    if mixes_any(of.sort, values.items()) {
+        return Err(Or::Other(not_supported(alloc, b"mixed comparison")?));
+    }
+    Ok(Test::In(of.formula, values.copy(alloc)?))
+}
+
+fn between(
+    alloc: Global,
+    scope: &Scope,
+    of: &Expr,
+    low: &Expr,
+    high: &Expr,
+) -> Result<Test, Or<SqlError>>
+    ensures { Gives (λ t. t) (λ e. e) result (between_judged scope.now of.now low.now high.now) }
+{
+    let of = row_value(alloc, scope, of)?;
+    let low = row_value(alloc, scope, low)?;
+    let high = row_value(alloc, scope, high)?;
+    comparable(alloc, of.sort, low.sort)?;
+    comparable(alloc, of.sort, high.sort)?;
+    Ok(Test::Between(of.formula, low.formula, high.formula))
+}
+
+/// Refuses a number beside a text.
+fn comparable(alloc: Global, a: Sort, b: Sort) -> Result<(), Or<SqlError>>
+    ensures { Gives (λ _. tt) (λ e. e) result (comparable (sort_of a) (sort_of b)) }
+{
+    if mixes(a, b) {
+        return Err(Or::Other(not_supported(alloc, b"mixed comparison")?));
+    }
+    Ok(())
+}
+
+fn mixes_any(sort: Sort, values: &[Value]) -> bool
+    ensures { result ≡ list_any (λ v. mixes (sort_of sort) (sort_of_value v)) values.now }
+{
+    values.iter().any(|value| mixes_literal(sort, value))
+}
+
+fn mixes_literal(sort: Sort, value: &Value) -> bool
+    ensures { result ≡ mixes (sort_of sort) (sort_of_value value.now) }
+{
+    mixes(sort, sort_of_literal(value))
+}
+
+fn mixes(a: Sort, b: Sort) -> bool
+    ensures { result ≡ mixes (sort_of a) (sort_of b) }
+{
+    matches!(
+        (a, b),
+        (Sort::Number, Sort::Words) | (Sort::Words, Sort::Number)
+    )
+}

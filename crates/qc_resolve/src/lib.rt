@@ -1,0 +1,21 @@
+//! A SELECT judged on a database: the first refusal, or its names found and its values as formulas over the rows of its tables.
+#![tactic(auto)]
+
+mod bind;
+mod columns;
+mod conditions;
+mod definitions;
+mod formula;
+mod groups;
+mod items;
+mod order;
+mod resolved;
+mod scope;
+mod select;
+mod test;
+mod values;
+
+pub use formula::{Formula, Formulas, Place};
+pub use resolved::{Fold, Folds, OrderKey, OrderKeys, Output, Resolved, Versions};
+pub use select::resolve;
+pub use test::{Test, Tests};

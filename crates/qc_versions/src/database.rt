@@ -1,0 +1,102 @@
+//! The database.
+
+ghost use Rattle.std.specs.Prelude.{◌≡◌, true, is_some, option_copied, IfOk};
+ghost use Rattle.qc_types.specs.Answers.{Gives};
+ghost use Rattle.qc_sql.specs.Database.{apply, empty_database, table_of, tables_of};
+ghost use Rattle.qc_model.specs.Licence.{is_within_rows, ops_fit};
+ghost use Rattle.qc_versions.specs.Fitting.{fitting};
+ghost use Rattle.qc_versions.specs.Views.{table_name_at};
+
+use crate::draft::Draft;
+use crate::name_list::NameList;
+use crate::table_version::TableVersion;
+use qc_sql::tables::Ops;
+use qc_types::{NoMemory, Or, TableName};
+use std::alloc::Global;
+use std::marker::Model;
+use std::sync::Arc;
+
+/// A table with more than 1,048,576 rows.
+#[derive(Debug, Drop)]
+pub struct TableFull {
+    /// Its name. Where several are too full, it is the first by the names of databases, and in one database by its own.
+    pub table: TableName,
+}
+
+/// The tables of each database, in memory. It never changes: what operations make of it is another one, which shares the tables that they don't touch.
+#[derive(Drop)]
+pub struct Database {
+    databases: Arc<NameList<NameList<TableVersion>>>,
+}
+
+impl Model for Database {
+    ghost use Rattle.std.specs.Prelude.{◌≡◌, true};
+    ghost use Rattle.qc_sql.specs.Database as meant;
+    ghost use Rattle.qc_model.specs.Licence.{is_within_rows};
+
+    ghost Value = { meant.Database };
+
+    ghost view = { λ d. d.databases.value };
+
+    ghost invariant = { λ d. is_within_rows d.databases.value ≡ true };
+}
+
+impl Database {
+    /// A database server's data before anything is created.
+    pub fn empty(alloc: Global) -> Result<Database, NoMemory>
+        ensures { IfOk result (λ d. d ≡ empty_database) }
+    {
+        Ok(Database {
+            databases: Arc::new(alloc, NameList::new(alloc))?,
+        })
+    }
+
+    /// The same once more. Constant time. Fails where memory runs out.
+    pub fn share(&self) -> Result<Database, NoMemory>
+        ensures same { IfOk result (λ d. d ≡ self.now) }
+        ensures within { is_within_rows self.now ≡ true }
+    {
+        Ok(Database {
+            databases: Arc::try_clone(&self.databases)?,
+        })
+    }
+
+    /// Whether there is a database of that name.
+    pub fn has_db(&self, name: &[u8]) -> bool
+        ensures { result ≡ is_some (tables_of name.now self.now) }
+    {
+        self.databases.get(name).is_some()
+    }
+
+    /// The table of that name, where there is one.
+    pub fn table(&self, name: &TableName) -> Option<&TableVersion>
+        ensures { option_copied result ≡ table_of name.now self.now }
+    {
+        let tables = self.databases.get(name.db.bytes())?;
+        tables.get(name.name.bytes())
+    }
+
+    /// The name of the table with this index in the database, by rising name, from 0. `None` where there is no such database, or no more tables.
+    /// Costs the logarithm of how many databases there are.
+    pub fn table_at(&self, db: &[u8], index: u64) -> Option<&[u8]>
+        ensures { option_copied result ≡ table_name_at db.now index self.now }
+    {
+        self.databases.get(db)?.name_at(index)
+    }
+
+    /// What the operations make of it, the first of them first, or the first table that has too many rows then. Either way this database stays as it is.
+    /// Fails where memory runs out, too. Costs k log k for k operations and tables, and what the tables hold that are touched.
+    pub fn apply(&self, alloc: Global, ops: &Ops) -> Result<Database, Or<TableFull>>
+        requires { ops_fit ops.now self.now ≡ true }
+        ensures { Gives (λ d. d) (λ full. full.table) result (fitting (apply ops.now self.now)) }
+    {
+        let mut draft = Draft::of(alloc, &self.databases)?;
+        for op in ops.items() {
+            draft.carry_out(alloc, op)?;
+        }
+        let databases = draft.versions(alloc)?;
+        Ok(Database {
+            databases: Arc::new(alloc, databases)?,
+        })
+    }
+}

@@ -1,0 +1,125 @@
+//! Versions of tables.
+
+ghost use Rattle.std.specs.Prelude.{◌≡◌, ◌+◌, ◌<◌, ◌≤◌, length, None, Some, IfOk, MatchOption};
+ghost use Rattle.std.specs.List.{slice_get};
+ghost use Rattle.std.specs.Ordering.{int_cmp};
+ghost use Rattle.std.specs.BTreeMap.{is_at};
+ghost use Rattle.std.specs.Map.{keys_of, lookup};
+ghost use Rattle.qc_versions.specs.Tables.{IsSound, IsStored};
+ghost use Rattle.qc_versions.specs.Views.{kind_at, column_values, row_values};
+
+use crate::table_rows::TableRows;
+use crate::views::{ColumnView, RowView};
+use qc_sql::tables::Columns;
+use qc_types::{NoMemory, Steps};
+use std::alloc::Global;
+use std::marker::Model;
+use std::sync::Arc;
+use std::sync::ledger::Ledger;
+
+/// A version of a table, which never changes and may be shared. Contracts see its columns and its rows, by rising key. Its rows are read through views,
+/// each of which counts a step.
+#[derive(Drop)]
+pub struct TableVersion {
+    stored: Arc<TableRows>,
+}
+
+impl Model for TableVersion {
+    ghost use Rattle.qc_sql.specs.Database.{Table};
+    ghost use Rattle.qc_versions.specs.Tables.{IsStored};
+
+    ghost Value = { Table };
+
+    ghost view = { λ t. t.stored.value };
+
+    ghost invariant = { λ t. IsStored t.stored.value };
+}
+
+impl TableVersion {
+    /// A version of these rows.
+    pub(crate) fn new(alloc: Global, rows: TableRows) -> Result<TableVersion, NoMemory>
+        requires { IsStored rows }
+        ensures { IfOk result (λ t. t ≡ rows) }
+    {
+        Ok(TableVersion {
+            stored: Arc::new(alloc, rows)?,
+        })
+    }
+
+    /// Its rows as they are stored.
+    pub(crate) fn rows(&self) -> &TableRows
+        ensures value { result.now ≡ self.now }
+        ensures stored { IsStored self.now }
+    {
+        &self.stored
+    }
+
+    /// The same version once more. Constant time. Fails where memory runs out.
+    pub fn share(&self) -> Result<TableVersion, NoMemory>
+        ensures same { IfOk result (λ t. t ≡ self.now) }
+        ensures sound { IsSound self.now }
+    {
+        Ok(TableVersion {
+            stored: Arc::try_clone(&self.stored)?,
+        })
+    }
+
+    /// How many rows it has. Constant time.
+    pub fn count(&self) -> u32
+        ensures value { result ≡ length self.now.rows }
+        ensures within { result ≤ 1048576 }
+    {
+        self.stored.keys().len() as u32
+    }
+
+    /// Its columns, from left to right. Constant time.
+    pub fn columns(&self) -> &Columns
+        ensures value { result.now ≡ self.now.columns }
+        ensures few { length result.now ≤ 64 }
+        ensures sound { IsSound self.now }
+    {
+        self.stored.columns()
+    }
+
+    /// The column at this index, in all rows. Counts one step. Constant time.
+    pub fn column<L: Ledger>(&self, column: u8, steps: &mut Steps<L>) -> ColumnView<'_>
+        requires { column < length self.now.columns }
+        ensures view { result ≡ column_values self.now column }
+        ensures kind { kind_at self.now.columns column ≡ Some result.kind }
+        ensures tick { steps.new ≡ steps.old + 1 }
+    {
+        steps.tick();
+        ColumnView::new(&self.stored, column)
+    }
+
+    /// The row at this index, by rising key. Counts one step. Constant time.
+    pub fn row<L: Ledger>(&self, row: u32, steps: &mut Steps<L>) -> RowView<'_>
+        requires { row < length self.now.rows }
+        ensures view { result ≡ row_values self.now row }
+        ensures full { length result.values ≡ length self.now.columns }
+        ensures tick { steps.new ≡ steps.old + 1 }
+    {
+        steps.tick();
+        RowView::new(self.rows(), row)
+    }
+
+    /// The index of the row with this primary key, where there is one. Counts one step. Costs the logarithm of how many rows there are.
+    pub fn find<L: Ledger>(&self, key: i64, steps: &mut Steps<L>) -> Option<u32>
+        ensures found { MatchOption result (lookup (is_at (int_cmp key)) self.now.rows ≡ None) (λ i. (i < length self.now.rows) × (Some key ≡ slice_get (keys_of self.now.rows) i)) }
+        ensures tick { steps.new ≡ steps.old + 1 }
+    {
+        steps.tick();
+        match self.place(key) {
+            Some(place) => Some(place as u32),
+            None => None,
+        }
+    }
+
+    /// The index of the row with this primary key.
+    fn place(&self, key: i64) -> Option<usize>
+        ensures found { MatchOption result (lookup (is_at (int_cmp key)) self.now.rows ≡ None) (λ i. (i < length self.now.rows) × (Some key ≡ slice_get (keys_of self.now.rows) i)) }
+        ensures within { length self.now.rows ≤ 1048576 }
+    {
+        self.stored.keys().binary_search(&key).ok()
+    }
+}
