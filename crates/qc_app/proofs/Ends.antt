@@ -27,7 +27,7 @@ runs_more cs ls a b c l at r x =
     compose first_machine without_cache 1 begun a b cs (c ∷ []) ls (l ∷ []) (omega arith) r (answered first_machine without_cache 1 a b c l (omega (arith, at)) x)
 
 pub sound_start : IsSound [] []
-sound_start = record { simple = refl; lawful = tt; database = refl; order = record { apart = tt; tables = tt; within = refl; short = refl } }
+sound_start = record { simple = refl; lawful = tt; database = refl; order = record { apart = tt; tables = tt; within = refl; short = refl }; bounded = refl }
 
 -- the one session of a script has run
 pub one_session : (input : List ℕ) (lines : List ReportLine) (ending : Ending) (J : Journal) (db : Name) (d : Database) → IsSound J d

@@ -58,15 +58,17 @@ pub by_event : (P : Event → Type 0)
     → ((who : Who) (ops : List RowOp) → (who.session == 1) ≡ true → P (event.Commit who ops))
     → ((who : Who) → (who.session == 1) ≡ true → P (event.Run who how.Other))
     → ((who : Who) → (who.session == 1) ≡ true → P (event.Run who (how.Plain reason.Off)))
+    → ((who : Who) (code : ℕ) → (who.session == 1) ≡ true → P (event.Run who (how.Plain (reason.Error code))))
     → SimpleHas P
-by_event P commit other off (event.Commit who ops) h = commit who ops (both (who.session == 1) _ h).0
-by_event P commit other off (event.Run who how.Other) h = other who h
-by_event P commit other off (event.Run who (how.Plain reason.Off)) h = off who h
-by_event P commit other off e h = absurd (true≢false (sym h))
+by_event P commit other off error (event.Commit who ops) h = commit who ops (both (who.session == 1) _ h).0
+by_event P commit other off error (event.Run who how.Other) h = other who h
+by_event P commit other off error (event.Run who (how.Plain reason.Off)) h = off who h
+by_event P commit other off error (event.Run who (how.Plain (reason.Error code))) h = error who code h
+by_event P commit other off error e h = absurd (true≢false (sym h))
 
 -- none starts an entry, so the cache stays empty
 none_kept : SimpleHas (λ e. after_event e [] ≡ [])
-none_kept = by_event (λ e. after_event e [] ≡ []) (λ who ops h. refl) (λ who h. refl) (λ who h. refl)
+none_kept = by_event (λ e. after_event e [] ≡ []) (λ who ops h. refl) (λ who h. refl) (λ who h. refl) (λ who code h. refl)
 
 pub cache_empty : (J : Journal) → list_all is_simple J ≡ true → cache J ≡ []
 cache_empty [] h = refl
@@ -76,13 +78,15 @@ cache_empty (e ∷ es) h =
 
 -- all are of session 1
 pub is_first : SimpleHas (λ e. is_by 1 e ≡ true)
-is_first = by_event (λ e. is_by 1 e ≡ true) (λ who ops h. h) (λ who h. h) (λ who h. h)
+is_first = by_event (λ e. is_by 1 e ≡ true) (λ who ops h. h) (λ who h. h) (λ who h. h) (λ who code h. h)
 
 apart_numbers : (m n : ℕ) → (m == 1) ≡ true → n ≢ 1 → (m == n) ≡ false
 apart_numbers m n h ne = ne_eqb m n (λ e. ne (sym e ∙ eqb→eq m 1 (subst T (sym h) tt)))
 
 is_no_other : (n : ℕ) → n ≢ 1 → SimpleHas (λ e. is_by n e ≡ false)
-is_no_other n ne = by_event (λ e. is_by n e ≡ false) (λ who ops h. apart_numbers who.session n h ne) (λ who h. apart_numbers who.session n h ne) (λ who h. apart_numbers who.session n h ne)
+is_no_other n ne =
+    by_event (λ e. is_by n e ≡ false) (λ who ops h. apart_numbers who.session n h ne) (λ who h. apart_numbers who.session n h ne) (λ who h. apart_numbers who.session n h ne)
+    (λ who code h. apart_numbers who.session n h ne)
 
 pub none_of_others : (n : ℕ) → n ≢ 1 → (J : Journal) → list_all is_simple J ≡ true → events_of n J ≡ []
 none_of_others n ne [] h = refl
@@ -107,6 +111,7 @@ step_needs : (options : Options) (e : Event) (earlier es : Journal) → is_simpl
 step_needs options (event.Commit who ops) earlier es h rest = rest
 step_needs options (event.Run who how.Other) earlier es h rest = rest
 step_needs options (event.Run who (how.Plain reason.Off)) earlier es h rest = rest
+step_needs options (event.Run who (how.Plain (reason.Error code))) earlier es h rest = rest
 step_needs options e earlier es h rest = absurd (true≢false (sym h))
 
 needs_from : (options : Options) (earlier es : Journal) → list_all is_simple es ≡ true → NeedsFrom options earlier es
@@ -120,4 +125,4 @@ has_needs options J h = needs_from options [] J h
 
 -- none is a fill
 pub fill_is_none : (J : Journal) (e : Event) → is_simple e ≡ true → fill_ends J e ≡ true
-fill_is_none J = by_event (λ e. fill_ends J e ≡ true) (λ who ops h. refl) (λ who h. refl) (λ who h. refl)
+fill_is_none J = by_event (λ e. fill_ends J e ≡ true) (λ who ops h. refl) (λ who h. refl) (λ who h. refl) (λ who code h. refl)

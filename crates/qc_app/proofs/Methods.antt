@@ -1,7 +1,9 @@
 -- What the session's methods do, from what they change.
-use Rattle.std.proofs.Common.{◌≡◌, ℕ, ◌+◌, true, false, List, [], ◌∷◌, ◌++◌, length, refl, sym, ap, ◌∙◌, subst, length-append, Some, Ok, Err, Result, OnOk}
+use Rattle.std.proofs.Common.{◌≡◌, ℕ, ◌+◌, true, false, List, [], ◌∷◌, ◌++◌, length, refl, sym, ap, ◌∙◌, subst, length-append, Some, None, Ok, Err, Result, OnOk}
 use Rattle.std.specs.Prelude.{is_some}
 use Rattle.qc_types.specs.declared.text.Text.{Text}
+use Rattle.qc_types.specs.declared.sql_error.SqlError.{SqlError}
+use Rattle.qc_sql.specs.declared.statements.Select.{Select}
 use Rattle.qc_sql.specs.declared.commands.Command.{Command}
 use Rattle.qc_sql.specs.declared.commands.Command.TheVariants as command
 use Rattle.qc_sql.specs.declared.replies.Reply.TheVariants as reply
@@ -12,34 +14,36 @@ use Rattle.qc_sql.specs.Rows.{Rows, rows}
 use Rattle.qc_model.specs.declared.events.Event.{Event}
 use Rattle.qc_model.specs.declared.events.Event.TheVariants as event
 use Rattle.qc_model.specs.declared.events.How.TheVariants as how
-use Rattle.qc_model.specs.declared.events.Reason.TheVariants as reason
+use Rattle.qc_model.specs.declared.events.Reason.{Reason}
 use Rattle.qc_model.specs.declared.reports.ReportLine.{ReportLine}
 use Rattle.qc_model.specs.declared.reports.Word.TheVariants as word
 use Rattle.qc_model.specs.Journal.{Journal, present}
-use Rattle.qc_model.specs.Session.{rows_reply}
+use Rattle.qc_model.specs.Session.{select_reply}
 use Rattle.qc_model.specs.Licence.{is_within_rows}
 use Rattle.qc_model.specs.Agrees.{line}
 use Rattle.qc_sessions.specs.Runs.{Stand, stand, Answers, Runs}
 use Rattle.qc_sql.specs.declared.statements.Statement.{Statement}
 use Rattle.qc_sql.specs.declared.statements.Statement.TheVariants as statement
-use Rattle.qc_sql.specs.Grammar.{meaning, trimmed}
 use Rattle.qc_execute.specs.declared.form.Form.{Form}
-use Rattle.qc_execute.specs.declared.form.Form.TheVariants as form
-use Rattle.qc_execute.specs.Forms.{form_in, Written, tree_of, select_tree}
+use Rattle.qc_execute.specs.Forms.{form_in, tree_of}
 use Rattle.qc_execute.proofs.Trees.{form_tree}
-use Rattle.qc_execute.specs.Outcomes.{is_executed, first_flags, only_session, MayApply, Does, IsOutcome}
+use Rattle.qc_execute.specs.Outcomes.{is_executed, only_session, IsOutcome}
 use Rattle.qc_execute.specs.declared.outcome.Outcome.{Outcome}
 use Rattle.qc_execute.specs.declared.outcome.Outcome.TheVariants as outcome
 use Rattle.qc_app.specs.declared.session.Session.{Session}
 use Rattle.qc_app.specs.Words.{without_cache}
 use Rattle.qc_app.specs.Stage.{takes, first_machine}
-use Rattle.qc_app.specs.Run.{state_in, is_short, IsSound, makes_short_names, has_short_names, next_who, form_refusal}
-use Rattle.qc_app.specs.Going.{stand_of, begun, IsFit, Logs, DoesOne, DoesForm, HasTaken}
-use Rattle.qc_app.proofs.Steps.{not_taken, form_taken, changes, selects, uses, is_change}
-use Rattle.qc_app.proofs.Sounds.{sound_commit, sound_other, sound_off, some_is}
+use Rattle.qc_bounds.specs.Names.{is_short, is_short_statement}
+use Rattle.qc_bounds.specs.Replies.{is_bounded_database}
+use Rattle.qc_answer.specs.declared.answer.Answer.{Answer}
+use Rattle.qc_answer.specs.Answers.{IsAnswer}
+use Rattle.qc_app.specs.Run.{state_in, first_flags, IsSound, makes_short_names, next_who, form_refusal, reason_of}
+use Rattle.qc_app.specs.Going.{stand_of, begun, IsFit, Logs, DoesOne, DoesStatement, HasTaken}
+use Rattle.qc_app.proofs.Steps.{not_taken, form_taken, other_taken, changes, selects, uses, run_of}
+use Rattle.qc_app.proofs.Sounds.{stays_in_order, sound_commit, sound_other, sound_run, some_is}
 use Rattle.qc_app.proofs.Order.{short_there}
 use Rattle.qc_app.proofs.Ends.{runs_more}
-use Rattle.qc_app.proofs.Changes.{change_is_short}
+use Rattle.qc_app.proofs.Changes.{change_is_short, change_is_bounded}
 
 -- ---- what is known where a call succeeds
 
@@ -91,63 +95,63 @@ logged_does c old new e l after d answers sound brief events lines database db =
 pub in_db : (d : Database) (bytes db : Name) (f : Form) (x : Outcome) → bytes ≡ db → IsOutcome d bytes f x → IsOutcome d db f x
 in_db d bytes db f x e h = subst (λ (n : Name). IsOutcome d n f x) e h
 
--- what a change is
-changed_is : (d : Database) (db : Name) (f : Form) (w : Written) (o : RowOp) (n : ℕ) → Does d db (tree_of f w) (outcome.Changed o n) → (is_change f ≡ true) × (effect (tree_of f w) d db 1 ≡ Ok (effect_of (o ∷ []) n)) × MayApply o d
-changed_is d db (form.CreateDatabase name) w o n h = (refl, h.0, h.1)
-changed_is d db (form.CreateTable table column) w o n h = (refl, h.0, h.1)
-changed_is d db (form.Insert table k) w o n h = (refl, h.0, h.1)
-changed_is d db (form.Select column table) w o n h = absurd h
+-- a change leaves no table too full
+pub change_within : (f : Form) (s : Session) (o : RowOp) (n : ℕ) → IsFit s → is_short_statement (tree_of f) ≡ true → IsOutcome s.database s.db f (outcome.Changed o n) → is_within_rows (apply_one o s.database) ≡ true
+change_within f s o n fit short h =
+    let order = stays_in_order o s.database (change_is_short f s.database s.db o n short h.0) fit.sound.order h.1 in
+    order.within
 
--- the text of a form means one of its trees
-tree_meant : (text : List ℕ) (s : Statement) (f : Form) → meaning (trimmed text) false ≡ Ok s → form_in s ≡ Some f
-    → (w : Written) × (meaning (trimmed text) false ≡ Ok (tree_of f w)) × (form_in (tree_of f w) ≡ Some f)
-tree_meant text s f is formed =
-    let t = form_tree s f formed in
-    (t.written, is ∙ ap (λ (x : Statement). Ok x) t.same, subst (λ (x : Statement). form_in x ≡ Some f) t.same formed)
-
-pub changed_does : (f : Form) (old new : Session) (o : RowOp) (n : ℕ) → IsFit old → has_short_names f ≡ true → IsOutcome old.database old.db f (outcome.Changed o n)
+pub changed_does : (f : Form) (old new : Session) (o : RowOp) (n : ℕ) → IsFit old → is_short_statement (tree_of f) ≡ true → form_in (tree_of f) ≡ Some f → IsOutcome old.database old.db f (outcome.Changed o n)
     → new.events ≡ old.events ++ event.Commit (next_who old.events) (o ∷ []) ∷ [] → new.lines ≡ old.lines ++ line (length old.events + 1) word.Other (reply.Ok n 2) ∷ []
-    → new.database ≡ apply_one o old.database → new.db ≡ old.db → DoesForm f old new
-changed_does f old new o n fit short h events lines database db = λ text s is formed.
-    let g = tree_meant text s f is formed in
-    let w : Written = g.0 in
-    let it = changed_is old.database old.db f w o n (h w) in
+    → new.database ≡ apply_one o old.database → new.db ≡ old.db → DoesStatement (tree_of f) old new
+changed_does f old new o n fit short formed h events lines database db = λ text is.
     let sound = fit.sound in
-    let here : effect (tree_of f w) (present old.events) old.db 1 ≡ Ok (effect_of (o ∷ []) n) = subst (λ (d : Database). effect (tree_of f w) d old.db 1 ≡ Ok (effect_of (o ∷ []) n)) sound.database it.1 in
+    let here : effect (tree_of f) (present old.events) old.db 1 ≡ Ok (effect_of (o ∷ []) n) = subst (λ (d : Database). effect (tree_of f) d old.db 1 ≡ Ok (effect_of (o ∷ []) n)) sound.database h.0 in
     let within : is_within_rows (present old.events) ≡ true = subst (λ (d : Database). is_within_rows d ≡ true) sound.database sound.order.within in
-    let brief : makes_short_names o ≡ true = change_is_short f w old.database old.db o n short it.1 in
+    let brief : makes_short_names o ≡ true = change_is_short f old.database old.db o n short h.0 in
+    let bounded : is_bounded_database (apply_one o old.database) ≡ true = change_is_bounded f old.database old.db o n short sound.bounded fit.brief h.0 in
     logged_does (command.Query text) old new (event.Commit (next_who old.events) (o ∷ [])) (line (length old.events + 1) word.Other (reply.Ok n 2)) old.db (apply_one o old.database)
-    (changes old.events old.db text f w o n sound.simple (rw brief refl) within g.1 g.2 it.0 here)
-    (sound_commit old.events old.database o sound it.2 brief) fit.brief events lines database db
+    (changes old.events old.db text f o n sound.simple (rw brief refl) within is formed here)
+    (sound_commit old.events old.database o sound h.1 brief bounded) fit.brief events lines database db
 
-select_does : (column table : Name) (old new : Session) (reply : Text) (w : Written) (text : List ℕ) → IsFit old → Does old.database old.db (statement.Select (select_tree column table w)) (outcome.Rows reply)
-    → Logs old new (event.Run (next_who old.events) (how.Plain reason.Off)) (record { place = length old.events + 1; how = word.Plain; reply = reply })
-    → meaning (trimmed text) false ≡ Ok (statement.Select (select_tree column table w)) → form_in (statement.Select (select_tree column table w)) ≡ Some (form.Select column table) → DoesOne (command.Query text) old new
-select_does column table old new reply w text fit h logs is formed =
+pub form_refused : (f : Form) (old new : Session) → IsFit old → form_in (tree_of f) ≡ Some f → IsOutcome old.database old.db f outcome.Refused
+    → new.lines ≡ old.lines ++ line (length old.events) word.Local form_refusal ∷ [] → new.events ≡ old.events → new.database ≡ old.database → new.db ≡ old.db → DoesStatement (tree_of f) old new
+form_refused f old new fit formed h lines events database db = λ text is.
     let sound = fit.sound in
-    let r : Rows = h.0 in
-    let here : rows (select_tree column table w) (present old.events) old.db first_flags 1 ≡ Ok r = subst (λ (d : Database). rows (select_tree column table w) d old.db first_flags 1 ≡ Ok r) sound.database h.1 in
-    let l : ReportLine = line (length old.events + 1) word.Plain (rows_reply first_flags r) in
-    let lines : new.lines ≡ old.lines ++ l ∷ [] = logs.lines ∙ ap (λ (bytes : Text). old.lines ++ record { place = length old.events + 1; how = word.Plain; reply = bytes } ∷ []) h.2 in
-    logged_does (command.Query text) old new (event.Run (next_who old.events) (how.Plain reason.Off)) l old.db old.database
-    (selects old.events old.db text column table w r sound.simple is formed here) (sound_off old.events old.database sound) fit.brief logs.events lines logs.same_database logs.same_db
+    let here : is_executed (present old.events) old.db (tree_of f) ≡ false = subst (λ (d : Database). is_executed d old.db (tree_of f) ≡ false) sound.database h in
+    let left : takes (state_in old.db) old.events (command.Query text) ≡ false = rw is (form_taken old.events old.db f false formed here) in
+    refused_does (command.Query text) old new fit left lines events database db
 
-pub rows_does : (f : Form) (old new : Session) (reply : Text) → IsFit old → IsOutcome old.database old.db f (outcome.Rows reply)
-    → Logs old new (event.Run (next_who old.events) (how.Plain reason.Off)) (record { place = length old.events + 1; how = word.Plain; reply = reply }) → DoesForm f old new
-rows_does (form.CreateDatabase name) old new reply fit h logs = λ text s is formed. absurd (h (tree_meant text s (form.CreateDatabase name) is formed).0)
-rows_does (form.CreateTable table column) old new reply fit h logs = λ text s is formed. absurd (h (tree_meant text s (form.CreateTable table column) is formed).0)
-rows_does (form.Insert table k) old new reply fit h logs = λ text s is formed. absurd (h (tree_meant text s (form.Insert table k) is formed).0)
-rows_does (form.Select column table) old new reply fit h logs = λ text s is formed.
-    let g = tree_meant text s (form.Select column table) is formed in
-    select_does column table old new reply g.0 text fit (h g.0) logs g.1 g.2
+-- a statement of a form is one of its trees
+pub of_form : (s : Statement) (f : Form) (old new : Session) → form_in s ≡ Some f → DoesStatement (tree_of f) old new → DoesStatement s old new
+of_form s f old new formed does = subst (λ (x : Statement). DoesStatement x old new) (sym (form_tree s f formed)) does
 
-pub not_executed : (f : Form) (old : Session) (text : List ℕ) (s : Statement) → IsFit old → IsOutcome old.database old.db f outcome.Refused → meaning (trimmed text) false ≡ Ok s → form_in s ≡ Some f
-    → takes (state_in old.db) old.events (command.Query text) ≡ false
-not_executed f old text s fit h is formed =
-    let g = tree_meant text s f is formed in
+pub form_is_formed : (s : Statement) (f : Form) → form_in s ≡ Some f → form_in (tree_of f) ≡ Some f
+form_is_formed s f formed = subst (λ (x : Statement). form_in x ≡ Some f) (form_tree s f formed) formed
+
+pub form_is_short : (s : Statement) (f : Form) → form_in s ≡ Some f → is_short_statement s ≡ true → is_short_statement (tree_of f) ≡ true
+form_is_short s f formed short = subst (λ (x : Statement). is_short_statement x ≡ true) (form_tree s f formed) short
+
+-- a statement of no form, but a select
+pub other_refused : (s : Statement) (old new : Session) → IsFit old → ((x : Select) → s ≡ statement.Select x → ⊥) → form_in s ≡ None
+    → new.lines ≡ old.lines ++ line (length old.events) word.Local form_refusal ∷ [] → new.events ≡ old.events → new.database ≡ old.database → new.db ≡ old.db → DoesStatement s old new
+other_refused s old new fit other formed lines events database db = λ text is.
+    let left : takes (state_in old.db) old.events (command.Query text) ≡ false = rw is (other_taken old.events old.db s other formed) in
+    refused_does (command.Query text) old new fit left lines events database db
+
+-- ---- a select
+
+pub select_does : (s : Select) (old new : Session) (a : Answer) (why : Reason) (bytes : Text) → IsFit old → IsAnswer first_flags (rows s old.database old.db first_flags 1) a → why ≡ reason_of a.error → bytes ≡ a.reply
+    → Logs old new (event.Run (next_who old.events) (how.Plain why)) (record { place = length old.events + 1; how = word.Plain; reply = bytes }) → DoesStatement (statement.Select s) old new
+select_does s old new a why bytes fit answer same_why same_bytes logs = λ text is.
     let sound = fit.sound in
-    let here : is_executed (present old.events) old.db (tree_of f g.0) ≡ false = subst (λ (d : Database). is_executed d old.db (tree_of f g.0) ≡ false) sound.database (h g.0) in
-    rw g.1 (form_taken old.events old.db (tree_of f g.0) f false g.2 here)
+    let r : Result Rows SqlError = rows s (present old.events) old.db first_flags 1 in
+    let here : IsAnswer first_flags r a = subst (λ (d : Database). IsAnswer first_flags (rows s d old.db first_flags 1) a) sound.database answer in
+    let l : ReportLine = line (length old.events + 1) word.Plain (select_reply first_flags r) in
+    let events : new.events ≡ old.events ++ run_of old.events r ∷ [] = logs.events ∙ ap (λ (x : Reason). old.events ++ event.Run (next_who old.events) (how.Plain x) ∷ []) (same_why ∙ ap reason_of here.error) in
+    let lines : new.lines ≡ old.lines ++ l ∷ [] = logs.lines ∙ ap (λ (b : Text). old.lines ++ record { place = length old.events + 1; how = word.Plain; reply = b } ∷ []) (same_bytes ∙ here.reply) in
+    logged_does (command.Query text) old new (run_of old.events r) l old.db old.database
+    (selects old.events old.db text s sound.simple is) (sound_run old.events old.database r sound) fit.brief events lines logs.same_database logs.same_db
 
 pub no_database : (old : Session) (name : Name) → IsFit old → is_some (tables_of name old.database) ≡ false → takes (state_in old.db) old.events (command.InitDb name) ≡ false
 no_database old name fit h = let s = fit.sound in subst (λ (d : Database). is_some (tables_of name d) ≡ false) s.database h

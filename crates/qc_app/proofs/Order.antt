@@ -4,16 +4,17 @@ use Rattle.std.specs.Prelude.{◌&&◌, is_some, nat_le, option_and_then}
 use Rattle.std.specs.List.{list_all, AllByRecursion}
 use Rattle.std.specs.Ordering.{int_cmp, is_eq, match_ordering}
 use Rattle.std.specs.declared.cmp.Ordering.TheVariants.{Less, Equal, Greater}
-use Rattle.std.specs.BTreeMap.{insert_entry}
-use Rattle.std.specs.Map.{lookup}
+use Rattle.std.specs.BTreeMap.{insert_entry, is_at}
+use Rattle.std.specs.Map.{lookup, remove_entry}
 use Rattle.qc_types.specs.declared.names.TableName.{TableName}
 use Rattle.qc_types.specs.declared.names.Value.{Value}
 use Rattle.qc_sql.specs.declared.tables.Column.{Column}
 use Rattle.qc_sql.specs.declared.tables.RowOp.TheVariants as op
-use Rattle.qc_sql.specs.Database.{Name, name_cmp, MapOf, Table, Tables, Database, no_tables, at_name, change_at, table_of, tables_of, apply_one, with_row, key_of}
+use Rattle.qc_sql.specs.Database.{Name, name_cmp, MapOf, Table, Tables, Database, no_tables, at_name, change_at, table_of, tables_of, apply_one, with_row, without_row, key_of}
 use Rattle.qc_model.specs.Licence.{most_rows}
 use Rattle.qc_sql.proofs.Untouched.{at, at_is, inserted_other}
-use Rattle.qc_app.specs.Run.{AreApart, IsInOrder, is_short}
+use Rattle.qc_bounds.specs.Names.{is_short}
+use Rattle.qc_app.specs.Run.{AreApart, IsInOrder}
 
 some_none : {X Y : Type 0} (x : X) → ◌≡◌ {A = Option X} (Some x) None → Y
 some_none x e = absurd (true≢false (ap is_some e))
@@ -166,6 +167,52 @@ module _ {X : Type 0} where
         | false ↦ λ q. ap (list_all (λ e. p e.1)) (changed_behind n f e m q) ∙ and_both (p e.1) _ parts.0 (passes_change p n f x m a.1 (further n x e m q here) h parts.1)
       ] refl
 
+  -- a test that each changed value passes as well
+  list_all_change : (p : X → Bool) (n : Name) (f : X → X) → ((x : X) → p x ≡ true → p (f x) ≡ true) → (m : MapOf Name X) → list_all (λ e. p e.1) m ≡ true → list_all (λ e. p e.1) (change_at n f m) ≡ true
+  list_all_change p n f keep [] h = refl
+  list_all_change p n f keep (e ∷ m) h =
+      let parts = both (p e.1) (list_all (λ e. p e.1) m) h in
+      let rest = list_all_change p n f keep m parts.1 in
+      elim (at n e.0) as (λ b. list_all (λ e. p e.1) ((cond b (e.0, f e.1) e) ∷ change_at n f m) ≡ true) [
+        | true ↦ and_both (p (f e.1)) _ (keep e.1 parts.0) rest
+        | false ↦ and_both (p e.1) _ parts.0 rest
+      ]
+
+  -- what all entries pass, those that are left pass
+  list_all_remove : (p : Name × X → Bool) (n : Name) (m : MapOf Name X) → list_all p m ≡ true → list_all p (remove_entry (at n) m) ≡ true
+  list_all_remove p n [] h = refl
+  list_all_remove p n (e ∷ m) h =
+      let parts = both (p e) (list_all p m) h in
+      elim (at n e.0) as (λ b. list_all p (cond b m (e ∷ remove_entry (at n) m)) ≡ true) [
+        | true ↦ parts.1
+        | false ↦ and_both (p e) _ parts.0 (list_all_remove p n m parts.1)
+      ]
+
+  all_remove : (P : Name × X → Type 0) (n : Name) (m : MapOf Name X) → AllByRecursion P m → AllByRecursion P (remove_entry (at n) m)
+  all_remove P n [] a = tt
+  all_remove P n (e ∷ m) a =
+      elim (at n e.0) as (λ b. AllByRecursion P (cond b m (e ∷ remove_entry (at n) m))) [
+        | true ↦ a.1
+        | false ↦ (a.0, all_remove P n m a.1)
+      ]
+
+  name_removed : (n k : Name) (m : MapOf Name X) → at_name k m ≡ None → at_name k (remove_entry (at n) m) ≡ None
+  name_removed n k [] h = refl
+  name_removed n k (e ∷ m) h =
+      let p = not_in_front k e m h in
+      elim (at n e.0) as (λ b. lookup (at k) (cond b m (e ∷ remove_entry (at n) m)) ≡ None) [
+        | true ↦ p.1
+        | false ↦ ap (λ b. cond b (Some e.1) (lookup (at k) (remove_entry (at n) m))) p.0 ∙ name_removed n k m p.1
+      ]
+
+  apart_remove : (n : Name) (m : MapOf Name X) → AreApart m → AreApart (remove_entry (at n) m)
+  apart_remove n [] a = tt
+  apart_remove n (e ∷ m) a =
+      elim (at n e.0) as (λ b. AreApart (cond b m (e ∷ remove_entry (at n) m))) [
+        | true ↦ a.1
+        | false ↦ (name_removed n e.0 m a.0, apart_remove n m a.1)
+      ]
+
   -- what is at a name passes what all pass
   at_passes : (p : X → Bool) (n : Name) (x : X) (m : MapOf Name X) → at_name n m ≡ Some x → list_all (λ e. p e.1) m ≡ true → p x ≡ true
   at_passes p n x [] here all = some_none x (sym here)
@@ -253,3 +300,42 @@ put_in_order t row x d o here room =
 
     one_more : (m : MapOf ℤ (List Value)) → nat_le (length (insert_entry int_cmp x.rows (key_of x.columns row) row)) most_rows ≡ true
     one_more m = grind (arith, inserted (key_of x.columns row) x.rows, room)
+
+-- ---- what takes away
+
+fewer : (key : ℤ) (m : MapOf ℤ (List Value)) → length (remove_entry (is_at (int_cmp key)) m) ≤ length m
+fewer key [] = omega arith
+fewer key (e ∷ m) =
+    elim (is_at (int_cmp key) e.0) as (λ b. length (cond b m (e ∷ remove_entry (is_at (int_cmp key)) m)) ≤ length (e ∷ m)) [
+      | true ↦ omega arith
+      | false ↦ omega (arith, fewer key m)
+    ]
+
+still_fits : (key : ℤ) (x : Table) → fits_rows x ≡ true → fits_rows (without_row key x) ≡ true
+still_fits key x h = grind (arith, fewer key x.rows, h)
+
+pub deleted_in_order : (t : TableName) (key : ℤ) (d : Database) → IsInOrder d → IsInOrder (apply_one (op.Del t key) d)
+deleted_in_order t key d o = record {
+  apart = apart_change t.db _ d o.apart;
+  tables = all_change (λ e. AreApart e.1) t.db _ d (λ e a. apart_change t.name (without_row key) e.1 a) o.tables;
+  within = list_all_change fit_rows t.db _ (λ ts h. list_all_change fits_rows t.name (without_row key) (still_fits key) ts h) d o.within;
+  short = short_change t.db (change_at t.name (without_row key)) d o.short;
+}
+
+pub table_dropped_in_order : (t : TableName) (d : Database) → IsInOrder d → IsInOrder (apply_one (op.DropTable t) d)
+table_dropped_in_order t d o =
+    let fall : Tables → Tables = remove_entry (at t.name) in
+    record {
+      apart = apart_change t.db fall d o.apart;
+      tables = all_change (λ e. AreApart e.1) t.db fall d (λ e a. apart_remove t.name e.1 a) o.tables;
+      within = list_all_change fit_rows t.db fall (λ ts h. list_all_remove (λ e. fits_rows e.1) t.name ts h) d o.within;
+      short = short_change t.db fall d o.short;
+    }
+
+pub dropped_in_order : (n : Name) (d : Database) → IsInOrder d → IsInOrder (apply_one (op.DropDb n) d)
+dropped_in_order n d o = record {
+  apart = apart_remove n d o.apart;
+  tables = all_remove (λ e. AreApart e.1) n d o.tables;
+  within = list_all_remove (λ e. fit_rows e.1) n d o.within;
+  short = list_all_remove (λ e. is_short e.0) n d o.short;
+}

@@ -16,7 +16,8 @@ use Rattle.qc_script.specs.ShortNames.{HasShortNames, HasShortColumns, HasShortN
 use Rattle.qc_sessions.specs.Runs.{report_of}
 use Rattle.qc_app.specs.Words.{without_cache}
 use Rattle.qc_app.specs.Stage.{first_machine}
-use Rattle.qc_app.specs.Run.{is_simple, is_short, makes_short_names}
+use Rattle.qc_bounds.specs.Names.{is_short}
+use Rattle.qc_app.specs.Run.{is_simple, makes_short_names}
 use Rattle.qc_app.specs.Ran.{IsReportOf}
 use Rattle.qc_app.proofs.Ends.{one_session, no_session}
 

@@ -1,6 +1,6 @@
 -- From what a command does to what it answers: its event, its line, and where the session then stands.
-use Rattle.std.proofs.Common.{◌≡◌, ℕ, ◌+◌, Bool, true, false, List, [], ◌∷◌, ◌++◌, length, take, refl, sym, ap, ◌∙◌, subst, arith, take_all, true≢false, Some, None, Ok, MatchOption}
-use Rattle.std.specs.Prelude.{◌&&◌, nat_le, nat_lt}
+use Rattle.std.proofs.Common.{◌≡◌, ℕ, ◌+◌, Bool, true, false, List, [], ◌∷◌, ◌++◌, length, take, refl, sym, ap, ◌∙◌, subst, arith, take_all, true≢false, Some, None, Ok, Err, Result, MatchOption}
+use Rattle.std.specs.Prelude.{◌&&◌, nat_le, nat_lt, cond, option_map}
 use Rattle.std.specs.List.{list_all}
 use Rattle.qc_sql.specs.declared.commands.Command.{Command}
 use Rattle.qc_sql.specs.declared.commands.Command.TheVariants as command
@@ -9,6 +9,8 @@ use Rattle.qc_sql.specs.declared.replies.Reply.TheVariants as reply
 use Rattle.qc_sql.specs.declared.tables.RowOp.{RowOp}
 use Rattle.qc_sql.specs.Database.{Name, Database, Tables, tables_of}
 use Rattle.qc_sql.specs.Effects.{effect, effect_of}
+use Rattle.qc_types.specs.declared.sql_error.SqlError.{SqlError}
+use Rattle.qc_sql.specs.declared.statements.Select.{Select}
 use Rattle.qc_sql.specs.declared.statements.Statement.{Statement}
 use Rattle.qc_sql.specs.declared.statements.Statement.TheVariants as statement
 use Rattle.qc_sql.specs.Grammar.{meaning, trimmed}
@@ -16,24 +18,25 @@ use Rattle.qc_sql.specs.Rows.{Rows, rows}
 use Rattle.qc_model.specs.declared.events.Event.{Event}
 use Rattle.qc_model.specs.declared.events.Event.TheVariants as event
 use Rattle.qc_model.specs.declared.events.How.TheVariants as how
-use Rattle.qc_model.specs.declared.events.Reason.TheVariants as reason
 use Rattle.qc_model.specs.declared.reports.ReportLine.{ReportLine}
 use Rattle.qc_model.specs.declared.reports.Word.TheVariants as word
 use Rattle.qc_model.specs.Journal.{Journal, present, before}
-use Rattle.qc_model.specs.Session.{rows_reply}
+use Rattle.qc_model.specs.Session.{State, arrived, opened, snapshot_taken, with_transaction, select_reply}
+use Rattle.qc_model.specs.Choice.{Allows}
 use Rattle.qc_model.specs.Licence.{MayDecide, is_within_rows, most_rows}
-use Rattle.qc_model.specs.Machine.{Local, Executes, ExecutesText, full_table, full_in, local}
+use Rattle.qc_model.specs.Machine.{Local, Executes, ExecutesText, Selects, full_table, full_in, local}
 use Rattle.qc_model.specs.Needs.{HasOwnNeeds}
 use Rattle.qc_model.specs.Agrees.{line, who_of, word_of, key_of_command}
 use Rattle.qc_sessions.specs.Runs.{Stand, stand, own, Answers, HasItsEvent, HasNoEvent}
 use Rattle.qc_sessions.proofs.Steps.{one_more, before_it}
 use Rattle.qc_execute.specs.declared.form.Form.{Form}
 use Rattle.qc_execute.specs.declared.form.Form.TheVariants as form
-use Rattle.qc_execute.specs.Forms.{form_in, Written, tree_of, select_tree}
-use Rattle.qc_execute.specs.Outcomes.{is_executed, first_flags}
-use Rattle.qc_app.specs.Stage.{takes, takes_text, first_machine}
+use Rattle.qc_answer.specs.Answers.{error_code}
+use Rattle.qc_execute.specs.Forms.{form_in, tree_of}
+use Rattle.qc_execute.specs.Outcomes.{is_executed}
+use Rattle.qc_app.specs.Stage.{takes, takes_statement, first_machine}
 use Rattle.qc_app.specs.Words.{without_cache}
-use Rattle.qc_app.specs.Run.{next_who, form_refusal, state_in, is_simple}
+use Rattle.qc_app.specs.Run.{next_who, form_refusal, state_in, first_flags, is_simple, reason_of}
 use Rattle.qc_app.proofs.Journals.{cache_empty, own_length, event_count_is, fill_is_none, by_event, is_first}
 
 -- ---- no table is too full
@@ -66,7 +69,7 @@ may_decide J h = record {
 }
 
 simple_needs : (earlier : Journal) (key : List ℕ) (e : Event) → is_simple e ≡ true → HasOwnNeeds without_cache earlier key e
-simple_needs earlier key = by_event (HasOwnNeeds without_cache earlier key) (λ who ops h. tt) (λ who h. tt) (λ who h. tt)
+simple_needs earlier key = by_event (HasOwnNeeds without_cache earlier key) (λ who ops h. tt) (λ who h. tt) (λ who h. tt) (λ who code h. tt)
 
 -- a command that is taken, with its event
 pub taken : (J : Journal) (db after : Name) (c : Command) (e : Event) (r : Reply) → list_all is_simple J ≡ true → is_simple e ≡ true
@@ -119,62 +122,84 @@ not_taken J db c h =
 
 -- ---- what the forms execute
 
--- a form that changes the database
-abbrev pub is_change : Form → Bool
-is_change (form.Select column table) = false
-is_change _ = true
-
-tree_executes : (J : Journal) (db : Name) (text : List ℕ) (f : Form) (w : Written) (o : RowOp) (n : ℕ) → is_change f ≡ true → is_within_rows (present J) ≡ true
-    → effect (tree_of f w) (present J) db 1 ≡ Ok (effect_of (o ∷ []) n)
-    → ExecutesText without_cache (next_who J) (state_in db) text J (Ok (tree_of f w)) (event.Commit (next_who J) (o ∷ [])) (reply.Ok n 2) (state_in db)
-tree_executes J db text (form.CreateDatabase name) w o n c within e = rw (none_full (present J) within, e) (refl, refl, refl)
-tree_executes J db text (form.CreateTable table column) w o n c within e = rw (none_full (present J) within, e) (refl, refl, refl)
-tree_executes J db text (form.Insert table value) w o n c within e = rw e (refl, refl, refl)
-tree_executes J db text (form.Select column table) w o n c within e = absurd (true≢false (sym c))
-
-select_executes : (J : Journal) (db : Name) (text column table : List ℕ) (w : Written) (r : Rows) → rows (select_tree column table w) (present J) db first_flags 1 ≡ Ok r
-    → ExecutesText without_cache (next_who J) (state_in db) text J (Ok (tree_of (form.Select column table) w)) (event.Run (next_who J) (how.Plain reason.Off)) (rows_reply first_flags r) (state_in db)
-select_executes J db text column table w r e = record { chosen = (how.Plain reason.Off, refl, rw e refl); answered = rw e refl; same = refl }
+form_executes : (J : Journal) (db : Name) (text : List ℕ) (f : Form) (o : RowOp) (n : ℕ) → is_within_rows (present J) ≡ true
+    → effect (tree_of f) (present J) db 1 ≡ Ok (effect_of (o ∷ []) n)
+    → ExecutesText without_cache (next_who J) (state_in db) text J (Ok (tree_of f)) (event.Commit (next_who J) (o ∷ [])) (reply.Ok n 2) (state_in db)
+form_executes J db text (form.CreateDatabase name) o n within e = rw (none_full (present J) within, e) (refl, refl, refl)
+form_executes J db text (form.CreateTable table column) o n within e = rw (none_full (present J) within, e) (refl, refl, refl)
+form_executes J db text (form.Insert table value) o n within e = rw e (refl, refl, refl)
 
 -- a statement of a form has its own event
-local_none : (J : Journal) (db : Name) (text : List ℕ) (f : Form) (w : Written) → meaning (trimmed text) false ≡ Ok (tree_of f w) → local (state_in db) (command.Query text) ≡ None
-local_none J db text (form.CreateDatabase name) w e = rw e refl
-local_none J db text (form.CreateTable table column) w e = rw e refl
-local_none J db text (form.Insert table value) w e = rw e refl
-local_none J db text (form.Select column table) w e = rw e refl
-
-change_taken : (f : Form) (w : Written) (d : Database) (db : Name) (o : RowOp) (n : ℕ) → is_change f ≡ true → effect (tree_of f w) d db 1 ≡ Ok (effect_of (o ∷ []) n) → is_executed d db (tree_of f w) ≡ true
-change_taken (form.CreateDatabase name) w d db o n c e = rw e refl
-change_taken (form.CreateTable table column) w d db o n c e = rw e refl
-change_taken (form.Insert table value) w d db o n c e = rw e refl
-change_taken (form.Select column table) w d db o n c e = absurd (true≢false (sym c))
+local_none : (J : Journal) (db : Name) (text : List ℕ) (f : Form) → meaning (trimmed text) false ≡ Ok (tree_of f) → local (state_in db) (command.Query text) ≡ None
+local_none J db text (form.CreateDatabase name) e = rw e refl
+local_none J db text (form.CreateTable table column) e = rw e refl
+local_none J db text (form.Insert table value) e = rw e refl
 
 -- a statement of a form is taken exactly where it isn't refused
-pub form_taken : (J : Journal) (db : Name) (s : Statement) (f : Form) (b : Bool) → form_in s ≡ Some f → is_executed (present J) db s ≡ b → takes_text (state_in db) J (Ok s) ≡ b
-form_taken J db s f b formed h = rw (formed, h) refl
+pub form_taken : (J : Journal) (db : Name) (f : Form) (b : Bool) → form_in (tree_of f) ≡ Some f → is_executed (present J) db (tree_of f) ≡ b → takes_statement (state_in db) J (tree_of f) ≡ b
+form_taken J db (form.CreateDatabase name) b formed h = rw (formed, h) refl
+form_taken J db (form.CreateTable table column) b formed h = rw (formed, h) refl
+form_taken J db (form.Insert table value) b formed h = rw (formed, h) refl
+
+-- a statement of no form is not, unless it is a select
+pub other_taken : (J : Journal) (db : Name) (s : Statement) → ((x : Select) → s ≡ statement.Select x → ⊥) → form_in s ≡ None → takes_statement (state_in db) J s ≡ false
+other_taken J db (statement.Select x) h formed = absurd (h x refl)
+other_taken J db (statement.Insert i) h formed = rw formed refl
+other_taken J db (statement.CreateTable t parts) h formed = rw formed refl
+other_taken J db (statement.CreateDb name) h formed = rw formed refl
+other_taken J db _ h formed = refl
+
+-- ---- what a select executes
+
+-- with autocommit on and no transaction open, a select takes no snapshot
+arrives : (n : ℕ) (s : Select) (db : Name) → arrived n (statement.Select s) (state_in db) ≡ state_in db
+arrives n s db =
+    elim (nat_lt 0 (length s.from)) as (λ b. cond b (with_transaction (state_in db) (option_map (snapshot_taken n) (opened (state_in db)))) (state_in db) ≡ state_in db) [
+      | true ↦ refl
+      | false ↦ refl
+    ]
+
+-- the event of a select
+abbrev pub run_of : Journal → Result Rows SqlError → Event
+run_of J r = event.Run (next_who J) (how.Plain (reason_of (error_code r)))
+
+allowed : (J : Journal) (db : Name) (text : List ℕ) (s : Select) (r : Result Rows SqlError) → rows s (present J) db first_flags 1 ≡ r → Allows without_cache (state_in db) text s J (how.Plain (reason_of (error_code r)))
+allowed J db text s (Ok x) e = rw e refl
+allowed J db text s (Err x) e = rw e refl
+
+pub simple_run : (J : Journal) (r : Result Rows SqlError) → is_simple (run_of J r) ≡ true
+simple_run J (Ok x) = refl
+simple_run J (Err x) = refl
+
+select_executes : (J : Journal) (db : Name) (text : List ℕ) (s : Select)
+    → ExecutesText without_cache (next_who J) (state_in db) text J (Ok (statement.Select s)) (run_of J (rows s (present J) db first_flags 1)) (select_reply first_flags (rows s (present J) db first_flags 1)) (state_in db)
+select_executes J db text s =
+    let r = rows s (present J) db first_flags 1 in
+    subst (λ (state : State). Selects without_cache (next_who J) state text s J (run_of J r) (select_reply first_flags r) (state_in db)) (sym (arrives (length J + 1) s db))
+    (record { chosen = (how.Plain (reason_of (error_code r)), refl, allowed J db text s r refl); answered = refl; same = refl })
 
 -- ---- the commands
 
-pub changes : (J : Journal) (db : Name) (text : List ℕ) (f : Form) (w : Written) (o : RowOp) (n : ℕ) → list_all is_simple J ≡ true → is_simple (event.Commit (next_who J) (o ∷ [])) ≡ true
-    → is_within_rows (present J) ≡ true → meaning (trimmed text) false ≡ Ok (tree_of f w) → form_in (tree_of f w) ≡ Some f → is_change f ≡ true
-    → effect (tree_of f w) (present J) db 1 ≡ Ok (effect_of (o ∷ []) n)
+pub changes : (J : Journal) (db : Name) (text : List ℕ) (f : Form) (o : RowOp) (n : ℕ) → list_all is_simple J ≡ true → is_simple (event.Commit (next_who J) (o ∷ [])) ≡ true
+    → is_within_rows (present J) ≡ true → meaning (trimmed text) false ≡ Ok (tree_of f) → form_in (tree_of f) ≡ Some f
+    → effect (tree_of f) (present J) db 1 ≡ Ok (effect_of (o ∷ []) n)
     → Answers first_machine without_cache 1 (stand J (state_in db) (length J)) (command.Query text) (line (length J + 1) word.Other (reply.Ok n 2)) (stand (J ++ event.Commit (next_who J) (o ∷ []) ∷ []) (state_in db) (length J + 1))
-changes J db text f w o n simple one within is formed c e =
-    let takes_it : takes (state_in db) J (command.Query text) ≡ true = rw is (form_taken J db (tree_of f w) f true formed (change_taken f w (present J) db o n c e)) in
+changes J db text f o n simple one within is formed e =
+    let executed : is_executed (present J) db (tree_of f) ≡ true = rw e refl in
+    let takes_it : takes (state_in db) J (command.Query text) ≡ true = rw is (form_taken J db f true formed executed) in
     let does : Executes without_cache (next_who J) (state_in db) (command.Query text) J (event.Commit (next_who J) (o ∷ [])) (reply.Ok n 2) (state_in db)
-    = rw is (tree_executes J db text f w o n c within e) in
-    taken J db db (command.Query text) (event.Commit (next_who J) (o ∷ [])) (reply.Ok n 2) simple one takes_it (local_none J db text f w is) does
+    = rw is (form_executes J db text f o n within e) in
+    taken J db db (command.Query text) (event.Commit (next_who J) (o ∷ [])) (reply.Ok n 2) simple one takes_it (local_none J db text f is) does
 
-pub selects : (J : Journal) (db : Name) (text column table : List ℕ) (w : Written) (r : Rows) → list_all is_simple J ≡ true
-    → meaning (trimmed text) false ≡ Ok (statement.Select (select_tree column table w)) → form_in (statement.Select (select_tree column table w)) ≡ Some (form.Select column table)
-    → rows (select_tree column table w) (present J) db first_flags 1 ≡ Ok r
-    → Answers first_machine without_cache 1 (stand J (state_in db) (length J)) (command.Query text) (line (length J + 1) word.Plain (rows_reply first_flags r)) (stand (J ++ event.Run (next_who J) (how.Plain reason.Off) ∷ []) (state_in db) (length J + 1))
-selects J db text column table w r simple is formed e =
-    let executed : is_executed (present J) db (statement.Select (select_tree column table w)) ≡ true = rw e refl in
-    let takes_it : takes (state_in db) J (command.Query text) ≡ true = rw is (form_taken J db (statement.Select (select_tree column table w)) (form.Select column table) true formed executed) in
-    let does : Executes without_cache (next_who J) (state_in db) (command.Query text) J (event.Run (next_who J) (how.Plain reason.Off)) (rows_reply first_flags r) (state_in db)
-    = rw is (select_executes J db text column table w r e) in
-    taken J db db (command.Query text) (event.Run (next_who J) (how.Plain reason.Off)) (rows_reply first_flags r) simple refl takes_it (local_none J db text (form.Select column table) w is) does
+pub selects : (J : Journal) (db : Name) (text : List ℕ) (s : Select) → list_all is_simple J ≡ true → meaning (trimmed text) false ≡ Ok (statement.Select s)
+    → Answers first_machine without_cache 1 (stand J (state_in db) (length J)) (command.Query text) (line (length J + 1) word.Plain (select_reply first_flags (rows s (present J) db first_flags 1)))
+    (stand (J ++ run_of J (rows s (present J) db first_flags 1) ∷ []) (state_in db) (length J + 1))
+selects J db text s simple is =
+    let r = rows s (present J) db first_flags 1 in
+    let takes_it : takes (state_in db) J (command.Query text) ≡ true = rw is refl in
+    let no_local : local (state_in db) (command.Query text) ≡ None = rw is refl in
+    let does : Executes without_cache (next_who J) (state_in db) (command.Query text) J (run_of J r) (select_reply first_flags r) (state_in db) = rw is (select_executes J db text s) in
+    taken J db db (command.Query text) (run_of J r) (select_reply first_flags r) simple (simple_run J r) takes_it no_local does
 
 pub uses : (J : Journal) (db name : Name) (ts : Tables) → list_all is_simple J ≡ true → tables_of name (present J) ≡ Some ts
     → Answers first_machine without_cache 1 (stand J (state_in db) (length J)) (command.InitDb name) (line (length J + 1) word.Other (reply.Ok 0 2)) (stand (J ++ event.Run (next_who J) how.Other ∷ []) (state_in name) (length J + 1))

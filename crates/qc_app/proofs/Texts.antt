@@ -49,11 +49,11 @@ negative : read (codes "INSERT INTO t VALUES (-7)") ≡ Ok None
 unfolding read formed meaning lexed trimmed any_text whole any_statement other_statement one_word is_unsupported insert table dotted names_part tuple literal bare_literal signed ends_value at_end look is_reserved opened
 negative = refl
 
-tabbed : read (codes "SELECT" ++ 9 ∷ codes "id FROM t") ≡ Ok (Some (form.Select (codes "id") (codes "t")))
+tabbed : read (codes "SELECT" ++ 9 ∷ codes "id FROM t") ≡ Ok None
 unfolding read formed meaning lexed trimmed any_text whole any_statement other_statement one_word is_unsupported select cache_word items item call_at call_word is_aggregate_word is_plain_call is_uncached_call column dotted ends_value alias from_part from source table joined where_part condition member_at order_part limit_part lock_part at_end look literal bare_literal signed one_too_many is_reserved opened
 tabbed = refl
 
-own_aliases : read (codes "select `id` AS id from t t -- x") ≡ Ok (Some (form.Select (codes "id") (codes "t")))
+own_aliases : read (codes "select `id` AS id from t t -- x") ≡ Ok None
 unfolding read formed meaning lexed trimmed any_text whole any_statement other_statement one_word is_unsupported select cache_word items item call_at call_word is_aggregate_word is_plain_call is_uncached_call column dotted ends_value alias from_part from source table joined where_part condition member_at order_part limit_part lock_part at_end look literal bare_literal signed one_too_many is_reserved opened
 own_aliases = refl
 

@@ -2,7 +2,7 @@
 use Rattle.std.proofs.Common.{◌≡◌, ℕ, zero, suc, ◌+◌, ◌≤◌, Bool, true, false, cond, List, [], ◌∷◌, ◌++◌, length, refl, subst, arith, Option, Some, None, Result, Ok, Err}
 use Rattle.std.specs.Prelude.{codes, nat_le, nat_lt, take, drop, take_while, bytes_eq, ◌==◌, ◌&&◌, ◌||◌, not, ◌^◌, pos, neg_ℤ, is_some, unwrap_or, option_to_list}
 use Rattle.std.specs.List.{list_any}
-use Rattle.std.proofs.lemmas.List.{length-map, length-append}
+use Rattle.std.proofs.lemmas.List.{length-map}
 use Rattle.std.proofs.lemmas.Bool.Decides.{nat_tests}
 use Rattle.qc_types.specs.declared.names.Value.TheVariants as value
 use Rattle.qc_sql.specs.declared.statements.Head.TheVariants as head
@@ -21,7 +21,7 @@ use Rattle.qc_sql.specs.Words.{when}
 use Rattle.qc_sql.specs.Database.{Name}
 use Rattle.qc_sql.specs.Rules.{in_capitals, capital, same_word}
 use Rattle.qc_sql.specs.Tokens.{Lexeme, Word, Quoted, Words, Digits, Sign, Token, LexFault, BadByte, OpenQuote, OpenComment, NumberTooLarge, TextTooLong, LongName, Executable, Front, Ends, Skips, Gives, Faults, Content, Lexed, front, comment, name_token, text_token, word_token, goes_on, goes_on_word, lexed_from, lexed, is_space, is_digit, is_dashed, line_bytes, comment_bytes, begins_word, quoted, quoted_text, number_from, two_signs}
-use Rattle.qc_sql.specs.Reading.{ParseFault, of_lexer, Unread, Stop, Before, Refused, Reader, pure, then_read, ◌>>=◌, stop, refuse, at_token, refuse_any, past, is_reserved, opened, read_as, read_first, reads, branch, optional, passed, at_most, many, listed, bracketed, with_word, with_words, in_place_of_syntax, name_in, word_in, digits_in, words_in, name, word, sign, is_word, is_sign, is_among, next_is, token_is, at_word, at_sign, at_name, at_number, at_words}
+use Rattle.qc_sql.specs.Reading.{ParseFault, of_lexer, Unread, Stop, Before, Refused, Reader, pure, then_read, ◌>>=◌, stop, refuse, at_token, refuse_any, past, is_reserved, opened, read_as, read_first, reads, branch, optional, passed, at_most, many, listed, bracketed, with_word, with_words, in_place_of_syntax, name_in, word_in, digits_in, words_in, name, word, sign, is_word, is_sign, next_is, token_is, at_word, at_sign, at_name, at_number, at_words}
 use Rattle.qc_sql.specs.Grammar as rule
 use Rattle.qc_sql.specs.Grammar.{is_arithmetic, at_literal, at_call, at_aggregate, is_known_call, op_ahead, op_in, negated, grouped, like_at, at_further, with_source, is_unsupported, span_text, no_from, all_conds, other_kind, is_pattern, other_show, unsupported, unsupported_at}
 use Rattle.qc_app.specs.Run.{IsTold}

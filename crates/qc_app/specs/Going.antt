@@ -1,5 +1,5 @@
 -- What the session's methods do.
-use Rattle.std.specs.Prelude.{◌≡◌, ℕ, true, false, List, [], ◌∷◌, ◌++◌, length, Some, Ok}
+use Rattle.std.specs.Prelude.{◌≡◌, ℕ, true, false, List, [], ◌∷◌, ◌++◌, length, Ok}
 use Rattle.qc_sql.specs.declared.commands.Command.{Command}
 use Rattle.qc_sql.specs.declared.commands.Command.TheVariants as command
 use Rattle.qc_sql.specs.declared.statements.Statement.{Statement}
@@ -7,13 +7,12 @@ use Rattle.qc_sql.specs.Grammar.{meaning, trimmed}
 use Rattle.qc_model.specs.declared.events.Event.{Event}
 use Rattle.qc_model.specs.declared.reports.ReportLine.{ReportLine}
 use Rattle.qc_sessions.specs.Runs.{Stand, stand, Answers, Runs}
-use Rattle.qc_execute.specs.declared.form.Form.{Form}
-use Rattle.qc_execute.specs.Forms.{form_in}
+use Rattle.qc_bounds.specs.Names.{is_short}
 use Rattle.qc_execute.specs.Outcomes.{only_session}
 use Rattle.qc_app.specs.declared.session.Session.{Session}
 use Rattle.qc_app.specs.Words.{without_cache}
 use Rattle.qc_app.specs.Stage.{first_machine}
-use Rattle.qc_app.specs.Run.{state_in, is_short, IsSound}
+use Rattle.qc_app.specs.Run.{state_in, IsSound}
 
 -- where the session stands
 abbrev pub stand_of : Session → Stand
@@ -42,9 +41,9 @@ pub record DoesOne (c : Command) (old new : Session) : Type 0 where
   pub lines : new.lines ≡ old.lines ++ answered ∷ []
   pub fit : IsFit new
 
--- a query of a text of this form was answered
-abbrev pub DoesForm : Form → Session → Session → Type 0
-DoesForm f old new = (text : List ℕ) (s : Statement) → meaning (trimmed text) false ≡ Ok s → form_in s ≡ Some f → DoesOne (command.Query text) old new
+-- a query of a text that means this statement was answered
+abbrev pub DoesStatement : Statement → Session → Session → Type 0
+DoesStatement s old new = (text : List ℕ) → meaning (trimmed text) false ≡ Ok s → DoesOne (command.Query text) old new
 
 -- the session has taken these commands
 pub record HasTaken (cs : List Command) (s : Session) : Type 0 where

@@ -1,5 +1,5 @@
 -- A session that runs by itself: what holds between two of its commands.
-use Rattle.std.specs.Prelude.{◌≡◌, ◌==◌, ◌+◌, ◌≤◌, codes, Bool, true, false, ◌&&◌, [], ◌∷◌, length, nat_le, None}
+use Rattle.std.specs.Prelude.{◌≡◌, ◌==◌, ◌+◌, ◌≤◌, ℕ, codes, Bool, true, false, ◌&&◌, [], ◌∷◌, length, Option, Some, None}
 use Rattle.std.specs.List.{list_all, AllByRecursion}
 use Rattle.qc_sql.specs.declared.tables.RowOp.{RowOp}
 use Rattle.qc_sql.specs.declared.tables.RowOp.TheVariants as op
@@ -7,18 +7,20 @@ use Rattle.qc_sql.specs.Database.{Name, MapOf, Database, at_name}
 use Rattle.qc_model.specs.declared.events.Event.{Event}
 use Rattle.qc_model.specs.declared.events.Event.TheVariants as event
 use Rattle.qc_model.specs.declared.events.How.TheVariants as how
+use Rattle.qc_model.specs.declared.events.Reason.{Reason}
 use Rattle.qc_model.specs.declared.events.Reason.TheVariants as reason
 use Rattle.qc_sql.specs.declared.replies.Reply.{Reply}
+use Rattle.qc_sql.specs.declared.session.Flags.{Flags}
 use Rattle.qc_sql.specs.Errors.{not_supported}
 use Rattle.qc_sql.specs.Grammar.{ParseFault, Unsupported}
-use Rattle.qc_execute.specs.declared.form.Form.{Form}
-use Rattle.qc_execute.specs.declared.form.Form.TheVariants as form
 use Rattle.qc_model.specs.declared.events.Who.{Who}
 use Rattle.qc_model.specs.Machine.{refused}
 use Rattle.qc_model.specs.Agrees.{who_of}
 use Rattle.qc_model.specs.Journal.{Journal, present}
-use Rattle.qc_model.specs.Session.{State}
+use Rattle.qc_model.specs.Session.{State, starting, flags_of}
 use Rattle.qc_model.specs.Licence.{IsLawful, is_within_rows}
+use Rattle.qc_bounds.specs.Names.{is_short}
+use Rattle.qc_bounds.specs.Replies.{is_bounded_database}
 use Rattle.qc_execute.specs.Outcomes.{only_session}
 use Rattle.qc_app.specs.Words.{without_cache}
 
@@ -26,11 +28,11 @@ use Rattle.qc_app.specs.Words.{without_cache}
 abbrev pub state_in : Name → State
 state_in db = record { session = only_session; db = db; autocommit = true; charset = 33; ansi = false; row_limit = 18446744073709551615; kind = 1; transaction = None }
 
--- ---- its events
+-- the flags with which it begins, and which nothing changes so far
+abbrev pub first_flags : Flags
+first_flags = flags_of (starting only_session 1)
 
--- a name of at most 64 bytes
-abbrev pub is_short : Name → Bool
-is_short name = nat_le (length name) 64
+-- ---- its events
 
 -- what an operation makes has short names
 abbrev pub makes_short_names : RowOp → Bool
@@ -43,6 +45,7 @@ abbrev pub is_simple : Event → Bool
 is_simple (event.Commit who ops) = (who.session == only_session) && list_all makes_short_names ops
 is_simple (event.Run who how.Other) = who.session == only_session
 is_simple (event.Run who (how.Plain reason.Off)) = who.session == only_session
+is_simple (event.Run who (how.Plain (reason.Error code))) = who.session == only_session
 is_simple _ = false
 
 -- ---- its database
@@ -60,12 +63,13 @@ pub record IsInOrder (d : Database) : Type 0 where
 
 -- ---- the whole
 
--- the journal is lawful, and the database is the one that it makes
+-- the journal is lawful, and the database is the one that it makes, with names and values of bounded size
 pub record IsSound (journal : Journal) (d : Database) : Type 0 where
   pub simple : list_all is_simple journal ≡ true
   pub lawful : IsLawful without_cache journal
   pub database : d ≡ present journal
   pub order : IsInOrder d
+  pub bounded : is_bounded_database d ≡ true
 
 -- ---- what it writes
 
@@ -81,9 +85,7 @@ abbrev pub IsTold : ParseFault → Type 0
 IsTold (Unsupported what) = length what ≤ 68
 IsTold _ = Unit {0}
 
--- the names that a form has are short
-abbrev pub has_short_names : Form → Bool
-has_short_names (form.CreateDatabase name) = is_short name
-has_short_names (form.CreateTable table column) = is_short table && is_short column
-has_short_names (form.Insert table value) = is_short table
-has_short_names (form.Select column table) = is_short column && is_short table
+-- why a select has a plain run: the code of the error that refuses it, or there is no cache
+abbrev pub reason_of : Option ℕ → Reason
+reason_of None = reason.Off
+reason_of (Some code) = reason.Error code

@@ -7,13 +7,19 @@ use Rattle.qc_model.specs.Journal.{Journal}
 use Rattle.qc_model.specs.Session.{State, base}
 use Rattle.qc_model.specs.Agrees.{Machine, machine_taking}
 use Rattle.qc_sql.specs.declared.statements.Statement.{Statement}
+use Rattle.qc_sql.specs.declared.statements.Statement.TheVariants as statement
 use Rattle.qc_sql.specs.Grammar.{ParseFault, meaning, trimmed}
 use Rattle.qc_execute.specs.Forms.{form_in}
 use Rattle.qc_execute.specs.Outcomes.{is_executed}
 
--- a text that is no statement, or a statement of one of the four forms that isn't refused
+-- a SELECT, or a statement of one of the three forms that isn't refused
+abbrev pub takes_statement : State → Journal → Statement → Bool
+takes_statement state journal (statement.Select s) = true
+takes_statement state journal s = is_some (form_in s) && is_executed (base state journal) state.db s
+
+-- a text that is no statement, or one of those
 abbrev pub takes_text : State → Journal → Result Statement ParseFault → Bool
-takes_text state journal (Ok s) = is_some (form_in s) && is_executed (base state journal) state.db s
+takes_text state journal (Ok s) = takes_statement state journal s
 takes_text state journal (Err fault) = true
 
 -- a query of such a text, the choice of a database that is there, a ping, or a payload that is no command; Quit is no command that is answered

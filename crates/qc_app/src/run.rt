@@ -1,6 +1,6 @@
 //! Runs a script.
 
-ghost use Rattle.std.specs.Prelude.{◌≡◌, ◌≢◌, ◌≤◌, true, length, IfOk};
+ghost use Rattle.std.specs.Prelude.{◌≡◌, ◌≢◌, ◌<◌, ◌≤◌, true, length, IfOk};
 ghost use Rattle.std.specs.List.{list_all};
 ghost use Rattle.qc_sql.specs.declared.commands.CommandEnd.TheVariants as end;
 ghost use Rattle.qc_sql.specs.Commands.{command_payload};
@@ -20,12 +20,14 @@ use crate::session::{ONLY_SESSION, Session};
 use qc_model::events::Events;
 use qc_model::reports::{Ending, Report, Script, SessionReport, SessionReports};
 use qc_sql::commands::{Command, CommandEnd};
-use qc_types::{NoMemory, Options, Or};
+use qc_types::{NoMemory, Options, Or, Steps};
 use qc_wire::read_command;
 use std::alloc::Global;
+use std::marker::Brand;
+use std::sync::ledger::{Blank, Ledger};
 
 /// The report of a script's run: its sessions, the journal of their events, and the counters. The cost is linear in the script and in the
-/// report, but for the logarithms of the tables' sizes.
+/// report, and besides each change costs what its table holds, and each SELECT the row combinations that it reads.
 pub fn run_script(alloc: Global, options: Options, script: &Script) -> Result<Report, NoMemory>
     requires options { options ≡ without_cache }
     requires small { IsSmall script.now }
@@ -41,7 +43,7 @@ pub fn run_script(alloc: Global, options: Options, script: &Script) -> Result<Re
 fn run_one(alloc: Global, options: Options, input: &[u8]) -> Result<Report, NoMemory>
     ensures { IfOk result (λ report. IsReportOf options input.now report) }
 {
-    let (session, ending) = run_session(alloc, input)?;
+    let (session, ending) = run_session::<Brand>(alloc, input, Blank::new(1))?;
     let Session {
         database: _,
         db: _,
@@ -72,11 +74,19 @@ fn report_of(options: Options, sessions: SessionReports, journal: Events) -> Rep
 }
 
 /// Runs a session's input to its end: answers one command after another, up to a Quit or to where no whole packet of a command stands.
-/// Each turn takes a command, and the input is read once.
+/// Each turn takes a command, and the input is read once. The rows that it reads are counted over the ledger of the blank.
 #[tactic(auto, using(crate::proofs::Nexts::goes_on))]
-pub fn run_session(alloc: Global, input: &[u8]) -> Result<(Session, Ending), NoMemory>
+pub fn run_session<L: Ledger>(
+    alloc: Global,
+    input: &[u8],
+    blank: Blank,
+) -> Result<(Session, Ending), NoMemory>
+    requires name { blank.name ≡ L.name }
+    requires parts { blank.parts ≡ L.parts }
+    requires one { 0 < blank.parts }
     ensures { IfOk result (λ ran. HasRun input.now ran.0 ran.1) }
 {
+    let mut steps = Steps::<L>::new(blank);
     let mut session = Session::new(alloc)?;
     let mut left = input;
     loop {
@@ -85,7 +95,7 @@ pub fn run_session(alloc: Global, input: &[u8]) -> Result<(Session, Ending), NoM
             Err(Or::Other(ending)) => return Ok((session, ending)),
             Err(Or::Memory) => return Err(NoMemory),
         };
-        session.execute(alloc, &command)?;
+        session.execute(alloc, &command, &mut steps)?;
     }
 }
 

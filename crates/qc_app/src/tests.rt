@@ -53,14 +53,100 @@ session 1 commands 6 end input
 3 other 0700000100000002000000
 4 other 0700000100010002000000
 5 plain 01000001011d000002036465660164017401740269640269640c3f001400000008030000000005000003fe0000020002000004013705000005fe00000200
-5 local 1c000001ffd3042334323030304e6f7420737570706f727465643a20666f726d
-journal 5
+6 plain 1b000001ff7a042334325330324e6f2073756368207461626c653a20642e78
+journal 6
 1 commit 1 1 1 createdb:64
 2 run 1 2 other
 3 commit 1 3 1 create:64.74:02696400000003
 4 commit 1 4 1 put:64.74:0137
 5 run 1 5 plain off
+6 run 1 6 plain error 1146
+counters 2 0 0 1 0 0
+end
+";
+
+const NO_ROWS: &str = "session 1
+query CREATE DATABASE d
+init d
+query CREATE TABLE t (id BIGINT PRIMARY KEY)
+query SELECT id FROM t
+";
+
+const NO_ROWS_REPORT: &str = "qcache report 1
+options 0 1048576 4096 1
+sessions 1
+session 1 commands 4 end input
+1 other 0700000100010002000000
+2 other 0700000100000002000000
+3 other 0700000100000002000000
+4 plain 01000001011d000002036465660164017401740269640269640c3f001400000008030000000005000003fe0000020005000004fe00000200
+journal 4
+1 commit 1 1 1 createdb:64
+2 run 1 2 other
+3 commit 1 3 1 create:64.74:02696400000003
+4 run 1 4 plain off
 counters 1 0 0 1 0 0
+end
+";
+
+/// Queries of each part of SELECT, two of which are refused.
+const SELECTS: &str = "session 1
+query CREATE DATABASE d
+init d
+query CREATE TABLE t (id BIGINT PRIMARY KEY)
+query INSERT INTO t VALUES (7)
+query INSERT INTO t VALUES (3)
+query INSERT INTO t VALUES (5)
+query SELECT COUNT(*), SUM(id) FROM t
+query SELECT id FROM t WHERE id > 3 ORDER BY id DESC LIMIT 1
+query SELECT 1
+query SELECT CONNECTION_ID()
+query SELECT *
+query SELECT a.id FROM t a, t b WHERE a.id = b.id
+query SELECT id k FROM t WHERE id = 4
+query SELECT MAX(id) FROM t WHERE NOT id IN (3, 5, 7)
+query SELECT DATABASE() AS n
+query SELECT id FROM t WHERE x = 1
+";
+
+const SELECTS_REPORT: &str = "qcache report 1
+options 0 1048576 4096 1
+sessions 1
+session 1 commands 16 end input
+1 other 0700000100010002000000
+2 other 0700000100000002000000
+3 other 0700000100000002000000
+4 other 0700000100010002000000
+5 other 0700000100010002000000
+6 other 0700000100010002000000
+7 plain 01000001021e0000020364656600000008434f554e54282a29000c3f00140000000800000000001d000003036465660000000753554d28696429000c3f0029000000f6000000000005000004fe0000020005000005013302313505000006fe00000200
+8 plain 01000001011d000002036465660164017401740269640269640c3f001400000008030000000005000003fe0000020002000004013705000005fe00000200
+9 plain 010000010117000002036465660000000131000c3f001400000008000000000005000003fe0000020002000004013105000005fe00000200
+10 plain 010000010125000002036465660000000f434f4e4e454354494f4e5f49442829000c3f001400000008000000000005000003fe0000020002000004013105000005fe00000200
+11 plain 1c000001ffd3042334323030304e6f7420737570706f727465643a2073746172
+12 plain 01000001011d000002036465660164016101740269640269640c3f001400000008030000000005000003fe0000020002000004013302000005013502000006013705000007fe00000200
+13 plain 01000001011c00000203646566016401740174016b0269640c3f001400000008030000000005000003fe0000020005000004fe00000200
+14 plain 01000001011d00000203646566000000074d415828696429000c3f001400000008000000000005000003fe0000020001000004fb05000005fe00000200
+15 plain 01000001011700000203646566000000016e000c2100ffff0000fd000000000005000003fe0000020002000004016405000005fe00000200
+16 plain 1a000001ff1e04233432533232556e6b6e6f776e20636f6c756d6e3a2078
+journal 16
+1 commit 1 1 1 createdb:64
+2 run 1 2 other
+3 commit 1 3 1 create:64.74:02696400000003
+4 commit 1 4 1 put:64.74:0137
+5 commit 1 5 1 put:64.74:0133
+6 commit 1 6 1 put:64.74:0135
+7 run 1 7 plain off
+8 run 1 8 plain off
+9 run 1 9 plain off
+10 run 1 10 plain off
+11 run 1 11 plain error 1235
+12 run 1 12 plain off
+13 run 1 13 plain off
+14 run 1 14 plain off
+15 run 1 15 plain off
+16 run 1 16 plain error 1054
+counters 10 0 0 8 0 0
 end
 ";
 
@@ -109,7 +195,12 @@ fn run(rt: &HostRuntime, script: &[u8]) -> Result<(Ended, BytesSink), AllocError
 
 #[test]
 fn whole_reports(rt: HostRuntime) -> Result<(), Fail> {
-    let rows: [(&str, &str); 2] = [(FIRST_ROW, FIRST_REPORT), ("", EMPTY_REPORT)];
+    let rows: [(&str, &str); 4] = [
+        (FIRST_ROW, FIRST_REPORT),
+        ("", EMPTY_REPORT),
+        (NO_ROWS, NO_ROWS_REPORT),
+        (SELECTS, SELECTS_REPORT),
+    ];
     for (script, report) in rows {
         let (ended, out) = run(&rt, script.as_bytes())?;
         assert_eq!(rt; ended.status, 0u8);
@@ -451,7 +542,7 @@ fn streams_of_a_session(rt: HostRuntime) -> Result<(), Fail> {
             "input",
             false,
         ),
-        ("query SELECT 1\nping", "form ping", "input", false),
+        ("query DROP TABLE t\nping", "form ping", "input", false),
     ];
     for (lines, answers, ending, created) in rows {
         let script = format!(in alloc; "session 1\n{lines}")?;
@@ -542,16 +633,16 @@ fn commands_of_every_form(rt: HostRuntime) -> Result<(), Fail> {
         ),
         (b"query SELECT id FROM t", "4 plain, "),
         (b"query SELECT   id FROM  t", "4 plain, "),
-        (b"query SELECT id FROM u", "3 local, "),
-        (b"query SELECT x FROM t", "3 local, "),
+        (b"query SELECT id FROM u", "4 plain, "),
+        (b"query SELECT x FROM t", "4 plain, "),
         (
             b"query SELECT id FROM t\nquery x\nquery SELECT id FROM t",
             "4 plain, 4 local, 5 plain, ",
         ),
         (b"query SELECT\tid FROM t", "4 plain, "),
         (b"query select `id` AS id from t t -- x", "4 plain, "),
-        (b"query SELECT id AS x FROM t", "3 local, "),
-        (b"query SELECT id FROM t WHERE id = 7", "3 local, "),
+        (b"query SELECT id AS x FROM t", "4 plain, "),
+        (b"query SELECT id FROM t WHERE id = 7", "4 plain, "),
         (b"query ", "3 local, "),
         (b"query \xff\x80\0", "3 local, "),
         (b"init e\nquery SELECT id FROM t", "3 local, 4 plain, "),
@@ -642,17 +733,27 @@ fn many_pings(rt: HostRuntime) -> Result<(), Fail> {
     Ok(())
 }
 
+/// Tables that share many inserts: each of these makes a new version of its table.
+const TABLES: [&str; 20] = [
+    "a", "b", "c", "d", "e", "f", "g", "h", "i", "j", "k", "l", "m", "n", "o", "p", "q", "r", "s",
+    "t",
+];
+
 #[test]
 fn many_inserts(rt: HostRuntime) -> Result<(), Fail> {
     let alloc = rt.alloc();
-    let mut script = bytes(
-        alloc,
-        b"session 1\nquery CREATE DATABASE d\ninit d\nquery CREATE TABLE t (id BIGINT PRIMARY KEY)\n",
-    )?;
-    for number in 0..200_000u32 {
+    let mut script = bytes(alloc, b"session 1\nquery CREATE DATABASE d\ninit d\n")?;
+    for table in TABLES {
         script.extend_from_slice(format!(in alloc;
-            "query INSERT INTO t VALUES ({number})\n"
+            "query CREATE TABLE {table} (id BIGINT PRIMARY KEY)\n"
         )?.as_bytes())?;
+    }
+    for number in 0..1_000u32 {
+        for table in TABLES {
+            script.extend_from_slice(format!(in alloc;
+                "query INSERT INTO {table} VALUES ({number})\n"
+            )?.as_bytes())?;
+        }
     }
     script.extend_from_slice(b"query SELECT id FROM t\n")?;
     let (ended, _out) = run(&rt, &script)?;
@@ -660,7 +761,7 @@ fn many_inserts(rt: HostRuntime) -> Result<(), Fail> {
     let Some(report) = ended.report else {
         return Err(Fail::new("no report"));
     };
-    assert_eq!(rt; report.journal.items().len(), 200_004usize);
+    assert_eq!(rt; report.journal.items().len(), 20_023usize);
     assert_eq!(rt; report.counters.not_cached, 1u64);
     Ok(())
 }

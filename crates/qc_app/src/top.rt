@@ -44,7 +44,8 @@ pub struct Ended {
 ///
 /// The words are judged first, then the input is read, then the script is judged, then it is run. Nothing is put before the run has ended.
 /// A source or a sink that doesn't tell what it has left or holds is promised less: the clauses then speak of some input of which the
-/// report is the run. The cost is linear in the input and the report, but for the logarithms of the tables' sizes.
+/// report is the run. The cost is linear in the input and the report, and besides each change costs what its table holds, and each
+/// SELECT the row combinations that it reads.
 pub fn qcache_main<R, S: Source, K: Sink>(
     _rt: &R,
     alloc: Global,

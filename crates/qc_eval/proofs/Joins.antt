@@ -8,7 +8,7 @@ use Rattle.std.specs.Fmt.{digits}
 use Rattle.std.proofs.lemmas.List.{take-append-drop, take_more, map-append}
 use Rattle.qc_resolve.specs.Meaning.{present_value}
 use Rattle.qc_sql.specs.Rows.{length_value}
-use Rattle.qc_versions.specs.Views.{text_value}
+use Rattle.qc_table.specs.Views.{text_value}
 use Rattle.qc_eval.specs.Buffered.{Buffered}
 use Rattle.qc_eval.specs.Texts.{size_value, present_size, fits, Puts, HasPut}
 use Rattle.std.specs.Prelude.{option_map, option_and_then, unwrap_or, nat_lt, nat_le}

@@ -6,7 +6,7 @@ use Rattle.qc_types.specs.declared.names.Value.TheVariants as value
 use Rattle.qc_sql.specs.declared.tables.Kind.{Kind}
 use Rattle.qc_sql.specs.declared.tables.Kind.TheVariants as kind
 use Rattle.qc_sql.specs.Database.{Table}
-use Rattle.qc_versions.specs.Views.{kind_at}
+use Rattle.qc_table.specs.Views.{kind_at}
 use Rattle.qc_resolve.specs.declared.formula.Formula.{Formula}
 use Rattle.qc_resolve.specs.declared.formula.Formula.TheOpen.{Formula-F}
 use Rattle.qc_resolve.specs.declared.formula.Place.{Place}

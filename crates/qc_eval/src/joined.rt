@@ -2,7 +2,7 @@
 
 ghost use Rattle.std.specs.Prelude.{◌≡◌, map};
 ghost use Rattle.qc_sql.specs.Rows.{concat_texts, concat_value, text_of};
-ghost use Rattle.qc_versions.specs.Views.{text_value};
+ghost use Rattle.qc_table.specs.Views.{text_value};
 ghost use Rattle.qc_eval.specs.Chosen.{HasRows, value_in};
 ghost use Rattle.qc_eval.specs.Values.{cell_value};
 

@@ -1,6 +1,6 @@
 -- What the forms that change the database mean.
-use Rattle.std.proofs.Common.{◌≡◌, ℕ, ℤ, ◌+◌, ◌<◌, ◌≤◌, ◌==◌, Bool, true, false, [], ◌∷◌, length, refl, sym, ap, ◌∙◌, arith, Option, Result, Ok, Err, true≢false, Bor}
-use Rattle.std.specs.Prelude.{IfOk, Some, None, is_some, is_none, is_ok, option_copied, not, nat_lt, option_and_then}
+use Rattle.std.proofs.Common.{◌≡◌, ℕ, ℤ, ◌+◌, ◌<◌, ◌≤◌, ◌==◌, Bool, true, false, [], ◌∷◌, length, map, refl, sym, ap, ◌∙◌, arith, Option, Result, Ok, Err, true≢false, Bor}
+use Rattle.std.specs.Prelude.{◌||◌, IfOk, Some, None, is_some, is_none, is_ok, option_copied, not, nat_lt, option_and_then}
 use Rattle.std.proofs.lemmas.Bool.Decides.{nat_tests}
 use Rattle.qc_types.specs.declared.names.TableName.{TableName}
 use Rattle.qc_types.specs.declared.sql_error.SqlError.{SqlError}
@@ -8,17 +8,16 @@ use Rattle.qc_types.specs.declared.names.Value.TheVariants as value
 use Rattle.qc_sql.specs.declared.tables.RowOp.{RowOp}
 use Rattle.qc_sql.specs.declared.tables.RowOp.TheVariants as op
 use Rattle.qc_sql.specs.Database.{Name, Database, Table, Tables, at_name, tables_of, table_of}
-use Rattle.qc_sql.specs.Effects.{effect, has_key}
+use Rattle.qc_sql.specs.Effects.{Judged, effect, effect_of, has_key, lacking, refuse_lacking, new_rows}
 use Rattle.qc_sql.specs.Errors.{unknown_database}
 use Rattle.qc_sql.specs.Rows.{◌>>=◌, refuse_if, found_table, Bound, bound_in}
 use Rattle.qc_sql.proofs.Untouched.{bytes_eq_self}
 use Rattle.qc_execute.specs.declared.form.Form.{Form}
 use Rattle.qc_execute.specs.declared.form.Form.TheVariants as form
-use Rattle.qc_table.specs.Stored.{key_column}
 use Rattle.qc_execute.specs.declared.outcome.Outcome.{Outcome}
 use Rattle.qc_execute.specs.declared.outcome.Outcome.TheVariants as outcome
-use Rattle.qc_execute.specs.Outcomes.{IsOutcome, MayApply}
-use Rattle.qc_execute.proofs.Trees.{unwritten}
+use Rattle.qc_execute.specs.Outcomes.{key_column, IsOutcome, MayApply}
+use Rattle.qc_execute.proofs.Keys.{IsKeyed}
 
 -- a table of a database
 abbrev pub in_db : Name → Name → TableName
@@ -40,22 +39,19 @@ not_none_where : {X : Type 0} (o : Option X) → is_some o ≡ true → is_none 
 not_none_where (Some x) h = refl
 not_none_where None h = absurd (true≢false (sym h))
 
-is_nothing : {X : Type 0} (o : Option X) → is_some o ≡ false → o ≡ None
-is_nothing None h = refl
-is_nothing (Some x) h = absurd (true≢false h)
-
 pub is_some-copied : {X : Type 0} (o : Option (Bor X)) → is_some (option_copied o) ≡ is_some o
 is_some-copied None = refl
 is_some-copied (Some x) = refl
-
--- a test that was made of the same key
-pub key_tested : (t : Table) (k n : ℤ) (b : Bool) → k ≡ n → b ≡ has_key t k → has_key t n ≡ b
-key_tested t k n b same tested = sym (tested ∙ ap (has_key t) same)
 
 -- a first step that is refused refuses the whole
 pub refused_first : {A B : Type 0} (r : Result A SqlError) (f : A → Result B SqlError) → is_ok r ≡ false → is_ok (r >>= f) ≡ false
 refused_first (Ok x) f h = absurd (true≢false h)
 refused_first (Err e) f h = refl
+
+-- where each second step is refused, the whole is
+refused_second : {A B : Type 0} (r : Result A SqlError) (f : A → Result B SqlError) → ((x : A) → is_ok (f x) ≡ false) → is_ok (r >>= f) ≡ false
+refused_second (Ok x) f h = h x
+refused_second (Err e) f h = refl
 
 -- a table that isn't there, in a database that may be
 pub nowhere : (d : Database) (t : TableName) (called : Name) → (length t.db == 0) ≡ false → table_of t d ≡ None → is_ok (bound_in d t called) ≡ false
@@ -72,68 +68,82 @@ nowhere d t called named h = rw named (rw h (by (is_some (tables_of t.db d))))
 
 pub database_made : (d : Database) (db name : Name) → is_some (tables_of name d) ≡ false → IsOutcome d db (form.CreateDatabase name) (outcome.Changed (op.CreateDb name) 1)
 unfolding effect
-database_made d db name h = λ w. (rw h refl, record { taken = h; fits = none_where _ h; room = tt })
+database_made d db name h = (rw h refl, record { fits = none_where _ h; room = tt })
 
 pub database_refused : (d : Database) (db name : Name) → is_some (tables_of name d) ≡ true → IsOutcome d db (form.CreateDatabase name) outcome.Refused
 unfolding effect
-database_refused d db name h = λ w. rw h refl
+database_refused d db name h = rw h refl
 
 -- ---- CREATE TABLE
 
 pub table_made : (d : Database) (db table column : Name) → (length db == 0) ≡ false → is_some (tables_of db d) ≡ true → is_some (table_of (in_db db table) d) ≡ false
     → IsOutcome d db (form.CreateTable table column) (outcome.Changed (op.CreateTable (in_db db table) (key_column column ∷ [])) 0)
 unfolding effect
-table_made d db table column named known new = λ w.
+table_made d db table column named known new =
     let there = not_none_where (tables_of db d) known in
     let none = none_where (table_of (in_db db table) d) new in
-    (rw named (rw there (rw new refl)), record { taken = (known, is_nothing _ new, (column, refl)); fits = rw known (rw none refl); room = tt })
+    (rw named (rw there (rw new refl)), record { fits = rw known (rw none refl); room = tt })
 
 pub table_unnamed : (d : Database) (db table column : Name) → (length db == 0) ≡ true → IsOutcome d db (form.CreateTable table column) outcome.Refused
 unfolding effect
-table_unnamed d db table column h = λ w. rw h refl
+table_unnamed d db table column h = rw h refl
 
 pub table_unknown : (d : Database) (db table column : Name) → (length db == 0) ≡ false → is_some (tables_of db d) ≡ false → IsOutcome d db (form.CreateTable table column) outcome.Refused
 unfolding effect
-table_unknown d db table column named h = λ w. let none = none_where (tables_of db d) h in rw named (rw none refl)
+table_unknown d db table column named h = let none = none_where (tables_of db d) h in rw named (rw none refl)
 
 pub table_there : (d : Database) (db table column : Name) → (length db == 0) ≡ false → is_some (tables_of db d) ≡ true → is_some (table_of (in_db db table) d) ≡ true → IsOutcome d db (form.CreateTable table column) outcome.Refused
 unfolding effect
-table_there d db table column named known h = λ w. let there = not_none_where (tables_of db d) known in rw named (rw there (rw h refl))
+table_there d db table column named known h = let there = not_none_where (tables_of db d) known in rw named (rw there (rw h refl))
 
 -- ---- INSERT
 
-pub row_put : (d : Database) (db table column : Name) (n : ℤ) (t : Table) → (length db == 0) ≡ false → table_of (in_db db table) d ≡ Some t → t.columns ≡ key_column column ∷ [] → has_key t n ≡ false → length t.rows < 1048576
+or_true : (b : Bool) → (b || true) ≡ true
+or_true true = refl
+or_true false = refl
+
+pub row_put : (d : Database) (db table : Name) (n : ℤ) (t : Table) → (length db == 0) ≡ false → table_of (in_db db table) d ≡ Some t → IsKeyed t → has_key t n ≡ false → length t.rows < 1048576
     → IsOutcome d db (form.Insert table n) (outcome.Changed (op.Put (in_db db table) (value.Int n ∷ [])) 1)
 unfolding effect
-row_put d db table column n t named found columns new room = λ w.
+row_put d db table n t named found key new room =
     let known = database_of d (in_db db table) t found in
     let few : nat_lt 1048576 (length t.rows + 1) ≡ false = grind (arith, nat_tests) in (
-      rw named (rw known (rw found (rw columns (rw (bytes_eq_self column) (rw new (rw few refl)))))),
-      record { taken = (rw found refl, (n, refl)); fits = rw found (rw columns refl); room = rw found room },
+      rw named (rw known (rw found (rw key.2 (rw (or_true key.1) (rw (bytes_eq_self key.0) (rw new (rw few refl))))))),
+      record { fits = rw found (rw key.2 (rw (or_true key.1) refl)); room = rw found room },
     )
 
 pub row_unnamed : (d : Database) (db table : Name) (n : ℤ) → (length db == 0) ≡ true → IsOutcome d db (form.Insert table n) outcome.Refused
 unfolding effect
-row_unnamed d db table n h = λ w. rw h refl
+row_unnamed d db table n h = rw h refl
 
 pub row_nowhere : (d : Database) (db table : Name) (n : ℤ) → (length db == 0) ≡ false → table_of (in_db db table) d ≡ None → IsOutcome d db (form.Insert table n) outcome.Refused
 unfolding effect
-row_nowhere d db table n named h = λ w. refused_first _ _ (nowhere d (in_db db table) table named h)
+row_nowhere d db table n named h = refused_first _ _ (nowhere d (in_db db table) table named h)
 
-pub row_there : (d : Database) (db table column : Name) (n : ℤ) (t : Table) → (length db == 0) ≡ false → table_of (in_db db table) d ≡ Some t → t.columns ≡ key_column column ∷ [] → has_key t n ≡ true
-    → IsOutcome d db (form.Insert table n) outcome.Refused
+-- a table of other than one column doesn't take one number
+pub row_miscounted : (d : Database) (db table : Name) (n : ℤ) (t : Table) → (length db == 0) ≡ false → table_of (in_db db table) d ≡ Some t → (1 == length t.columns) ≡ false → IsOutcome d db (form.Insert table n) outcome.Refused
 unfolding effect
-row_there d db table column n t named found columns h = λ w.
+row_miscounted d db table n t named found other =
     let known = database_of d (in_db db table) t found in
-    rw named (rw known (rw found (rw columns (rw (bytes_eq_self column) (rw h refl)))))
+    rw named (rw known (rw found (refused_second (refuse_lacking (lacking t.columns t.columns)) go (λ x. rw other refl))))
+  where
+    go : Unit {0} → Judged
+    go _ = new_rows (in_db db table) t t.columns [] 1 ((value.Int n ∷ []) ∷ []) >>= λ rows. Ok (effect_of (map (λ row. op.Put (in_db db table) row) rows) (length rows))
 
-pub row_without_room : (d : Database) (db table column : Name) (n : ℤ) (t : Table) → (length db == 0) ≡ false → table_of (in_db db table) d ≡ Some t → t.columns ≡ key_column column ∷ [] → has_key t n ≡ false → 1048576 ≤ length t.rows
+pub row_there : (d : Database) (db table : Name) (n : ℤ) (t : Table) → (length db == 0) ≡ false → table_of (in_db db table) d ≡ Some t → IsKeyed t → has_key t n ≡ true
     → IsOutcome d db (form.Insert table n) outcome.Refused
 unfolding effect
-row_without_room d db table column n t named found columns new full = λ w.
+row_there d db table n t named found key h =
+    let known = database_of d (in_db db table) t found in
+    rw named (rw known (rw found (rw key.2 (rw (or_true key.1) (rw (bytes_eq_self key.0) (rw h refl))))))
+
+pub row_without_room : (d : Database) (db table : Name) (n : ℤ) (t : Table) → (length db == 0) ≡ false → table_of (in_db db table) d ≡ Some t → IsKeyed t → has_key t n ≡ false → 1048576 ≤ length t.rows
+    → IsOutcome d db (form.Insert table n) outcome.Refused
+unfolding effect
+row_without_room d db table n t named found key new full =
     let known = database_of d (in_db db table) t found in
     let many : nat_lt 1048576 (length t.rows + 1) ≡ true = grind (arith, nat_tests) in
-    rw named (rw known (rw found (rw columns (rw (bytes_eq_self column) (rw new (rw many refl))))))
+    rw named (rw known (rw found (rw key.2 (rw (or_true key.1) (rw (bytes_eq_self key.0) (rw new (rw many refl)))))))
 
 -- ---- for callers
 
@@ -144,7 +154,4 @@ for_one d db f (Err e) h = tt
 
 -- a change that a form makes may be applied
 pub may_apply : (d : Database) (db : Name) (f : Form) (o : RowOp) (affected : ℕ) → IsOutcome d db f (outcome.Changed o affected) → MayApply o d
-may_apply d db (form.CreateDatabase name) o affected h = (h unwritten).1
-may_apply d db (form.CreateTable table column) o affected h = (h unwritten).1
-may_apply d db (form.Insert table n) o affected h = (h unwritten).1
-may_apply d db (form.Select column table) o affected h = absurd (h unwritten)
+may_apply d db f o affected h = h.1

@@ -1,6 +1,4 @@
 pub mod Changes
-pub mod Replies
-pub mod Selects
-pub mod Sizes
-pub mod Within
+pub mod Fits
+pub mod Keys
 pub mod Trees

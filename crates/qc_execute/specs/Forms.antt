@@ -1,16 +1,9 @@
--- The four forms of statement that are carried out so far, by cases on a statement's tree, and the trees that have them.
-use Rattle.std.specs.Prelude.{ℕ, ◌^◌, ℤ, pos, int_le, int_lt, Bool, true, false, not, ◌&&◌, List, [], ◌∷◌, length, Option, Some, None, nat_lt, nat_le, bytes_eq, if◌then◌else◌, is_none, option_map, option_and_then}
+-- The three forms of statement that are carried out so far beside SELECT, by cases on a statement's tree, and the trees that have them.
+use Rattle.std.specs.Prelude.{ℕ, ◌^◌, ℤ, pos, int_le, int_lt, Bool, true, false, ◌&&◌, List, [], ◌∷◌, length, Option, Some, None, nat_lt, nat_le, if◌then◌else◌, is_none, option_map, option_and_then}
 use Rattle.std.specs.List.{list_all}
 use Rattle.qc_types.specs.declared.names.Value.{Value}
 use Rattle.qc_types.specs.declared.names.Value.TheVariants as value
-use Rattle.qc_sql.specs.declared.statements.Head.{Head}
-use Rattle.qc_sql.specs.declared.statements.Head.TheVariants as head
-use Rattle.qc_sql.specs.declared.statements.Expr.{Expr}
-use Rattle.qc_sql.specs.declared.statements.Expr.TheVariants as expr
 use Rattle.qc_sql.specs.declared.statements.TableRef.{TableRef}
-use Rattle.qc_sql.specs.declared.statements.Item.{Item}
-use Rattle.qc_sql.specs.declared.statements.Source.{Source}
-use Rattle.qc_sql.specs.declared.statements.Select.{Select}
 use Rattle.qc_sql.specs.declared.statements.Insert.{Insert}
 use Rattle.qc_sql.specs.declared.statements.Part.{Part}
 use Rattle.qc_sql.specs.declared.statements.Part.TheVariants as piece
@@ -39,11 +32,6 @@ abbrev pub unqualified : Option Name → Name → Option Name
 unqualified None w = named w
 unqualified (Some front) w = None
 
--- a name whose alias, if it has one, is the same
-abbrev pub called : Option Name → Name → Option Name
-called None w = Some w
-called (Some alias) w = when (bytes_eq alias w) w
-
 -- 0 to 10^18 - 1
 abbrev pub is_number : ℤ → Bool
 is_number n = int_le (pos 0) n && int_lt n (pos (10 ^ 18))
@@ -67,24 +55,6 @@ abbrev pub number_in : Value → Option ℤ
 number_in (value.Int n) = when (is_number n) n
 number_in _ = None
 
-abbrev pub column_in : Expr → Option Name
-column_in (expr.Column c) = unqualified c.source c.name
-column_in _ = None
-
-abbrev pub item_in : Item → Option Name
-item_in i = option_and_then (called i.name) (column_in i.value)
-
-abbrev pub source_in : Source → Option Name
-source_in s = option_and_then (called (Some s.name)) (table_in s.table)
-
-abbrev pub says_nothing : Head → Bool
-says_nothing head.Bare = true
-says_nothing _ = false
-
--- no word on the cache, no star, and nothing behind the sources
-abbrev pub is_plain : Select → Bool
-is_plain s = says_nothing s.cache && not s.star && is_none s.cond && nat_le (length s.order) 0 && is_none s.limit && not s.lock
-
 -- ---- the forms
 
 abbrev pub both : {A B : Type 0} → Option A → Option B → (A → B → Form) → Option Form
@@ -94,43 +64,20 @@ both _ _ f = None
 abbrev pub form_of_insert : Insert → Option Form
 form_of_insert i = if is_none i.names then both (table_in i.table) (option_and_then number_in (option_and_then only (only i.rows))) form.Insert else None
 
-abbrev pub form_of_select : Select → Option Form
-form_of_select s = if is_plain s then both (option_and_then item_in (only s.items)) (option_and_then source_in (only s.from)) form.Select else None
-
 -- the form of a statement, if it has one
 abbrev pub form_in : Statement → Option Form
 form_in (statement.CreateDb w) = option_map (λ name. form.CreateDatabase name) (named w)
 form_in (statement.CreateTable t parts) = both (table_in t) (option_and_then key_in (only parts)) form.CreateTable
 form_in (statement.Insert i) = form_of_insert i
-form_in (statement.Select s) = form_of_select s
 form_in _ = None
 
 -- ---- the trees of a form
 
--- what a form doesn't say of the item of a select: whether it has its column's name once more, its span, and the text of that
-pub record Written : Type 0 where
-  pub again : Bool
-  pub from : ℕ
-  pub to : ℕ
-  pub words : List ℕ
-
 abbrev pub plain_table : Name → TableRef
 plain_table name = record { db = None; name = name }
 
-abbrev pub select_tree : Name → Name → Written → Select
-select_tree column table w = record {
-  cache = head.Bare;
-  star = false;
-  items = record { value = expr.Column (record { source = None; name = column }); name = when w.again column; from = w.from; to = w.to; words = w.words } ∷ [];
-  from = record { table = plain_table table; name = table } ∷ [];
-  cond = None;
-  order = [];
-  limit = None;
-  lock = false;
-}
-
-abbrev pub tree_of : Form → Written → Statement
-tree_of (form.CreateDatabase name) w = statement.CreateDb name
-tree_of (form.CreateTable table column) w = statement.CreateTable (plain_table table) (piece.Column column typed.BigInt false true ∷ [])
-tree_of (form.Insert table n) w = statement.Insert (record { table = plain_table table; names = None; rows = (value.Int n ∷ []) ∷ [] })
-tree_of (form.Select column table) w = statement.Select (select_tree column table w)
+-- the tree that has a form
+abbrev pub tree_of : Form → Statement
+tree_of (form.CreateDatabase name) = statement.CreateDb name
+tree_of (form.CreateTable table column) = statement.CreateTable (plain_table table) (piece.Column column typed.BigInt false true ∷ [])
+tree_of (form.Insert table n) = statement.Insert (record { table = plain_table table; names = None; rows = (value.Int n ∷ []) ∷ [] })

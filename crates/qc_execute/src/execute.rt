@@ -1,42 +1,37 @@
 //! Each form is carried out on the database that it is given, which no form changes by itself.
 
-ghost use Rattle.std.specs.Prelude.{◌≡◌, ◌∷◌, [], true, IfOk};
+ghost use Rattle.std.specs.Prelude.{◌≡◌, ◌∷◌, [], IfOk};
 ghost use Rattle.qc_execute.specs.declared.form.Form.TheVariants as form;
-ghost use Rattle.qc_model.specs.Licence.{is_within_rows};
 ghost use Rattle.qc_sql.specs.Database.{Name};
-ghost use Rattle.qc_table.specs.Stored.{key_column};
-ghost use Rattle.qc_execute.specs.Names.{HasShortNames};
-ghost use Rattle.qc_execute.specs.Outcomes.{IsOutcome};
+ghost use Rattle.qc_execute.specs.Outcomes.{key_column, IsOutcome};
 
 use crate::form::Form;
 use crate::outcome::Outcome;
-use crate::reply::{definition, reply_of_keys};
 use qc_sql::tables::{Column, Columns, Kind, RowOp, StoredRow};
 use qc_table::Database;
-use qc_types::{NoMemory, OwnedList, TableName, Text, Value};
+use qc_types::{NoMemory, OwnedList, Steps, TableName, Text, Value};
 use std::alloc::Global;
+use std::sync::ledger::Ledger;
 
 /// The most rows that a table has.
-const MOST_ROWS: usize = 1_048_576;
+const MOST_ROWS: u32 = 1_048_576;
 
 /// What a statement of a form does on a database, for a session with this current database (empty: none). It is refused
-/// exactly where its meaning refuses it. Cost: a SELECT is linear in the table's rows, and all else logarithmic in how many
+/// exactly where its meaning refuses it. An INSERT counts a step where it looks for its key. Costs the logarithm of how many
 /// databases, tables and rows there are. The one error is want of memory.
-pub fn execute_form(
+pub fn execute_form<L: Ledger>(
     alloc: Global,
     database: &Database,
     db: &[u8],
     form: &Form,
+    steps: &mut Steps<L>,
 ) -> Result<Outcome, NoMemory>
-    requires within { is_within_rows database.now ≡ true }
-    requires names { HasShortNames db.now form.now }
     ensures { IfOk result (IsOutcome database.now db.now form.now) }
 {
     match form {
         Form::CreateDatabase { name } => create_database(alloc, database, name),
         Form::CreateTable { table, column } => create_table(alloc, database, db, table, column),
-        Form::Insert { table, value } => insert(alloc, database, db, table, *value),
-        Form::Select { column, table } => select(alloc, database, db, column, table),
+        Form::Insert { table, value } => insert(alloc, database, db, table, *value, steps),
     }
 }
 
@@ -66,12 +61,13 @@ fn create_table(
     Ok(changed(RowOp::CreateTable(name, columns), 0))
 }
 
-fn insert(
+fn insert<L: Ledger>(
     alloc: Global,
     database: &Database,
     db: &[u8],
     table: &Text,
     value: i64,
+    steps: &mut Steps<L>,
 ) -> Result<Outcome, NoMemory>
     ensures { IfOk result (IsOutcome database.now db.now (form.Insert table.now value)) }
 {
@@ -82,40 +78,15 @@ fn insert(
     let Some(version) = database.table(&name) else {
         return Ok(Outcome::Refused);
     };
-    // It tells the proof that the table has one column, its key.
-    let _key = version.column();
-    if version.has_key(value) || version.count() >= MOST_ROWS {
+    // Where there is one column, it is the key.
+    if version.columns().items().len() != 1
+        || version.find(value, steps).is_some()
+        || version.count() >= MOST_ROWS
+    {
         return Ok(Outcome::Refused);
     }
     let row = key_row(alloc, value)?;
     Ok(changed(RowOp::Put(name, row), 1))
-}
-
-fn select(
-    alloc: Global,
-    database: &Database,
-    db: &[u8],
-    column: &Text,
-    table: &Text,
-) -> Result<Outcome, NoMemory>
-    requires within { is_within_rows database.now ≡ true }
-    requires names { HasShortNames db.now (form.Select column.now table.now) }
-    ensures { IfOk result (IsOutcome database.now db.now (form.Select column.now table.now)) }
-{
-    let name = full_name(alloc, db, table)?;
-    if db.is_empty() {
-        return Ok(Outcome::Refused);
-    }
-    let Some(version) = database.table(&name) else {
-        return Ok(Outcome::Refused);
-    };
-    if version.column().bytes() != column.bytes() {
-        return Ok(Outcome::Refused);
-    }
-    let keys = version.keys(alloc)?;
-    let definition = definition(alloc, &name, column)?;
-    let reply = reply_of_keys(alloc, &definition, &keys)?;
-    Ok(Outcome::Rows(reply))
 }
 
 /// One change, and how many rows it affects.

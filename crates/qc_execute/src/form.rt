@@ -1,17 +1,14 @@
-//! The four forms of statement that are carried out so far.
+//! The three forms of statement that are carried out so far beside SELECT.
 
 ghost use Rattle.std.specs.Prelude.{◌≡◌, option_map, option_and_then};
 ghost use Rattle.std.specs.List.{list_all};
 ghost use Rattle.qc_execute.specs.Forms as forms;
-ghost use Rattle.qc_execute.specs.Forms.{form_in, both, table_in, key_in, item_in, source_in, form_of_insert, form_of_select};
+ghost use Rattle.qc_execute.specs.Forms.{form_in, both, table_in, key_in, form_of_insert};
 
-use qc_sql::statements::{
-    ColumnName, Expr, Head, Insert, Item, Part, PartKind, Parts, Select, Source, Statement,
-    TableRef,
-};
+use qc_sql::statements::{Insert, Part, PartKind, Parts, Statement, TableRef};
 use qc_types::{OwnedList, Text, Value};
 
-/// A statement of one of the four forms that are carried out so far.
+/// A statement of one of the three forms.
 #[derive(Drop)]
 pub enum Form {
     /// `CREATE DATABASE name`
@@ -20,14 +17,12 @@ pub enum Form {
     CreateTable { table: Text, column: Text },
     /// `INSERT INTO table VALUES (value)`
     Insert { table: Text, value: i64 },
-    /// `SELECT column FROM table`
-    Select { column: Text, table: Text },
 }
 
-/// The form of a statement, or none where it has none of the four.
+/// The form of a statement, or none where it has none of the three.
 ///
-/// A name is 1 to 64 small letters, of a table or a column with no other name in front; a number is 0 to 10^18 - 1. The selected column may
-/// have its own name once more as its alias, and so the table. Linear in the names; they are moved, and no memory is taken.
+/// A name is 1 to 64 small letters, of a table or a column with no other name in front; a number is 0 to 10^18 - 1. Linear in the names; they
+/// are moved, and no memory is taken.
 pub fn form_of(statement: Statement) -> Option<Form>
     ensures { result ≡ form_in statement }
 {
@@ -35,7 +30,6 @@ pub fn form_of(statement: Statement) -> Option<Form>
         Statement::CreateDb(name) => form_of_create_database(name),
         Statement::CreateTable(table, parts) => form_of_create_table(table, parts),
         Statement::Insert(insert) => form_of_insert(insert),
-        Statement::Select(select) => form_of_select(select),
         other => {
             drop(other);
             None
@@ -70,60 +64,11 @@ fn form_of_insert(insert: Insert) -> Option<Form>
     Some(Form::Insert { table, value })
 }
 
-fn form_of_select(select: Select) -> Option<Form>
-    ensures { result ≡ form_of_select select }
-{
-    if !is_plain(&select) {
-        return None;
-    }
-    let Select { items, from, .. } = select;
-    let column = item_name(only(items)?)?;
-    let table = source_name(only(from)?)?;
-    Some(Form::Select { column, table })
-}
-
-/// Whether a select says nothing of the cache, has no star, and has nothing behind its sources.
-fn is_plain(select: &Select) -> bool
-    ensures { result ≡ forms.is_plain select.now }
-{
-    matches!(select.cache, Head::Bare)
-        && !select.star
-        && select.cond.is_none()
-        && select.order.items().is_empty()
-        && select.limit.is_none()
-        && !select.lock
-}
-
 fn table_name(table: TableRef) -> Option<Text>
     ensures { result ≡ table_in table }
 {
     let TableRef { db, name } = table;
     unqualified(db, name)
-}
-
-fn source_name(source: Source) -> Option<Text>
-    ensures { result ≡ source_in source }
-{
-    let Source { table, name } = source;
-    let table = table_name(table)?;
-    called(Some(name), table)
-}
-
-fn item_name(item: Item) -> Option<Text>
-    ensures { result ≡ item_in item }
-{
-    let Item { value, name, .. } = item;
-    let column = column_name(value)?;
-    called(name, column)
-}
-
-fn column_name(value: Expr) -> Option<Text>
-    ensures { result ≡ forms.column_in value }
-{
-    match value {
-        Expr::Column(ColumnName { source, name }) => unqualified(source, name),
-        _ => None,
-    }
 }
 
 /// The name of a column that is said to be a number and the primary key.
@@ -164,18 +109,6 @@ fn unqualified(front: Option<Text>, name: Text) -> Option<Text>
         return None;
     }
     named(name)
-}
-
-/// A name whose alias, if it has one, is the same.
-fn called(alias: Option<Text>, name: Text) -> Option<Text>
-    ensures { result ≡ forms.called alias name }
-{
-    if let Some(alias) = alias {
-        if alias.bytes() != name.bytes() {
-            return None;
-        }
-    }
-    Some(name)
 }
 
 fn named(name: Text) -> Option<Text>

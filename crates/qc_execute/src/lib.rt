@@ -1,11 +1,12 @@
-//! The four forms of statement that are carried out so far, and what a statement of each does.
+//! The three forms of statement that are carried out so far beside SELECT, and what a statement of each does.
 #![tactic(auto)]
 
+mod apply;
 mod execute;
 mod form;
 mod outcome;
-mod reply;
 
+pub use apply::applied;
 pub use execute::execute_form;
 pub use form::{Form, form_of};
 pub use outcome::Outcome;

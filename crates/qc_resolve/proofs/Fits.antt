@@ -10,7 +10,7 @@ use Rattle.qc_sql.specs.declared.tables.Column.{Column}
 use Rattle.qc_model.specs.Licence.{kind_fits, row_fits, value_fits, is_null}
 use Rattle.qc_sql.specs.Database.{MapOf}
 use Rattle.qc_sql.specs.Rows.{Bound, Combination, combinations, insert_after_ties, sorted}
-use Rattle.qc_versions.specs.Tables.{IsSound, IsRow}
+use Rattle.qc_table.specs.Tables.{IsSound, IsRow}
 use Rattle.qc_resolve.specs.Columns.{Spot, spots_from, all_spots}
 use Rattle.qc_resolve.specs.Fit.{IsSoundBound, FitsAt, IsFit, AreFit}
 

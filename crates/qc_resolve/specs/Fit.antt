@@ -3,7 +3,7 @@ use Rattle.std.specs.Prelude.{◌≡◌, true, List}
 use Rattle.std.specs.List.{AllByRecursion}
 use Rattle.qc_model.specs.Licence.{kind_fits}
 use Rattle.qc_sql.specs.Rows.{Bound, Combination}
-use Rattle.qc_versions.specs.Tables.{IsSound}
+use Rattle.qc_table.specs.Tables.{IsSound}
 use Rattle.qc_resolve.specs.Columns.{Spot, all_spots}
 use Rattle.qc_resolve.specs.Meaning.{value_at}
 

@@ -14,8 +14,8 @@ use qc_errors::{
     name_not_unique, no_database_selected, no_such_table, too_many_combinations, unknown_database,
 };
 use qc_sql::statements::{Source, TableRef};
+use qc_table::Database;
 use qc_types::{NoMemory, Or, SqlError, TableName, Text};
-use qc_versions::Database;
 use std::alloc::Global;
 
 /// The most row combinations of a SELECT.

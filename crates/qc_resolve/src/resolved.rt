@@ -3,8 +3,8 @@
 use crate::formula::{Formula, Formulas, Place};
 use crate::test::Test;
 use qc_sql::replies::ColumnDefs;
+use qc_table::TableVersion;
 use qc_types::OwnedList;
-use qc_versions::TableVersion;
 
 /// An aggregate.
 #[derive(Drop)]

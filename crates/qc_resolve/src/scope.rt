@@ -1,7 +1,7 @@
 //! What a SELECT is judged in.
 
+use qc_table::TableVersion;
 use qc_types::{OwnedList, TableName, Text};
-use qc_versions::TableVersion;
 use std::marker::Model;
 
 /// A table of FROM, under the name by which the statement calls it.

@@ -17,8 +17,8 @@ use crate::scope::{Bound, Scope};
 use qc_errors::{not_supported, too_many_columns};
 use qc_sql::session::Flags;
 use qc_sql::statements::{Limit, Select};
+use qc_table::Database;
 use qc_types::{NoMemory, Or, SqlError, Text};
-use qc_versions::Database;
 use std::alloc::Global;
 
 /// The most columns of a result.

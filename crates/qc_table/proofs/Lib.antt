@@ -1,2 +1,14 @@
+pub mod BitSteps
+pub mod Cutting
+pub mod Drafts
+pub mod Fits
+pub mod IntSteps
 pub mod Maps
+pub mod Merges
+pub mod Merging
+pub mod Parts
+pub mod Places
+pub mod RowKeys
 pub mod Rows
+pub mod Stores
+pub mod TextSteps

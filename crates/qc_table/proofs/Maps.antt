@@ -5,7 +5,7 @@ use Rattle.std.specs.Ordering.{is_eq, match_ordering}
 use Rattle.std.specs.declared.cmp.Ordering.{Ordering}
 use Rattle.std.specs.declared.cmp.Ordering.TheVariants.{Less, Equal, Greater}
 use Rattle.std.specs.BTreeMap.{insert_entry, is_at}
-use Rattle.std.specs.Map.{lookup, set_value, keys_of}
+use Rattle.std.specs.Map.{lookup, remove_entry, set_value, keys_of}
 use Rattle.std.specs.List.{AllByRecursion}
 use Rattle.std.specs.List.Sorted.{IsStrictlySortedBy}
 use Rattle.std.proofs.lemmas.Map.Keys.{sorted_head, sorted_tail}
@@ -26,7 +26,7 @@ module _ {K : Type 0} (f : K → Name) where
   cmp a b = name_cmp (f a) (f b)
 
 module _ {K X : Type 0} (f : K → Name) where
-  abbrev named : List (K × X) → MapOf Name X
+  abbrev pub named : List (K × X) → MapOf Name X
   named es = map (λ e. (f e.0, e.1)) es
 
   pub lookup-named : (name : Name) (es : List (K × X)) → lookup (λ k. at name (f k)) es ≡ at_name name (named es)
@@ -42,6 +42,24 @@ module _ {K X : Type 0} (f : K → Name) where
         | Equal ↦ refl
         | Greater ↦ ap (λ rest. (f e.0, e.1) ∷ rest) (insert_entry-named es k v)
       ]
+
+  pub remove_entry-named : (name : Name) (es : List (K × X)) → named (remove_entry (λ k. at name (f k)) es) ≡ remove_entry (at name) (named es)
+  remove_entry-named name [] = refl
+  remove_entry-named name (e ∷ es) =
+      elim (at name (f e.0)) as (λ b. named (cond b es (e ∷ remove_entry (λ k. at name (f k)) es)) ≡ cond b (named es) ((f e.0, e.1) ∷ remove_entry (at name) (named es))) [
+        | true ↦ refl
+        | false ↦ ap (λ rest. (f e.0, e.1) ∷ rest) (remove_entry-named name es)
+      ]
+
+  all_named : (P : Name → Type 0) (es : List (K × X)) → AllByRecursion (λ k. P (f k)) (keys_of es) → AllByRecursion P (keys_of (named es))
+  all_named P [] all = tt
+  all_named P (e ∷ es) all = (all.0, all_named P es all.1)
+
+  -- keys in order have names in order
+  pub named_in_order : (es : List (K × X)) → IsStrictlySortedBy (cmp f) (keys_of es) → IsStrictlySortedBy name_cmp (keys_of (named es))
+  unfolding IsStrictlySortedBy
+  named_in_order [] s = tt
+  named_in_order (e ∷ es) s = (all_named (λ n. name_cmp (f e.0) n ≡ Less) es s.0, named_in_order es s.1)
 
   -- the keys behind that of the name are others
   change_at-none : (name : Name) (make : X → X) (es : List (K × X)) → AllByRecursion (λ k. name_cmp name (f k) ≡ Less) (keys_of es) → change_at name make (named es) ≡ named es
@@ -77,3 +95,7 @@ changed name m v w after make ends found made = ends make (rw (← found) made)
 -- what leaves it as it is, leaves the map
 pub kept : {X : Type 0} (name : Name) (m : MapOf Name X) (v w : X) (after : MapOf Name X) → EndsWith name m w after → Some v ≡ at_name name m → w ≡ v → after ≡ m
 kept name m v w after ends found same = changed name m v w after (λ u. u) ends found same ∙ change_at-itself name m
+
+pub none_in_order : IsStrictlySortedBy name_cmp []
+unfolding IsStrictlySortedBy
+none_in_order = tt

@@ -1,34 +1,70 @@
--- What is stored so far: tables of one number column, which is their primary key.
-use Rattle.std.specs.Prelude.{◌≡◌, ℤ, true, false, [], ◌∷◌, List, None, is_some}
+-- A table as it is stored: its keys, and its columns.
+use Rattle.std.specs.Prelude.{◌≡◌, ℕ, ℤ, Bool, true, false, List, [], map, length, Option, Some, None, slice_index_or}
+use Rattle.std.specs.List.{slice_get, range_with_len}
+use Rattle.std.specs.Prelude.{zip}
 use Rattle.qc_types.specs.declared.names.Value.{Value}
 use Rattle.qc_types.specs.declared.names.Value.TheVariants as value
 use Rattle.qc_sql.specs.declared.tables.Column.{Column}
+use Rattle.qc_sql.specs.declared.tables.Kind.{Kind}
 use Rattle.qc_sql.specs.declared.tables.Kind.TheVariants as kind
-use Rattle.qc_sql.specs.declared.tables.RowOp.{RowOp}
-use Rattle.qc_sql.specs.declared.tables.RowOp.TheVariants as op
-use Rattle.qc_sql.specs.Database.{Name, Database, table_of, tables_of}
+use Rattle.qc_sql.specs.Database.{MapOf}
+use Rattle.qc_table.specs.declared.cells.Cells.{Cells}
+use Rattle.qc_table.specs.declared.cells.Cells.TheVariants as cells
+use Rattle.qc_table.specs.Columns.{ints_of, texts_of, IsInts, IsTexts}
+use Rattle.qc_table.specs.Views.{kind_at, value_at}
 
--- the one column of a stored table
-abbrev pub key_column : Name → Column
-key_column name = record { name = name; kind = kind.Int; not_null = true; primary = true }
+abbrev pub values_of : Cells → List Value
+values_of (cells.Ints c) = ints_of c
+values_of (cells.Texts c) = texts_of c
 
--- the row of a key
-abbrev pub key_row : ℤ → ℤ × List Value
-key_row k = (k, value.Int k ∷ [])
+abbrev pub is_ints : Cells → Bool
+is_ints (cells.Ints c) = true
+is_ints (cells.Texts c) = false
 
--- one number column, which is the key
-abbrev pub IsKeyColumn : List Column → Type 0
-IsKeyColumn columns = (name : Name) × (columns ≡ key_column name ∷ [])
+abbrev pub is_int : Kind → Bool
+is_int kind.Int = true
+is_int (kind.Str n) = false
 
--- a row of one number
-abbrev pub IsKeyRow : List Value → Type 0
-IsKeyRow row = (n : ℤ) × (row ≡ value.Int n ∷ [])
+abbrev pub IsCells : Cells → Type 0
+IsCells (cells.Ints c) = IsInts c
+IsCells (cells.Texts c) = IsTexts c
 
--- the operations that are taken so far: a database that isn't there, a table of one number column that is its key and isn't there, a row for a table that is there
-abbrev pub IsTaken : RowOp → Database → Type 0
-IsTaken (op.CreateDb name) d = is_some (tables_of name d) ≡ false
-IsTaken (op.CreateTable t columns) d = (is_some (tables_of t.db d) ≡ true) × (table_of t d ≡ None) × IsKeyColumn columns
-IsTaken (op.Put t row) d = (is_some (table_of t d) ≡ true) × IsKeyRow row
-IsTaken (op.Del t key) d = ⊥
-IsTaken (op.DropTable t) d = ⊥
-IsTaken (op.DropDb name) d = ⊥
+-- a column of numbers takes numbers and NULL, one of texts takes texts and NULL
+abbrev pub takes : Bool → Value → Bool
+takes b value.Null = true
+takes true (value.Int n) = true
+takes true (value.Str t) = false
+takes false (value.Int n) = false
+takes false (value.Str t) = true
+
+-- the values of the column at an index
+abbrev pub cell_values : List Cells → ℕ → List Value
+cell_values cs j = slice_index_or (map values_of cs) j []
+
+abbrev pub row_of : ℕ → List Cells → ℕ → List Value
+row_of width cs i = map (λ j. value_at (cell_values cs j) i) (range_with_len 0 width)
+
+-- the rows, under their keys
+abbrev pub rows_of : ℕ → List ℤ → List Cells → MapOf ℤ (List Value)
+rows_of width keys cs = zip keys (map (row_of width cs) (range_with_len 0 (length keys)))
+
+-- the column at an index is of its kind, and has so many values
+abbrev pub IsColumn : Option Kind → ℕ → Cells → Type 0
+IsColumn None count c = ⊥
+IsColumn (Some k) count c = IsCells c × (length (values_of c) ≡ count) × (is_ints c ≡ is_int k)
+
+abbrev pub IsStore : List Column → ℕ → List Cells → Type 0
+IsStore columns count cs = (length cs ≡ length columns) × ((j : ℕ) (c : Cells) → slice_get cs j ≡ Some c → IsColumn (kind_at columns j) count c)
+
+-- the values of a column, of each row
+abbrev pub column_of : ℕ → MapOf ℤ (List Value) → List Value
+column_of j rows = map (λ e. value_at e.1 j) rows
+
+-- a column of its kind with these values
+abbrev pub IsFilled : Option Kind → List Value → Cells → Type 0
+IsFilled None vs c = ⊥
+IsFilled (Some k) vs c = IsCells c × (values_of c ≡ vs) × (is_ints c ≡ is_int k)
+
+-- so many columns, each with its values of the rows
+abbrev pub AreFilled : List Column → MapOf ℤ (List Value) → ℕ → List Cells → Type 0
+AreFilled columns rows n cs = (length cs ≡ n) × ((j : ℕ) (c : Cells) → slice_get cs j ≡ Some c → IsFilled (kind_at columns j) (column_of j rows) c)

@@ -1,29 +1,44 @@
 //! The database.
 
-ghost use Rattle.std.specs.Prelude.{◌≡◌, is_some, option_copied, IfOk, OnOk, OnErr};
-ghost use Rattle.qc_sql.specs.declared.tables.RowOp.TheVariants as op;
-ghost use Rattle.qc_sql.specs.Database.{apply_one, empty_database, table_of, tables_of};
-ghost use Rattle.qc_table.specs.Stored.{IsTaken};
+ghost use Rattle.std.specs.Prelude.{◌≡◌, true, is_some, option_copied, IfOk};
+ghost use Rattle.qc_types.specs.Answers.{Gives};
+ghost use Rattle.qc_sql.specs.Database.{apply, empty_database, table_of, tables_of};
+ghost use Rattle.qc_model.specs.Licence.{is_within_rows, ops_fit};
+ghost use Rattle.qc_table.specs.Fitting.{fitting};
+ghost use Rattle.qc_table.specs.Views.{table_name_at};
 
-use crate::name_map::NameMap;
+use crate::draft::Draft;
+use crate::name_list::NameList;
 use crate::table_version::TableVersion;
-use qc_sql::tables::{Columns, RowOp, StoredRow};
-use qc_types::{NoMemory, TableName, Text};
+use qc_sql::tables::Ops;
+use qc_types::{NoMemory, Or, TableName};
 use std::alloc::Global;
 use std::marker::Model;
+use std::sync::Arc;
 
-/// The tables of each database, in memory.
+/// A table with more than 1,048,576 rows.
+#[derive(Debug, Drop)]
+pub struct TableFull {
+    /// Its name. Where several are too full, it is the first by the names of databases, and in one database by its own.
+    pub table: TableName,
+}
+
+/// The tables of each database, in memory. It never changes: what operations make of it is another one, which shares the tables that they don't touch.
 #[derive(Drop)]
 pub struct Database {
-    databases: NameMap<NameMap<TableVersion>>,
+    databases: Arc<NameList<NameList<TableVersion>>>,
 }
 
 impl Model for Database {
+    ghost use Rattle.std.specs.Prelude.{◌≡◌, true};
     ghost use Rattle.qc_sql.specs.Database as meant;
+    ghost use Rattle.qc_model.specs.Licence.{is_within_rows};
 
     ghost Value = { meant.Database };
 
-    ghost view = { λ d. d.databases };
+    ghost view = { λ d. d.databases.value };
+
+    ghost invariant = { λ d. is_within_rows d.databases.value ≡ true };
 }
 
 impl Database {
@@ -32,7 +47,17 @@ impl Database {
         ensures { IfOk result (λ d. d ≡ empty_database) }
     {
         Ok(Database {
-            databases: NameMap::new(alloc),
+            databases: Arc::new(alloc, NameList::new(alloc))?,
+        })
+    }
+
+    /// The same once more. Constant time. Fails where memory runs out.
+    pub fn share(&self) -> Result<Database, NoMemory>
+        ensures same { IfOk result (λ d. d ≡ self.now) }
+        ensures within { is_within_rows self.now ≡ true }
+    {
+        Ok(Database {
+            databases: Arc::try_clone(&self.databases)?,
         })
     }
 
@@ -51,58 +76,27 @@ impl Database {
         tables.get(name.name.bytes())
     }
 
-    /// Carries out one operation, in place. Fails where memory runs out, and leaves everything as it was. Costs the
-    /// logarithm of how many databases, tables and rows there are.
-    pub fn apply(&mut self, alloc: Global, op: &RowOp) -> Result<(), NoMemory>
-        requires { IsTaken op.now self.old }
-        ensures ok { OnOk result (self.new ≡ apply_one op.now self.old) }
-        ensures err { OnErr result (self.new ≡ self.old) }
+    /// The name of the table with this index in the database, by rising name, from 0. `None` where there is no such database, or no more tables.
+    /// Costs the logarithm of how many databases there are.
+    pub fn table_at(&self, db: &[u8], index: u64) -> Option<&[u8]>
+        ensures { option_copied result ≡ table_name_at db.now index self.now }
     {
-        match op {
-            RowOp::CreateDb(name) => self.create_database(alloc, name),
-            RowOp::CreateTable(name, columns) => self.create_table(alloc, name, columns),
-            RowOp::Put(table, row) => self.put(table, row),
-            RowOp::Del(_, _) | RowOp::DropTable(_) | RowOp::DropDb(_) => unreachable!(),
+        self.databases.get(db)?.name_at(index)
+    }
+
+    /// What the operations make of it, the first of them first, or the first table that has too many rows then. Either way this database stays as it is.
+    /// Fails where memory runs out, too. Costs k log k for k operations and tables, and what the tables hold that are touched.
+    pub fn apply(&self, alloc: Global, ops: &Ops) -> Result<Database, Or<TableFull>>
+        requires { ops_fit ops.now self.now ≡ true }
+        ensures { Gives (λ d. d) (λ full. full.table) result (fitting (apply ops.now self.now)) }
+    {
+        let mut draft = Draft::of(alloc, &self.databases)?;
+        for op in ops.items() {
+            draft.carry_out(alloc, op)?;
         }
-    }
-
-    fn create_database(&mut self, alloc: Global, name: &Text) -> Result<(), NoMemory>
-        requires { IsTaken (op.CreateDb name.now) self.old }
-        ensures ok { OnOk result (self.new ≡ apply_one (op.CreateDb name.now) self.old) }
-        ensures err { OnErr result (self.new ≡ self.old) }
-    {
-        let tables = NameMap::new(alloc);
-        self.databases.insert(alloc, name.bytes(), tables)
-    }
-
-    fn create_table(
-        &mut self,
-        alloc: Global,
-        name: &TableName,
-        columns: &Columns,
-    ) -> Result<(), NoMemory>
-        requires { IsTaken (op.CreateTable name.now columns.now) self.old }
-        ensures ok { OnOk result (self.new ≡ apply_one (op.CreateTable name.now columns.now) self.old) }
-        ensures err { OnErr result (self.new ≡ self.old) }
-    {
-        let version = TableVersion::new(alloc, columns)?;
-        let Some(tables) = self.databases.get_mut(name.db.bytes()) else {
-            unreachable!()
-        };
-        tables.insert(alloc, name.name.bytes(), version)
-    }
-
-    fn put(&mut self, table: &TableName, row: &StoredRow) -> Result<(), NoMemory>
-        requires { IsTaken (op.Put table.now row.now) self.old }
-        ensures ok { OnOk result (self.new ≡ apply_one (op.Put table.now row.now) self.old) }
-        ensures err { OnErr result (self.new ≡ self.old) }
-    {
-        let Some(tables) = self.databases.get_mut(table.db.bytes()) else {
-            unreachable!()
-        };
-        let Some(version) = tables.get_mut(table.name.bytes()) else {
-            unreachable!()
-        };
-        version.put(row)
+        let databases = draft.versions(alloc)?;
+        Ok(Database {
+            databases: Arc::new(alloc, databases)?,
+        })
     }
 }

@@ -1,12 +1,21 @@
-//! The database in memory: maps from names, and tables of one number column.
+//! The database in memory: versions of tables, whose rows are read through views that count.
 #![tactic(auto)]
 
+mod cells;
 mod database;
+mod draft;
+mod draft_table;
+mod ints;
+mod keys;
+mod merge;
+mod name_list;
 mod name_map;
+mod nulls;
+mod table_rows;
 mod table_version;
+mod texts;
+mod views;
 
-pub use database::Database;
+pub use database::{Database, TableFull};
 pub use table_version::TableVersion;
-
-#[cfg(test)]
-mod tests;
+pub use views::{ColumnView, RowView};

@@ -1,107 +1,133 @@
-//! A table as it is stored.
+//! Versions of tables.
 
-ghost use Rattle.std.specs.Prelude.{◌≡◌, [], ◌∷◌, map, length, is_some, IfOk, OnOk, OnErr};
+ghost use Rattle.std.specs.Prelude.{◌≡◌, ◌+◌, ◌<◌, ◌≤◌, length, None, Some, IfOk, MatchOption};
+ghost use Rattle.std.specs.List.{slice_get};
 ghost use Rattle.std.specs.Ordering.{int_cmp};
 ghost use Rattle.std.specs.BTreeMap.{is_at};
-ghost use Rattle.std.specs.Map.{lookup};
-ghost use Rattle.qc_types.specs.declared.names.Value.TheVariants as value;
-ghost use Rattle.qc_sql.specs.Database.{with_row};
-ghost use Rattle.qc_table.specs.Stored.{IsKeyColumn, IsKeyRow, key_column, key_row};
+ghost use Rattle.std.specs.Map.{keys_of, lookup};
+ghost use Rattle.qc_table.specs.Tables.{IsSound, IsStored};
+ghost use Rattle.qc_table.specs.Views.{kind_at, column_values, row_values};
 
-use qc_sql::tables::{Columns, StoredRow};
-use qc_types::{NoMemory, Text, Value};
+use crate::table_rows::TableRows;
+use crate::views::{ColumnView, RowView};
+use qc_sql::tables::Columns;
+use qc_types::{NoMemory, Steps};
 use std::alloc::Global;
-use std::collections::BTreeSet;
 use std::marker::Model;
+use std::sync::Arc;
+use std::sync::ledger::Ledger;
 
-/// A table of one BIGINT column, which is its primary key. Contracts see its columns and rows.
+/// A version of a table, which never changes and may be shared. Contracts see its columns and its rows, by rising key. Its rows are read through views,
+/// each of which counts a step.
 #[derive(Drop)]
 pub struct TableVersion {
-    column: Text,
-    numbers: BTreeSet<i64>,
+    stored: Arc<TableRows>,
 }
 
 impl Model for TableVersion {
-    ghost use Rattle.std.specs.Prelude.{[], ◌∷◌, map};
     ghost use Rattle.qc_sql.specs.Database.{Table};
-    ghost use Rattle.qc_table.specs.Stored.{key_column, key_row};
+    ghost use Rattle.qc_table.specs.Tables.{IsStored};
 
     ghost Value = { Table };
 
-    ghost view = { λ t. record { columns = key_column t.column ∷ []; rows = map key_row t.numbers.keys } };
+    ghost view = { λ t. t.stored.value };
+
+    ghost invariant = { λ t. IsStored t.stored.value };
 }
 
 impl TableVersion {
-    /// A table of that one column, with no rows.
-    pub(crate) fn new(alloc: Global, columns: &Columns) -> Result<TableVersion, NoMemory>
-        requires { IsKeyColumn columns.now }
-        ensures { IfOk result (λ t. t ≡ record { columns = columns.now; rows = [] }) }
+    /// A version of these rows.
+    pub(crate) fn new(alloc: Global, rows: TableRows) -> Result<TableVersion, NoMemory>
+        requires { IsStored rows }
+        ensures { IfOk result (λ t. t ≡ rows) }
     {
-        let column = key_name(columns).copy(alloc)?;
         Ok(TableVersion {
-            column,
-            numbers: BTreeSet::new(alloc),
+            stored: Arc::new(alloc, rows)?,
         })
     }
 
-    /// The name of its one column, which is its primary key.
-    pub fn column(&self) -> &Text
-        ensures { self.now.columns ≡ key_column result.now ∷ [] }
+    /// Its rows as they are stored.
+    pub(crate) fn rows(&self) -> &TableRows
+        ensures value { result.now ≡ self.now }
+        ensures stored { IsStored self.now }
     {
-        &self.column
+        &self.stored
     }
 
-    /// How many rows it has.
-    pub fn count(&self) -> usize
-        ensures { result ≡ length self.now.rows }
+    /// Its rows as they are stored, to be read once. Counts one step.
+    fn read<L: Ledger>(&self, steps: &mut Steps<L>) -> &TableRows
+        ensures value { result.now ≡ self.now }
+        ensures stored { IsStored self.now }
+        ensures tick { steps.new ≡ steps.old + 1 }
     {
-        self.numbers.len()
+        steps.tick();
+        self.rows()
     }
 
-    /// Whether it has a row of that key.
-    pub fn has_key(&self, key: i64) -> bool
-        ensures { result ≡ is_some (lookup (is_at (int_cmp key)) self.now.rows) }
+    /// The same version once more. Constant time. Fails where memory runs out.
+    pub fn share(&self) -> Result<TableVersion, NoMemory>
+        ensures same { IfOk result (λ t. t ≡ self.now) }
+        ensures sound { IsSound self.now }
     {
-        self.numbers.contains(&key)
+        Ok(TableVersion {
+            stored: Arc::try_clone(&self.stored)?,
+        })
     }
 
-    /// The keys of its rows, in rising order. Fails where memory runs out. Cost linear.
-    pub fn keys(&self, alloc: Global) -> Result<Vec<i64>, NoMemory>
-        ensures { IfOk result (λ keys. self.now.rows ≡ map key_row keys.items) }
+    /// How many rows it has. Constant time.
+    pub fn count(&self) -> u32
+        ensures value { result ≡ length self.now.rows }
+        ensures within { result ≤ 1048576 }
     {
-        Ok(self.numbers.iter().copied().collect(alloc)?)
+        self.stored.keys().len() as u32
     }
 
-    /// Puts the row, in the place of the one that its key may have.
-    pub(crate) fn put(&mut self, row: &StoredRow) -> Result<(), NoMemory>
-        requires { IsKeyRow row.now }
-        ensures ok { OnOk result (self.new ≡ with_row row.now self.old) }
-        ensures err { OnErr result (self.new ≡ self.old) }
+    /// Its columns, from left to right. Constant time.
+    pub fn columns(&self) -> &Columns
+        ensures value { result.now ≡ self.now.columns }
+        ensures few { length result.now ≤ 64 }
+        ensures sound { IsSound self.now }
     {
-        let key = key_value(row);
-        self.numbers.insert(key)?;
-        Ok(())
+        self.stored.columns()
     }
-}
 
-/// The name of the one column, which is the key.
-fn key_name(columns: &Columns) -> &Text
-    requires { IsKeyColumn columns.now }
-    ensures { columns.now ≡ key_column result.now ∷ [] }
-{
-    let [column] = columns.items() else {
-        unreachable!()
-    };
-    &column.name
-}
+    /// The column at this index, in all rows. Counts one step. Constant time.
+    pub fn column<L: Ledger>(&self, column: u8, steps: &mut Steps<L>) -> ColumnView<'_>
+        requires { column < length self.now.columns }
+        ensures view { result ≡ column_values self.now column }
+        ensures kind { kind_at self.now.columns column ≡ Some result.kind }
+        ensures tick { steps.new ≡ steps.old + 1 }
+    {
+        ColumnView::new(self.read(steps), column)
+    }
 
-/// The number in a row of one number.
-fn key_value(row: &StoredRow) -> i64
-    requires { IsKeyRow row.now }
-    ensures { row.now ≡ value.Int result ∷ [] }
-{
-    let [Value::Int(key)] = row.items() else {
-        unreachable!()
-    };
-    *key
+    /// The row at this index, by rising key. Counts one step. Constant time.
+    pub fn row<L: Ledger>(&self, row: u32, steps: &mut Steps<L>) -> RowView<'_>
+        requires { row < length self.now.rows }
+        ensures view { result ≡ row_values self.now row }
+        ensures full { length result.values ≡ length self.now.columns }
+        ensures tick { steps.new ≡ steps.old + 1 }
+    {
+        RowView::new(self.read(steps), row)
+    }
+
+    /// The index of the row with this primary key, where there is one. Counts one step. Costs the logarithm of how many rows there are.
+    pub fn find<L: Ledger>(&self, key: i64, steps: &mut Steps<L>) -> Option<u32>
+        ensures found { MatchOption result (lookup (is_at (int_cmp key)) self.now.rows ≡ None) (λ i. (i < length self.now.rows) × (Some key ≡ slice_get (keys_of self.now.rows) i)) }
+        ensures tick { steps.new ≡ steps.old + 1 }
+    {
+        steps.tick();
+        match self.place(key) {
+            Some(place) => Some(place as u32),
+            None => None,
+        }
+    }
+
+    /// The index of the row with this primary key.
+    fn place(&self, key: i64) -> Option<usize>
+        ensures found { MatchOption result (lookup (is_at (int_cmp key)) self.now.rows ≡ None) (λ i. (i < length self.now.rows) × (Some key ≡ slice_get (keys_of self.now.rows) i)) }
+        ensures within { length self.now.rows ≤ 1048576 }
+    {
+        self.stored.keys().binary_search(&key).ok()
+    }
 }

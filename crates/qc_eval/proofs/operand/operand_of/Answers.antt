@@ -1,6 +1,6 @@
 use Rattle.std.proofs.Common.{map, ap, ◌∙◌}
 use Rattle.qc_sql.specs.Rows.{concat_texts}
-use Rattle.qc_versions.specs.Views.{text_value}
+use Rattle.qc_table.specs.Views.{text_value}
 use Rattle.qc_resolve.specs.Folding.{fold_formula-Concat}
 use Rattle.qc_eval.specs.Chosen.{value_in}
 use Rattle.qc_eval.proofs.Joins.{text_again}

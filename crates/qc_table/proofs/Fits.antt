@@ -1,0 +1,41 @@
+-- A database that fits is within rows.
+use Rattle.std.proofs.Common.{◌≡◌, true, false, [], ◌∷◌, length, refl, arith, Some, None}
+use Rattle.std.specs.Prelude.{◌&&◌, Ok, nat_le, nat_lt}
+use Rattle.std.proofs.lemmas.Bool.Decides.{nat_tests}
+use Rattle.std.specs.List.{list_all}
+use Rattle.qc_types.specs.declared.names.TableName.{TableName}
+use Rattle.qc_sql.specs.Database.{Name, Database, Tables}
+use Rattle.qc_sql.specs.Words.{◌or_else◌, when}
+use Rattle.qc_model.specs.Licence.{is_within_rows, most_rows}
+use Rattle.qc_model.specs.Machine.{full_in, full_table}
+use Rattle.qc_table.specs.Fitting.{fitting, unless}
+
+not_more : (n m : _) → nat_lt m n ≡ false → nat_le n m ≡ true
+not_more n m h = grind (arith, nat_tests)
+
+abbrev table_name : Name → Name → TableName
+table_name db name = record { db = db; name = name }
+
+tables_within : (db : Name) (ts : Tables) → full_in db ts ≡ None → list_all (λ entry. nat_le (length entry.1.rows) most_rows) ts ≡ true
+tables_within db [] none = refl
+tables_within db (t ∷ ts) none =
+    elim (nat_lt most_rows (length t.1.rows)) as (λ b. nat_lt most_rows (length t.1.rows) ≡ b → ((when b (table_name db t.0)) or_else full_in db ts) ≡ None
+    → (nat_le (length t.1.rows) most_rows && list_all (λ entry. nat_le (length entry.1.rows) most_rows) ts) ≡ true) [
+      | true ↦ λ p q. absurd cc
+      | false ↦ λ p q. rw (not_more _ _ p) (tables_within db ts q)
+    ] refl none
+
+pub within_rows : (d : Database) → full_table d ≡ None → is_within_rows d ≡ true
+within_rows [] none = refl
+within_rows (t ∷ ts) none =
+    elim (full_in t.0 t.1) as (λ o. full_in t.0 t.1 ≡ o → (o or_else full_table ts) ≡ None → is_within_rows (t ∷ ts) ≡ true) [
+      | None ↦ λ p q. rw (tables_within t.0 t.1 p) (within_rows ts q)
+      | Some name ↦ λ p q. absurd cc
+    ] refl none
+
+pub fitted : (d x : Database) → fitting d ≡ Ok x → (full_table d ≡ None) × (x ≡ d)
+fitted d x is =
+    elim (full_table d) as (λ o. unless o d ≡ Ok x → (o ≡ None) × (x ≡ d)) [
+      | None ↦ λ p. (refl, cc)
+      | Some t ↦ λ p. absurd cc
+    ] is

@@ -1,0 +1,48 @@
+-- What holds of each stored table.
+use Rattle.std.specs.Prelude.{◌≡◌, ℤ, ◌≤◌, true, List, Option, Some, None, length}
+use Rattle.std.specs.List.{AllByRecursion}
+use Rattle.std.specs.List.Sorted.{IsStrictlySortedBy}
+use Rattle.std.specs.Map.{keys_of}
+use Rattle.std.specs.Ordering.{int_cmp}
+use Rattle.qc_types.specs.declared.names.Value.{Value}
+use Rattle.qc_sql.specs.declared.tables.Column.{Column}
+use Rattle.qc_sql.specs.Database.{MapOf, Table, key_of}
+use Rattle.qc_model.specs.Licence.{columns_fit, row_fits, most_rows}
+use Rattle.qc_table.specs.Changes.{merged}
+
+-- a row fits the columns, and stands under its key
+abbrev pub IsRow : List Column → ℤ × List Value → Type 0
+IsRow columns e = (row_fits columns e.1 ≡ true) × (e.0 ≡ key_of columns e.1)
+
+-- the columns and the rows of a table fit
+pub record IsSound (t : Table) : Type 0 where
+  pub columns : columns_fit t.columns ≡ true
+  pub rows : AllByRecursion (IsRow t.columns) t.rows
+
+-- so many rows may be stored, by rising key
+pub record IsStored (t : Table) : Type 0 where
+  pub sound : IsSound t
+  pub ordered : IsStrictlySortedBy int_cmp (keys_of t.rows)
+  pub within : length t.rows ≤ most_rows
+
+-- rows to be put or, where there is none, taken out, by key
+abbrev pub Changes : Type 0
+Changes = MapOf ℤ (Option (List Value))
+
+-- a row that is put fits the columns, and stands under its key
+abbrev pub IsChange : List Column → ℤ × Option (List Value) → Type 0
+IsChange columns c = put_fits c.1
+  where
+    put_fits : Option (List Value) → Type 0
+    put_fits None = Unit {0}
+    put_fits (Some row) = IsRow columns (c.0, row)
+
+-- a stored table, and changes that fit it
+pub record IsDraft (t : Table) (cs : Changes) : Type 0 where
+  pub base : IsStored t
+  pub changes : AllByRecursion (IsChange t.columns) cs
+  pub ordered : IsStrictlySortedBy int_cmp (keys_of cs)
+
+-- the table with the changes
+abbrev pub with_changes : Table → Changes → Table
+with_changes t changes = record { columns = t.columns; rows = merged t.rows changes }

@@ -1,0 +1,96 @@
+//! Columns as they are stored.
+
+ghost use Rattle.std.specs.Prelude.{◌≡◌, ◌-◌, ◌<◌, ◌≤◌, [], ◌∷◌, ◌++◌, length, take, drop, true, false, option_copied, OnOk};
+ghost use Rattle.qc_table.specs.Stored.{is_int, is_ints, takes, values_of, IsCells};
+ghost use Rattle.qc_table.specs.Views.{int_value, text_value, value_at, IsNulls};
+
+use crate::ints::Ints;
+use crate::texts::Texts;
+use qc_sql::tables::Kind;
+use qc_types::{NoMemory, Value};
+use std::alloc::Global;
+
+/// The values of a column, by its kind.
+#[derive(Drop)]
+pub(crate) enum Cells {
+    Ints(Ints),
+    Texts(Texts),
+}
+
+impl Cells {
+    /// A column of this kind without values.
+    pub(crate) fn new(alloc: Global, kind: Kind) -> Cells
+        ensures none { values_of result ≡ [] }
+        ensures ready { IsCells result }
+        ensures kind { is_ints result ≡ is_int kind }
+    {
+        match kind {
+            Kind::Int => Cells::Ints(Ints::new(alloc)),
+            Kind::Str(_) => Cells::Texts(Texts::new(alloc)),
+        }
+    }
+
+    /// Puts a value of the column's kind at the end. Linear in its length over many calls.
+    pub(crate) fn push(&mut self, value: &Value) -> Result<(), NoMemory>
+        requires ready { IsCells self.old }
+        requires takes { takes (is_ints self.old) value.now ≡ true }
+        ensures ready { OnOk result (IsCells self.new) }
+        ensures kind { OnOk result (is_ints self.new ≡ is_ints self.old) }
+        ensures values { OnOk result (values_of self.new ≡ values_of self.old ++ value.now ∷ []) }
+    {
+        match self {
+            Cells::Ints(ints) => ints.push(number(value)),
+            Cells::Texts(texts) => texts.push(bytes(value)),
+        }
+    }
+
+    /// Puts the values from one index up to another of a column of the same kind at the end. Linear in what they hold over many calls.
+    pub(crate) fn append(&mut self, other: &Cells, from: usize, to: usize) -> Result<(), NoMemory>
+        requires ready { IsCells self.old }
+        requires other { IsCells other.now }
+        requires kind { is_ints self.old ≡ is_ints other.now }
+        requires order { from ≤ to }
+        requires within { to ≤ length (values_of other.now) }
+        ensures ready { OnOk result (IsCells self.new) }
+        ensures kind { OnOk result (is_ints self.new ≡ is_ints self.old) }
+        ensures values { OnOk result (values_of self.new ≡ values_of self.old ++ take (to - from) (drop from (values_of other.now))) }
+    {
+        match (self, other) {
+            (Cells::Ints(ints), Cells::Ints(other)) => ints.append(other, from, to),
+            (Cells::Texts(texts), Cells::Texts(other)) => texts.append(other, from, to),
+            (Cells::Ints(_), Cells::Texts(_)) | (Cells::Texts(_), Cells::Ints(_)) => unreachable!(),
+        }
+    }
+    /// The bits that tell which values are NULL.
+    pub(crate) fn nulls(&self) -> &[u64]
+        requires { IsCells self.now }
+        ensures { IsNulls result.now (values_of self.now) }
+    {
+        match self {
+            Cells::Ints(ints) => ints.nulls.as_slice(),
+            Cells::Texts(texts) => texts.nulls.as_slice(),
+        }
+    }
+}
+
+fn number(value: &Value) -> Option<i64>
+    requires { takes true value.now ≡ true }
+    ensures { int_value result ≡ value.now }
+{
+    match value {
+        Value::Null => None,
+        Value::Int(n) => Some(*n),
+        Value::Str(_) => unreachable!(),
+    }
+}
+
+fn bytes(value: &Value) -> Option<&[u8]>
+    requires { takes false value.now ≡ true }
+    ensures { text_value (option_copied result) ≡ value.now }
+{
+    match value {
+        Value::Null => None,
+        Value::Str(text) => Some(text.bytes()),
+        Value::Int(_) => unreachable!(),
+    }
+}

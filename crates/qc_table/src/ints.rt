@@ -1,0 +1,66 @@
+//! BIGINT columns as they are stored.
+
+ghost use Rattle.std.specs.Prelude.{◌≡◌, ◌<◌, [], ◌∷◌, ◌++◌, ◌-◌, ◌≤◌, length, take, drop, OnOk};
+ghost use Rattle.qc_table.specs.Columns.{ints_of, IsInts};
+ghost use Rattle.qc_table.specs.Views.{int_value, value_at};
+
+use crate::nulls::{has_bit, push_bit};
+use qc_types::NoMemory;
+use std::alloc::Global;
+
+/// The numbers of a column, 0 for each NULL, beside the bits that tell which are NULL.
+#[derive(Drop)]
+pub(crate) struct Ints {
+    pub(crate) values: Vec<i64>,
+    pub(crate) nulls: Vec<u64>,
+}
+
+impl Ints {
+    pub(crate) fn new(alloc: Global) -> Ints
+        ensures none { ints_of result ≡ [] }
+        ensures ready { IsInts result }
+    {
+        Ints {
+            values: Vec::new(alloc),
+            nulls: Vec::new(alloc),
+        }
+    }
+
+    /// Puts a number or NULL at the end. Constant time over many calls.
+    pub(crate) fn push(&mut self, value: Option<i64>) -> Result<(), NoMemory>
+        requires { IsInts self.old }
+        ensures ready { OnOk result (IsInts self.new) }
+        ensures values { OnOk result (ints_of self.new ≡ ints_of self.old ++ int_value value ∷ []) }
+    {
+        push_bit(&mut self.nulls, self.values.len(), value.is_none())?;
+        self.values.push(value.unwrap_or(0))?;
+        Ok(())
+    }
+
+    /// The number at an index, or `None` where it is NULL.
+    pub(crate) fn get(&self, row: usize) -> Option<i64>
+        requires ready { IsInts self.now }
+        requires row { row < length self.now.values.items }
+        ensures { int_value result ≡ value_at (ints_of self.now) row }
+    {
+        if has_bit(&self.nulls, row) {
+            return None;
+        }
+        Some(self.values[row])
+    }
+
+    /// Puts the values from one index up to another of the other column at the end. Linear in what they hold over many calls.
+    pub(crate) fn append(&mut self, other: &Ints, from: usize, to: usize) -> Result<(), NoMemory>
+        requires ready { IsInts self.old }
+        requires other { IsInts other.now }
+        requires order { from ≤ to }
+        requires within { to ≤ length (ints_of other.now) }
+        ensures ready { OnOk result (IsInts self.new) }
+        ensures values { OnOk result (ints_of self.new ≡ ints_of self.old ++ take (to - from) (drop from (ints_of other.now))) }
+    {
+        for row in from..to {
+            self.push(other.get(row))?;
+        }
+        Ok(())
+    }
+}

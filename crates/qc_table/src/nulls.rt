@@ -1,0 +1,50 @@
+//! Bits that tell which values are NULL.
+
+ghost use Rattle.std.specs.Prelude.{◌≡◌, ◌+◌, ◌/◌, ◌<◌, ◌^◌, ◌==◌, ℕ, false, true, length, OnOk, if◌then◌else◌};
+ghost use Rattle.qc_table.specs.Bits.{bit_at, IsPacked};
+
+use qc_types::NoMemory;
+
+/// Puts a bit behind those that there are so far, in words of 64 whose other bits are 0. Constant time over many calls.
+pub(crate) fn push_bit(words: &mut Vec<u64>, at: usize, bit: bool) -> Result<(), NoMemory>
+    requires packed { IsPacked words.old.items at }
+    requires small { at < 2 ^ 63 }
+    ensures packed { OnOk result (IsPacked words.new.items (at + 1)) }
+    ensures bits { OnOk result ((i : ℕ) → bit_at words.new.items i ≡ (if i == at then bit else bit_at words.old.items i)) }
+{
+    make_room(words, at)?;
+    if bit {
+        set_bit(words, at);
+    }
+    Ok(())
+}
+
+/// Puts another word at the end where one is begun.
+fn make_room(words: &mut Vec<u64>, at: usize) -> Result<(), NoMemory>
+    requires { IsPacked words.old.items at }
+    ensures enough { OnOk result (length words.new.items ≡ at / 64 + 1) }
+    ensures same { OnOk result ((i : ℕ) → bit_at words.new.items i ≡ bit_at words.old.items i) }
+{
+    if at % 64 == 0 {
+        words.push(0)?;
+    }
+    Ok(())
+}
+
+/// Sets a bit that is 0, by adding it.
+fn set_bit(words: &mut [u64], at: usize)
+    requires there { at / 64 < length words.old }
+    requires clear { bit_at words.old at ≡ false }
+    ensures { (i : ℕ) → bit_at words.new i ≡ (if i == at then true else bit_at words.old i) }
+{
+    let word = words[at / 64];
+    words[at / 64] = word + (1 << (at % 64));
+}
+
+/// Whether a bit is set.
+pub(crate) fn has_bit(words: &[u64], at: usize) -> bool
+    requires { at / 64 < length words.now }
+    ensures { result ≡ bit_at words.now at }
+{
+    (words[at / 64] >> (at % 64)) % 2 == 1
+}

@@ -1,0 +1,172 @@
+//! Tables as they are stored.
+
+ghost use Rattle.std.specs.Prelude.{◌≡◌, ◌-◌, ◌<◌, ◌≤◌, [], ◌∷◌, ◌++◌, length, take, drop, map, option_copied, IfOk, IfSome, OnOk, Some, true};
+ghost use Rattle.std.specs.Map.{keys_of};
+ghost use Rattle.qc_sql.specs.declared.tables.Kind.TheVariants as kind;
+ghost use Rattle.qc_sql.specs.Database.{key_value};
+ghost use Rattle.qc_model.specs.Licence.{columns_fit};
+ghost use Rattle.qc_table.specs.Changes.{above, below};
+ghost use Rattle.qc_table.specs.Stored.{column_of, is_int, is_ints, rows_of, values_of, IsCells, IsStore};
+ghost use Rattle.qc_table.specs.Tables.{IsSound};
+ghost use Rattle.qc_table.specs.Views.{int_value, text_value, kind_at, row_at, value_at, IsNulls, IsTextAt, IsWithin};
+
+use crate::cells::Cells;
+use qc_sql::tables::Columns;
+use qc_types::NoMemory;
+use std::cmp::Ordering;
+use std::marker::Model;
+
+/// The columns of a table, and its rows: their keys, and the values of each column.
+#[derive(Drop)]
+pub(crate) struct TableRows {
+    columns: Columns,
+    keys: Vec<i64>,
+    cells: Vec<Cells>,
+}
+
+impl Model for TableRows {
+    ghost use Rattle.std.specs.Prelude.{length};
+    ghost use Rattle.qc_sql.specs.Database.{Table};
+    ghost use Rattle.qc_table.specs.Stored.{rows_of, IsStore};
+    ghost use Rattle.qc_table.specs.Tables.{IsSound};
+
+    ghost Value = { Table };
+
+    ghost view = { λ t. record { columns = t.columns; rows = rows_of (length t.columns) t.keys.items t.cells.items } };
+
+    ghost invariant = { λ t. IsStore t.columns (length t.keys.items) t.cells.items × IsSound (record { columns = t.columns; rows = rows_of (length t.columns) t.keys.items t.cells.items }) };
+}
+
+/// Where entries by rising key stand apart from a key.
+#[derive(Clone, Copy, Debug, PartialEq, Eq)]
+pub(crate) struct Cut {
+    /// The first that doesn't stand below the key.
+    pub(crate) end: usize,
+    /// The first that stands above it.
+    pub(crate) next: usize,
+}
+
+impl TableRows {
+    /// The table of these columns and keys, with the values of each column. Constant time.
+    pub(crate) fn new(columns: Columns, keys: Vec<i64>, cells: Vec<Cells>) -> TableRows
+        requires store { IsStore columns (length keys.items) cells.items }
+        requires sound { IsSound (record { columns = columns; rows = rows_of (length columns) keys.items cells.items }) }
+        ensures { result ≡ record { columns = columns; rows = rows_of (length columns) keys.items cells.items } }
+    {
+        TableRows {
+            columns,
+            keys,
+            cells,
+        }
+    }
+
+    pub(crate) fn columns(&self) -> &Columns
+        ensures value { result.now ≡ self.now.columns }
+        ensures few { length result.now ≤ 64 }
+        ensures sound { IsSound self.now }
+    {
+        &self.columns
+    }
+
+    /// The keys of the rows.
+    pub(crate) fn keys(&self) -> &[i64]
+        ensures { result.now ≡ keys_of self.now.rows }
+    {
+        &self.keys
+    }
+
+    /// The values of the column at an index.
+    fn cells(&self, column: usize) -> &Cells
+        requires { column < length self.now.columns }
+        ensures ready { IsCells result.now }
+        ensures values { values_of result.now ≡ column_of column self.now.rows }
+        ensures kind { IfSome (kind_at self.now.columns column) (λ k. is_ints result.now ≡ is_int k) }
+        ensures sound { IsSound self.now }
+    {
+        &self.cells[column]
+    }
+
+    /// Puts the values of a column in the rows from one index up to another at the end of other such values. Linear in what they hold over many calls.
+    pub(crate) fn append_to(
+        &self,
+        cells: &mut Cells,
+        column: usize,
+        from: usize,
+        to: usize,
+    ) -> Result<(), NoMemory>
+        requires column { column < length self.now.columns }
+        requires ready { IsCells cells.old }
+        requires kind { IfSome (kind_at self.now.columns column) (λ k. is_ints cells.old ≡ is_int k) }
+        requires order { from ≤ to }
+        requires within { to ≤ length self.now.rows }
+        ensures ready { OnOk result (IsCells cells.new) }
+        ensures kind { OnOk result (is_ints cells.new ≡ is_ints cells.old) }
+        ensures values { OnOk result (values_of cells.new ≡ values_of cells.old ++ take (to - from) (drop from (column_of column self.now.rows))) }
+    {
+        cells.append(self.cells(column), from, to)
+    }
+
+    /// Where the rows from an index on stand apart from a key. Linear in how many rows are passed.
+    pub(crate) fn cut(&self, from: usize, key: i64) -> Cut
+        requires { from ≤ length self.now.rows }
+        ensures order { (from ≤ result.end) × (result.end ≤ result.next) × (result.next ≤ length self.now.rows) }
+        ensures below { below key (drop from self.now.rows) ≡ take (result.end - from) (drop from self.now.rows) }
+        ensures above { above key (drop from self.now.rows) ≡ drop result.next self.now.rows }
+    {
+        let keys = self.keys();
+        for (i, found) in keys[from..].iter().enumerate() {
+            let end = from + i;
+            match found.cmp(&key) {
+                Ordering::Less => {}
+                Ordering::Equal => return Cut { end, next: end + 1 },
+                Ordering::Greater => return Cut { end, next: end },
+            }
+        }
+        let end = keys.len();
+        Cut { end, next: end }
+    }
+
+    /// The number in a BIGINT column, `None` where it is NULL.
+    pub(crate) fn int(&self, row: u32, column: u8) -> Option<i64>
+        requires row { row < length self.now.rows }
+        requires int { kind_at self.now.columns column ≡ Some kind.Int }
+        ensures { int_value result ≡ value_at (row_at self.now.rows row) column }
+    {
+        match self.cells(column as usize) {
+            Cells::Ints(ints) => ints.get(row as usize),
+            Cells::Texts(_) => unreachable!(),
+        }
+    }
+
+    /// The bytes in a VARCHAR column, `None` where it is NULL.
+    pub(crate) fn text(&self, row: u32, column: u8) -> Option<&[u8]>
+        requires row { row < length self.now.rows }
+        requires text { IsTextAt self.now.columns column }
+        ensures value { text_value (option_copied result) ≡ value_at (row_at self.now.rows row) column }
+        ensures within { IsWithin self.now.columns column (option_copied result) }
+    {
+        match self.cells(column as usize) {
+            Cells::Texts(texts) => texts.get(row as usize),
+            Cells::Ints(_) => unreachable!(),
+        }
+    }
+
+    /// The numbers in a BIGINT column, 0 for each NULL.
+    pub(crate) fn numbers(&self, column: u8) -> &[i64]
+        requires { kind_at self.now.columns column ≡ Some kind.Int }
+        ensures { result.now ≡ map key_value (column_of column self.now.rows) }
+    {
+        match self.cells(column as usize) {
+            Cells::Ints(ints) => ints.values.as_slice(),
+            Cells::Texts(_) => unreachable!(),
+        }
+    }
+
+    /// The bits that tell which values in a column are NULL.
+    pub(crate) fn nulls(&self, column: u8) -> &[u64]
+        requires { column < length self.now.columns }
+        ensures { IsNulls result.now (column_of column self.now.rows) }
+    {
+        self.cells(column as usize).nulls()
+    }
+}

@@ -1,0 +1,110 @@
+//! VARCHAR columns as they are stored.
+
+ghost use Rattle.std.specs.Prelude.{◌≡◌, ◌<◌, ◌≤◌, [], ◌∷◌, ◌++◌, ◌-◌, length, take, drop, option_copied, slice_index, OnOk};
+ghost use Rattle.qc_table.specs.Columns.{part_at, texts_of, IsTexts};
+ghost use Rattle.qc_table.specs.Views.{text_value, value_at};
+
+use crate::nulls::{has_bit, push_bit};
+use qc_types::NoMemory;
+use std::alloc::Global;
+
+/// The texts of a column in one buffer, none for each NULL, the end of each in it, and the bits that tell which are NULL.
+#[derive(Drop)]
+pub(crate) struct Texts {
+    pub(crate) bytes: Vec<u8>,
+    pub(crate) ends: Vec<usize>,
+    pub(crate) nulls: Vec<u64>,
+}
+
+/// Where a text stands in the buffer.
+#[derive(Clone, Copy)]
+struct Span {
+    from: usize,
+    to: usize,
+}
+
+impl Texts {
+    pub(crate) fn new(alloc: Global) -> Texts
+        ensures none { texts_of result ≡ [] }
+        ensures ready { IsTexts result }
+    {
+        Texts {
+            bytes: Vec::new(alloc),
+            ends: Vec::new(alloc),
+            nulls: Vec::new(alloc),
+        }
+    }
+
+    /// Puts a text or NULL at the end. Linear in its length over many calls.
+    pub(crate) fn push(&mut self, text: Option<&[u8]>) -> Result<(), NoMemory>
+        requires { IsTexts self.old }
+        ensures ready { OnOk result (IsTexts self.new) }
+        ensures values { OnOk result (texts_of self.new ≡ texts_of self.old ++ text_value (option_copied text.entry) ∷ []) }
+    {
+        push_bit(&mut self.nulls, self.ends.len(), text.is_none())?;
+        self.bytes.extend_from_slice(text.unwrap_or(&[]))?;
+        self.ends.push(self.bytes.len())?;
+        Ok(())
+    }
+
+    /// Where the text at an index begins.
+    fn start(&self, row: usize) -> usize
+        requires { row ≤ length self.now.ends.items }
+        ensures { result ≡ slice_index (0 ∷ self.now.ends.items) row }
+    {
+        if row == 0 { 0 } else { self.ends[row - 1] }
+    }
+
+    /// Where the text at an index stands.
+    fn span(&self, row: usize) -> Span
+        requires ready { IsTexts self.now }
+        requires row { row < length self.now.ends.items }
+        ensures from { result.from ≡ slice_index (0 ∷ self.now.ends.items) row }
+        ensures to { result.to ≡ slice_index self.now.ends.items row }
+        ensures order { result.from ≤ result.to }
+        ensures within { result.to ≤ length self.now.bytes.items }
+    {
+        Span {
+            from: self.start(row),
+            to: self.ends[row],
+        }
+    }
+
+    /// The bytes at an index, none where it is NULL.
+    fn part(&self, row: usize) -> &[u8]
+        requires ready { IsTexts self.now }
+        requires row { row < length self.now.ends.items }
+        ensures { result.now ≡ part_at self.now.ends.items self.now.bytes.items row }
+    {
+        let span = self.span(row);
+        &self.bytes[span.from..span.to]
+    }
+
+    /// The bytes at an index, or `None` where it is NULL.
+    pub(crate) fn get(&self, row: usize) -> Option<&[u8]>
+        requires ready { IsTexts self.now }
+        requires row { row < length self.now.ends.items }
+        ensures { text_value (option_copied result) ≡ value_at (texts_of self.now) row }
+    {
+        if has_bit(&self.nulls, row) {
+            None
+        } else {
+            Some(self.part(row))
+        }
+    }
+
+    /// Puts the values from one index up to another of the other column at the end. Linear in what they hold over many calls.
+    pub(crate) fn append(&mut self, other: &Texts, from: usize, to: usize) -> Result<(), NoMemory>
+        requires ready { IsTexts self.old }
+        requires other { IsTexts other.now }
+        requires order { from ≤ to }
+        requires within { to ≤ length (texts_of other.now) }
+        ensures ready { OnOk result (IsTexts self.new) }
+        ensures values { OnOk result (texts_of self.new ≡ texts_of self.old ++ take (to - from) (drop from (texts_of other.now))) }
+    {
+        for row in from..to {
+            self.push(other.get(row))?;
+        }
+        Ok(())
+    }
+}

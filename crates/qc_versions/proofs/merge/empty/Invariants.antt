@@ -1,6 +1,0 @@
-use Rattle.std.proofs.Common.{[]}
-use Rattle.qc_versions.specs.Stored.{AreFilled}
-use Rattle.qc_versions.proofs.merge.empty.Given as goal
-
-abbrev pub invariant-loop-column : goal.invariant-loop-column
-invariant-loop-column l = AreFilled l.fn.columns [] l.column-index l.cells.items

@@ -1,7 +1,0 @@
--- A bit is tested by shifting it to the end.
-use Rattle.std.proofs.Common.{◌%◌, ◌/◌, get_or}
-use Rattle.qc_versions.proofs.BitSteps.{shifted}
-use Rattle.qc_versions.proofs.nulls.has_bit.Goals as goal
-
-pub returns : goal.returns
-returns c = shifted (get_or c.args.words.now (c.args.at / 64) 0) (c.args.at % 64)

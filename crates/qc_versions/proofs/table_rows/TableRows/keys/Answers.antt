@@ -1,7 +1,0 @@
--- The keys of the rows.
-use Rattle.std.proofs.Common.{sym, length}
-use Rattle.qc_versions.proofs.Stores.{keys_read}
-use Rattle.qc_versions.proofs.table_rows.TableRows.keys.Goals as goal
-
-pub returns : goal.returns
-returns c = rw (c.deref.ensures.value, ← c.self.view_is) (sym (keys_read (length c.self.inside.columns) c.self.inside.keys.items c.self.inside.cells.items))
