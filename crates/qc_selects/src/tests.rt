@@ -1,0 +1,360 @@
+//! Each table of texts, asked of a database.
+
+mod database;
+mod fits;
+mod large;
+mod show;
+mod table;
+
+use database::{large, shop, small, three_rows};
+use qc_sql::session::Flags;
+use qc_table::Database;
+use qc_types::NoMemory;
+use show::{Session, columns_given, rows_given};
+use std::alloc::Global;
+use std::test::Fail;
+
+/// No transaction, and all else as at the start of a session.
+const FLAGS: Flags = Flags {
+    in_trans: false,
+    autocommit: true,
+    charset: 33,
+    ansi: false,
+    row_limit: u64::MAX,
+    protocol_form: 0,
+    row_form: 0,
+};
+
+/// A session as most are.
+const PLAIN: Session<'static> = Session {
+    db: "d",
+    flags: FLAGS,
+};
+
+/// What of a SELECT is compared.
+#[derive(Clone, Copy)]
+enum Shown {
+    /// The names of its columns, and its rows.
+    Rows,
+    /// Its columns, each of them whole.
+    Columns,
+}
+
+/// Three lines for each text that gives something else than it should.
+#[derive(Drop)]
+struct Report<'a> {
+    alloc: Global,
+    database: &'a Database,
+    session: Session<'a>,
+    shown: Shown,
+    lines: String,
+}
+
+impl<'a> Report<'a> {
+    fn new(
+        alloc: Global,
+        database: &'a Database,
+        session: Session<'a>,
+        shown: Shown,
+    ) -> Report<'a> {
+        Report {
+            alloc,
+            database,
+            session,
+            shown,
+            lines: String::new(alloc),
+        }
+    }
+
+    /// Asks a text, and puts down what it gives where that isn't what is wanted.
+    fn compare(&mut self, text: &[u8], wanted: &[u8]) -> Result<(), NoMemory> {
+        let found = match self.shown {
+            Shown::Rows => rows_given(self.alloc, self.database, self.session, text)?,
+            Shown::Columns => columns_given(self.alloc, self.database, self.session, text)?,
+        };
+        if found.as_slice() == wanted {
+            return Ok(());
+        }
+        let text = front(self.alloc, text)?;
+        let found = front(self.alloc, found.as_slice())?;
+        let wanted = front(self.alloc, wanted)?;
+        let lines = format!(in self.alloc; "{text}\n    is  {found}\n    not {wanted}\n")?;
+        self.lines.push_str(&lines)?;
+        Ok(())
+    }
+
+    /// Compares all of a table.
+    fn compare_all(&mut self, table: &str) -> Result<(), NoMemory> {
+        let mut text: &[u8] = b"";
+        for line in table.lines() {
+            match line.strip_prefix("    ") {
+                Some(wanted) => self.compare(text, wanted.as_bytes())?,
+                None => text = line.as_bytes(),
+            }
+        }
+        Ok(())
+    }
+
+    /// Compares all of a table whose lines are made of pieces.
+    fn compare_large(&mut self, table: &str) -> Result<(), NoMemory> {
+        let mut text = Vec::new(self.alloc);
+        for line in table.lines() {
+            match line.strip_prefix("    ") {
+                Some(wanted) => {
+                    let wanted = built(self.alloc, wanted)?;
+                    self.compare(text.as_slice(), wanted.as_slice())?;
+                }
+                None => text = built(self.alloc, line)?,
+            }
+        }
+        Ok(())
+    }
+}
+
+/// The front of a text, to be printed.
+fn front(alloc: Global, text: &[u8]) -> Result<String, NoMemory> {
+    let front = text.get(..400).unwrap_or(text);
+    Ok(String::from_utf8_lossy(alloc, front)?)
+}
+
+/// The text that a line of pieces means.
+fn built(alloc: Global, line: &str) -> Result<Vec<u8>, NoMemory> {
+    let mut text = Vec::new(alloc);
+    for part in line.split('~') {
+        let (count, piece) = counted(part);
+        for _ in 0..count {
+            text.extend_from_slice(piece.as_bytes())?;
+        }
+    }
+    Ok(text)
+}
+
+/// How often a piece stands there, and the piece.
+fn counted(part: &str) -> (usize, &str) {
+    let Some((count, piece)) = part.split_once('*') else {
+        return (1, part);
+    };
+    match count.parse::<usize>() {
+        Ok(count) => (count, piece),
+        Err(_) => (1, part),
+    }
+}
+
+/// What the report says of a table of texts over the small tables.
+fn differences(alloc: Global, session: Session<'_>, table: &str) -> Result<String, Fail> {
+    let database = small(alloc)?;
+    let mut report = Report::new(alloc, &database, session, Shown::Rows);
+    report.compare_all(table)?;
+    Ok(report.lines)
+}
+
+/// The same for what their columns are.
+fn column_differences(alloc: Global, session: Session<'_>, table: &str) -> Result<String, Fail> {
+    let database = small(alloc)?;
+    let mut report = Report::new(alloc, &database, session, Shown::Columns);
+    report.compare_all(table)?;
+    Ok(report.lines)
+}
+
+/// What the report says of a table of large texts.
+fn large_differences(alloc: Global, shown: Shown, table: &str) -> Result<String, Fail> {
+    let database = large(alloc)?;
+    let mut report = Report::new(alloc, &database, PLAIN, shown);
+    report.compare_large(table)?;
+    Ok(report.lines)
+}
+
+/// A session that is like most but for its flags.
+fn with_flags(flags: Flags) -> Session<'static> {
+    Session { db: "d", flags }
+}
+
+/// A session that is like most but for its current database.
+fn with_database(db: &str) -> Session<'_> {
+    Session { db, flags: FLAGS }
+}
+
+#[test]
+fn literals(rt: HostRuntime) -> Result<(), Fail> {
+    let report = differences(rt.alloc(), PLAIN, table::LITERALS)?;
+    assert!(rt; report.is_empty(), "{report}");
+    Ok(())
+}
+
+#[test]
+fn calls(rt: HostRuntime) -> Result<(), Fail> {
+    let report = differences(rt.alloc(), PLAIN, table::CALLS)?;
+    assert!(rt; report.is_empty(), "{report}");
+    Ok(())
+}
+
+#[test]
+fn sources(rt: HostRuntime) -> Result<(), Fail> {
+    let report = differences(rt.alloc(), PLAIN, table::SOURCES)?;
+    assert!(rt; report.is_empty(), "{report}");
+    Ok(())
+}
+
+#[test]
+fn comparisons(rt: HostRuntime) -> Result<(), Fail> {
+    let report = differences(rt.alloc(), PLAIN, table::COMPARISONS)?;
+    assert!(rt; report.is_empty(), "{report}");
+    Ok(())
+}
+
+#[test]
+fn ranges(rt: HostRuntime) -> Result<(), Fail> {
+    let report = differences(rt.alloc(), PLAIN, table::RANGES)?;
+    assert!(rt; report.is_empty(), "{report}");
+    Ok(())
+}
+
+#[test]
+fn truth(rt: HostRuntime) -> Result<(), Fail> {
+    let report = differences(rt.alloc(), PLAIN, table::TRUTH)?;
+    assert!(rt; report.is_empty(), "{report}");
+    Ok(())
+}
+
+#[test]
+fn aggregates(rt: HostRuntime) -> Result<(), Fail> {
+    let report = differences(rt.alloc(), PLAIN, table::AGGREGATES)?;
+    assert!(rt; report.is_empty(), "{report}");
+    Ok(())
+}
+
+#[test]
+fn orders(rt: HostRuntime) -> Result<(), Fail> {
+    let report = differences(rt.alloc(), PLAIN, table::ORDERS)?;
+    assert!(rt; report.is_empty(), "{report}");
+    Ok(())
+}
+
+#[test]
+fn limits(rt: HostRuntime) -> Result<(), Fail> {
+    let report = differences(rt.alloc(), PLAIN, table::LIMITS)?;
+    assert!(rt; report.is_empty(), "{report}");
+    Ok(())
+}
+
+#[test]
+fn refusals(rt: HostRuntime) -> Result<(), Fail> {
+    let report = differences(rt.alloc(), PLAIN, table::REFUSALS)?;
+    assert!(rt; report.is_empty(), "{report}");
+    Ok(())
+}
+
+#[test]
+fn in_a_transaction(rt: HostRuntime) -> Result<(), Fail> {
+    let session = with_flags(Flags {
+        in_trans: true,
+        ..FLAGS
+    });
+    let report = differences(rt.alloc(), session, table::IN_TRANSACTION)?;
+    assert!(rt; report.is_empty(), "{report}");
+    Ok(())
+}
+
+#[test]
+fn without_a_database(rt: HostRuntime) -> Result<(), Fail> {
+    let report = differences(rt.alloc(), with_database(""), table::NO_DATABASE)?;
+    assert!(rt; report.is_empty(), "{report}");
+    Ok(())
+}
+
+#[test]
+fn with_a_lost_database(rt: HostRuntime) -> Result<(), Fail> {
+    let report = differences(rt.alloc(), with_database("gone"), table::LOST_DATABASE)?;
+    assert!(rt; report.is_empty(), "{report}");
+    Ok(())
+}
+
+#[test]
+fn with_a_row_limit(rt: HostRuntime) -> Result<(), Fail> {
+    let alloc = rt.alloc();
+    for (row_limit, table) in [(2, table::ROW_LIMIT_2), (0, table::ROW_LIMIT_0)] {
+        let session = with_flags(Flags { row_limit, ..FLAGS });
+        let report = differences(alloc, session, table)?;
+        assert!(rt; report.is_empty(), "{report}");
+    }
+    Ok(())
+}
+
+#[test]
+fn names_in_double_quotes(rt: HostRuntime) -> Result<(), Fail> {
+    let session = with_flags(Flags {
+        ansi: true,
+        ..FLAGS
+    });
+    let report = differences(rt.alloc(), session, table::DOUBLE_QUOTED)?;
+    assert!(rt; report.is_empty(), "{report}");
+    Ok(())
+}
+
+#[test]
+fn columns(rt: HostRuntime) -> Result<(), Fail> {
+    let report = column_differences(rt.alloc(), PLAIN, table::COLUMNS)?;
+    assert!(rt; report.is_empty(), "{report}");
+    Ok(())
+}
+
+#[test]
+fn columns_of_another_character_set(rt: HostRuntime) -> Result<(), Fail> {
+    let session = with_flags(Flags {
+        charset: 45,
+        ..FLAGS
+    });
+    let report = column_differences(rt.alloc(), session, table::COLUMNS_45)?;
+    assert!(rt; report.is_empty(), "{report}");
+    Ok(())
+}
+
+#[test]
+fn a_table_of_three_rows(rt: HostRuntime) -> Result<(), Fail> {
+    let alloc = rt.alloc();
+    let database = three_rows(alloc)?;
+    let mut report = Report::new(alloc, &database, PLAIN, Shown::Rows);
+    report.compare_all(table::THREE_ROWS)?;
+    let lines = report.lines;
+    assert!(rt; lines.is_empty(), "{lines}");
+    Ok(())
+}
+
+#[test]
+fn the_tables_of_a_shop(rt: HostRuntime) -> Result<(), Fail> {
+    let alloc = rt.alloc();
+    let database = shop(alloc)?;
+    let mut report = Report::new(alloc, &database, PLAIN, Shown::Rows);
+    report.compare_all(table::SHOP)?;
+    let lines = report.lines;
+    assert!(rt; lines.is_empty(), "{lines}");
+    Ok(())
+}
+
+#[test]
+fn few_combinations_are_walked(rt: HostRuntime) -> Result<(), Fail> {
+    let report = large_differences(rt.alloc(), Shown::Rows, large::FEW_WALKED)?;
+    assert!(rt; report.is_empty(), "{report}");
+    Ok(())
+}
+
+#[test]
+fn many_combinations(rt: HostRuntime) -> Result<(), Fail> {
+    let report = large_differences(rt.alloc(), Shown::Columns, large::COMBINATIONS)?;
+    assert!(rt; report.is_empty(), "{report}");
+    Ok(())
+}
+
+#[test]
+fn many_columns(rt: HostRuntime) -> Result<(), Fail> {
+    let report = large_differences(rt.alloc(), Shown::Rows, large::COLUMNS)?;
+    assert!(rt; report.is_empty(), "{report}");
+    Ok(())
+}
+
+#[test]
+fn long_texts(rt: HostRuntime) -> Result<(), Fail> {
+    let report = large_differences(rt.alloc(), Shown::Rows, large::TEXTS)?;
+    assert!(rt; report.is_empty(), "{report}");
+    Ok(())
+}
