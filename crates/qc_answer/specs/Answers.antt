@@ -6,7 +6,7 @@ use Rattle.qc_types.specs.declared.sql_error.SqlError.{SqlError}
 use Rattle.qc_sql.specs.declared.replies.ColumnDef.{ColumnDef}
 use Rattle.qc_sql.specs.declared.session.Flags.{Flags}
 use Rattle.qc_sql.specs.Packets.{packets, numbered, count_payload, column_payload, row_payload, eof_payload, most_payload}
-use Rattle.qc_sql.specs.Rows.{Rows, rows, text_of}
+use Rattle.qc_sql.specs.Rows.{Rows, text_of}
 use Rattle.qc_model.specs.Session.{select_reply}
 use Rattle.qc_eval.specs.Plans.{PlanView}
 use Rattle.qc_answer.specs.declared.answer.Answer.{Answer}
@@ -65,10 +65,3 @@ pub record IsReady (p : PlanView) : Type 0 where
   pub columns : FitColumns p.columns
   pub loaded : IsSome p.left
   pub rows : AreRowsOf (length p.columns) (rest_of p)
-
--- So far this is written, from a text and a number on, and these rows are left to be written behind it, of all.
-pub record Puts (columns status : ℕ) (old : List ℕ) (first : ℕ) (all : List (List Value)) (now : List ℕ) (n : ℕ) (p : PlanView) : Type 0 where
-  pub loaded : IsSome p.left
-  pub width : length p.columns ≡ columns
-  pub rows : AreRowsOf columns (rest_of p)
-  pub bytes : old ++ concat (numbered first (tail_payloads all status)) ≡ now ++ concat (numbered n (tail_payloads (rest_of p) status))

@@ -5,7 +5,7 @@ use Rattle.std.specs.List.{list_all, AllByRecursion, filter, flat_map}
 use Rattle.std.specs.Ordering.{is_gt}
 use Rattle.std.specs.declared.cmp.Ordering.{Ordering}
 use Rattle.std.proofs.lemmas.Bool.{and_parts, and_from}
-use Rattle.qc_sql.specs.Rows.{insert_after_ties, sorted}
+use Rattle.qc_sql.specs.Rows.{insert_before_ties, sorted}
 
 pub each_from_test : {A : Type 0} (t : A → Bool) (xs : List A) → list_all t xs ≡ true → AllByRecursion (λ x. t x ≡ true) xs
 each_from_test t [] h = tt
@@ -64,9 +64,9 @@ module _ {A : Type 0} (P : A → Type 0) where
   each_either true xs ys h g = h
   each_either false xs ys h g = g
 
-  each_inserted : (cmp : A → A → Ordering) (x : A) (xs : List A) → P x → AllByRecursion P xs → AllByRecursion P (insert_after_ties cmp x xs)
+  each_inserted : (cmp : A → A → Ordering) (x : A) (xs : List A) → P x → AllByRecursion P xs → AllByRecursion P (insert_before_ties cmp x xs)
   each_inserted cmp x [] h g = (h, tt)
-  each_inserted cmp x (y ∷ ys) h g = each_either (is_gt (cmp x y)) (y ∷ insert_after_ties cmp x ys) (x ∷ y ∷ ys) (g.0, each_inserted cmp x ys h g.1) (h, g)
+  each_inserted cmp x (y ∷ ys) h g = each_either (is_gt (cmp x y)) (y ∷ insert_before_ties cmp x ys) (x ∷ y ∷ ys) (g.0, each_inserted cmp x ys h g.1) (h, g)
 
   pub each_sorted : (cmp : A → A → Ordering) (xs : List A) → AllByRecursion P xs → AllByRecursion P (sorted cmp xs)
   each_sorted cmp [] h = tt

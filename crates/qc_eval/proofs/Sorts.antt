@@ -7,7 +7,7 @@ use Rattle.std.specs.Ordering.{is_lt, is_gt, ordering_reverse}
 use Rattle.std.specs.declared.cmp.Ordering.{Ordering}
 use Rattle.std.specs.declared.cmp.Ordering.TheVariants.{Less, Equal, Greater}
 use Rattle.std.proofs.lemmas.List.Sorted.{ranks_by}
-use Rattle.qc_sql.specs.Rows.{insert_after_ties, sorted}
+use Rattle.qc_sql.specs.Rows.{insert_before_ties, sorted}
 
 module _ {X : Type 0} (lt : X → X → Bool) (o : IsStrictWeakOrder lt) where
   -- none of a list is below an element
@@ -111,11 +111,11 @@ module _ {X : Type 0} (cmp : X → X → Ordering) (o : IsTotalOrder cmp) where
   above_is_below : (x y : X) → is_gt (cmp x y) ≡ below y x
   above_is_below x y = ap is_gt (o.antisymm x y) ∙ turned (cmp y x)
 
-  none_below_inserted : (x y : X) (ys : List X) → below y x ≡ false → NoneBelow below orders x ys → NoneBelow below orders x (insert_after_ties cmp y ys)
+  none_below_inserted : (x y : X) (ys : List X) → below y x ≡ false → NoneBelow below orders x ys → NoneBelow below orders x (insert_before_ties cmp y ys)
   none_below_inserted x y [] p h = (p, tt)
-  none_below_inserted x y (z ∷ zs) p h = elim (is_gt (cmp y z)) as (λ b. NoneBelow below orders x (if b then z ∷ insert_after_ties cmp y zs else y ∷ z ∷ zs)) [ true ↦ (h.0, none_below_inserted x y zs p h.1) | false ↦ (p, h) ]
+  none_below_inserted x y (z ∷ zs) p h = elim (is_gt (cmp y z)) as (λ b. NoneBelow below orders x (if b then z ∷ insert_before_ties cmp y zs else y ∷ z ∷ zs)) [ true ↦ (h.0, none_below_inserted x y zs p h.1) | false ↦ (p, h) ]
 
-  inserted_rises : (x : X) (ys : List X) → Rises below orders ys → Rises below orders (insert_after_ties cmp x ys)
+  inserted_rises : (x : X) (ys : List X) → Rises below orders ys → Rises below orders (insert_before_ties cmp x ys)
   inserted_rises x [] h = (tt, tt)
   inserted_rises x (y ∷ ys) h =
       decided below orders (is_gt (cmp x y))
@@ -145,7 +145,7 @@ module _ {X : Type 0} (cmp : X → X → Ordering) (o : IsTotalOrder cmp) where
       second_level false true e = cc
       second_level true true e = cc
 
-  inserted_ties : (t x : X) (ys : List X) → filter (ties below t) (insert_after_ties cmp x ys) ≡ filter (ties below t) (x ∷ ys)
+  inserted_ties : (t x : X) (ys : List X) → filter (ties below t) (insert_before_ties cmp x ys) ≡ filter (ties below t) (x ∷ ys)
   inserted_ties t x [] = refl
   inserted_ties t x (y ∷ ys) =
       decided below orders (is_gt (cmp x y))
@@ -164,14 +164,14 @@ module _ {X : Type 0} (cmp : X → X → Ordering) (o : IsTotalOrder cmp) where
   stable_sort_is xs ys up stable = one_rise below orders ys (sorted cmp xs) (rises_from_sorted below orders ys up) (sorted_rises xs) (λ t. stable t ∙ sym (sorted_ties xs t))
 
 -- Sorting by what a function makes of each is sorting what it makes.
-pub insert-map : {X Y : Type 0} (f : X → Y) (cmp : Y → Y → Ordering) (x : X) (xs : List X) → map f (insert_after_ties (λ a b. cmp (f a) (f b)) x xs) ≡ insert_after_ties cmp (f x) (map f xs)
+pub insert-map : {X Y : Type 0} (f : X → Y) (cmp : Y → Y → Ordering) (x : X) (xs : List X) → map f (insert_before_ties (λ a b. cmp (f a) (f b)) x xs) ≡ insert_before_ties cmp (f x) (map f xs)
 insert-map f cmp x [] = refl
 insert-map f cmp x (y ∷ ys) =
-    elim (is_gt (cmp (f x) (f y))) as (λ b. map f (if b then y ∷ insert_after_ties (λ a c. cmp (f a) (f c)) x ys else x ∷ y ∷ ys) ≡ (if b then f y ∷ insert_after_ties cmp (f x) (map f ys) else f x ∷ f y ∷ map f ys)) [
+    elim (is_gt (cmp (f x) (f y))) as (λ b. map f (if b then y ∷ insert_before_ties (λ a c. cmp (f a) (f c)) x ys else x ∷ y ∷ ys) ≡ (if b then f y ∷ insert_before_ties cmp (f x) (map f ys) else f x ∷ f y ∷ map f ys)) [
       | true ↦ ap (λ zs. f y ∷ zs) (insert-map f cmp x ys)
       | false ↦ refl
     ]
 
 pub sorted-map : {X Y : Type 0} (f : X → Y) (cmp : Y → Y → Ordering) (xs : List X) → map f (sorted (λ a b. cmp (f a) (f b)) xs) ≡ sorted cmp (map f xs)
 sorted-map f cmp [] = refl
-sorted-map f cmp (x ∷ xs) = insert-map f cmp x (sorted (λ a b. cmp (f a) (f b)) xs) ∙ ap (insert_after_ties cmp (f x)) (sorted-map f cmp xs)
+sorted-map f cmp (x ∷ xs) = insert-map f cmp x (sorted (λ a b. cmp (f a) (f b)) xs) ∙ ap (insert_before_ties cmp (f x)) (sorted-map f cmp xs)

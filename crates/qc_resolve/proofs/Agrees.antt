@@ -18,7 +18,7 @@ use Rattle.qc_sql.specs.declared.statements.Select.{Select}
 use Rattle.qc_sql.specs.Database.{Name, Database, Table}
 use Rattle.qc_sql.specs.Errors.{not_supported, name_not_unique, too_many_combinations, too_many_columns}
 use Rattle.qc_sql.specs.Rows as meant
-use Rattle.qc_sql.specs.Rows.{Rows, Bound, Scope, Combination, Found, bind, combinations, combination_count, condition, cut, each, find_column, first_repeated, groups, has_aggregate, one_each, order_cmp, ordering, refuse_if, refuse_some, rows, rows_over, shown_items, sorted, insert_after_ties, ◌>>=◌}
+use Rattle.qc_sql.specs.Rows.{Rows, Bound, Scope, Combination, Found, bind, combinations, combination_count, condition, cut, each, find_column, first_repeated, groups, has_aggregate, one_each, order_cmp, ordering, refuse_if, refuse_some, rows, rows_over, shown_items, sorted, insert_before_ties, ◌>>=◌}
 use Rattle.qc_resolve.specs.declared.formula.Formula.{Formula}
 use Rattle.qc_resolve.specs.declared.items.Shown.{Shown}
 use Rattle.qc_resolve.specs.declared.resolved.Fold.{Fold}
@@ -51,9 +51,9 @@ combinations_same (b ∷ bs) = ap (λ cs. flat_map (λ entry. map (λ c. entry.1
 
 sorted_by_none : (cs : List Combination) → sorted (order_cmp []) cs ≡ cs
 sorted_by_none [] = refl
-sorted_by_none (c ∷ cs) = ap (insert_after_ties (order_cmp []) c) (sorted_by_none cs) ∙ first cs
+sorted_by_none (c ∷ cs) = ap (insert_before_ties (order_cmp []) c) (sorted_by_none cs) ∙ first cs
   where
-    first : (cs : List Combination) → insert_after_ties (order_cmp []) c cs ≡ c ∷ cs
+    first : (cs : List Combination) → insert_before_ties (order_cmp []) c cs ≡ c ∷ cs
     first [] = refl
     first (d ∷ ds) = refl
 

@@ -9,7 +9,7 @@ use Rattle.qc_types.specs.declared.names.Value.TheVariants as value
 use Rattle.qc_sql.specs.declared.tables.Column.{Column}
 use Rattle.qc_model.specs.Licence.{kind_fits, row_fits, value_fits, is_null}
 use Rattle.qc_sql.specs.Database.{MapOf}
-use Rattle.qc_sql.specs.Rows.{Bound, Combination, combinations, insert_after_ties, sorted}
+use Rattle.qc_sql.specs.Rows.{Bound, Combination, combinations, insert_before_ties, sorted}
 use Rattle.qc_table.specs.Tables.{IsSound, IsRow}
 use Rattle.qc_resolve.specs.Columns.{Spot, spots_from, all_spots}
 use Rattle.qc_resolve.specs.Fit.{IsSoundBound, FitsAt, IsFit, AreFit}
@@ -40,9 +40,9 @@ all_insert_at : {A : Type 0} (P : A → Type 0) (x y : A) (ys zs : List A) (b : 
 all_insert_at P x y ys zs true h j k l = (j, l)
 all_insert_at P x y ys zs false h j k l = (h, (j, k))
 
-all_insert : {A : Type 0} (P : A → Type 0) (cmp : A → A → Ordering) (x : A) (ys : List A) → P x → AllByRecursion P ys → AllByRecursion P (insert_after_ties cmp x ys)
+all_insert : {A : Type 0} (P : A → Type 0) (cmp : A → A → Ordering) (x : A) (ys : List A) → P x → AllByRecursion P ys → AllByRecursion P (insert_before_ties cmp x ys)
 all_insert P cmp x [] h k = (h, tt)
-all_insert P cmp x (y ∷ ys) h k = all_insert_at P x y ys (insert_after_ties cmp x ys) (is_gt (cmp x y)) h k.0 k.1 (all_insert P cmp x ys h k.1)
+all_insert P cmp x (y ∷ ys) h k = all_insert_at P x y ys (insert_before_ties cmp x ys) (is_gt (cmp x y)) h k.0 k.1 (all_insert P cmp x ys h k.1)
 
 pub all_sorted : {A : Type 0} (P : A → Type 0) (cmp : A → A → Ordering) (xs : List A) → AllByRecursion P xs → AllByRecursion P (sorted cmp xs)
 all_sorted P cmp [] h = tt
