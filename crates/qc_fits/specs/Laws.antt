@@ -1,0 +1,77 @@
+-- Laws on operations that fit, which functions of this crate promise.
+use Rattle.std.specs.Prelude.{◌≡◌, ℕ, ◌<◌, ◌++◌, ℤ, Bool, true, false, List, length, Option, Some, None, Ok}
+use Rattle.std.specs.List.{list_all, list_any}
+use Rattle.qc_types.specs.declared.names.TableName.{TableName}
+use Rattle.qc_types.specs.declared.options.Options.{Options}
+use Rattle.qc_sql.specs.declared.tables.RowOp.{RowOp}
+use Rattle.qc_sql.specs.declared.statements.Statement.{Statement}
+use Rattle.qc_sql.specs.Database.{Name, Database, apply, empty_database, same_table, touches}
+use Rattle.qc_sql.specs.Effects.{Effect, effect}
+use Rattle.qc_model.specs.Journal.{Journal, present}
+use Rattle.qc_model.specs.Session.{Transaction, at_snapshot}
+use Rattle.qc_model.specs.Conflicts.{changes_form, is_row, all_written, conflict_of}
+use Rattle.qc_model.specs.Licence.{ops_fit, is_within_rows, IsLawful}
+use Rattle.qc_fits.specs.Sound.{IsSoundDatabase, commits_fit, IsNoChangeAt, is_row_op, rows_changed_by, changes_tables, columns_of, row_of}
+
+-- ---- operations that fit
+
+-- A sound database is sound after operations that fit.
+abbrev pub SoundStays : Type 0
+SoundStays = (ops : List RowOp) (d : Database) → IsSoundDatabase d → ops_fit ops d ≡ true → IsSoundDatabase (apply ops d)
+
+-- What a statement does to a sound database fits.
+abbrev pub ChangesFit : Type 0
+ChangesFit = (s : Statement) (d : Database) (db : Name) (session : ℕ) (x : Effect) → IsSoundDatabase d → effect s d db session ≡ Ok x → ops_fit x.operations d ≡ true
+
+-- No table has more rows than it may have after a statement.
+abbrev pub ChangesStayWithin : Type 0
+ChangesStayWithin = (s : Statement) (d : Database) (db : Name) (session : ℕ) (x : Effect)
+    → IsSoundDatabase d → is_within_rows d ≡ true → effect s d db session ≡ Ok x → is_within_rows (apply x.operations d) ≡ true
+
+-- ---- the kinds of operations
+
+-- INSERT, UPDATE and DELETE put and delete rows,
+abbrev pub ChangesAreRows : Type 0
+ChangesAreRows = (s : Statement) (d : Database) (db : Name) (session : ℕ) (t : TableName) (x : Effect) → rows_changed_by db s ≡ Some t → effect s d db session ≡ Ok x → list_all is_row_op x.operations ≡ true
+
+-- and touch no other table.
+abbrev pub ChangesAreOfTable : Type 0
+ChangesAreOfTable = (s : Statement) (d : Database) (db : Name) (session : ℕ) (t u : TableName) (x : Effect)
+    → rows_changed_by db s ≡ Some t → same_table u t ≡ false → effect s d db session ≡ Ok x → list_any (touches u) x.operations ≡ false
+
+-- CREATE, DROP and TRUNCATE have an operation at least.
+abbrev pub FormsChange : Type 0
+FormsChange = (s : Statement) (d : Database) (db : Name) (session : ℕ) (x : Effect) → changes_tables s ≡ true → effect s d db session ≡ Ok x → 0 < length x.operations
+
+-- ---- journals
+
+-- The commits of a lawful journal fit.
+abbrev pub LawfulCommitsFit : Type 0
+LawfulCommitsFit = (options : Options) (journal : Journal) → IsLawful options journal → commits_fit empty_database journal ≡ true
+
+-- A lawful journal makes no table with more rows than it may have.
+abbrev pub LawfulStaysWithin : Type 0
+LawfulStaysWithin = (options : Options) (journal : Journal) → IsLawful options journal → is_within_rows (present journal) ≡ true
+
+-- Where the commits fit, the database is sound at the end of the journal, and at each snapshot.
+abbrev pub JournalsAreSound : Type 0
+JournalsAreSound = (snapshot : Option ℕ) (journal : Journal) → commits_fit empty_database journal ≡ true → IsSoundDatabase (at_snapshot snapshot journal)
+
+-- ---- a transaction at its commit
+
+-- A table whose form and whole database no operation changes keeps its columns,
+abbrev pub FormsStay : Type 0
+FormsStay = (t : TableName) (ops : List RowOp) (d : Database) → list_any (changes_form t) (all_written ops d) ≡ false → columns_of t (apply ops d) ≡ columns_of t d
+
+-- and each row that no operation writes.
+abbrev pub RowsStay : Type 0
+RowsStay = (t : TableName) (key : ℤ) (ops : List RowOp) (d : Database)
+    → list_any (changes_form t) (all_written ops d) ≡ false → list_any (is_row t key) (all_written ops d) ≡ false → row_of t key (apply ops d) ≡ row_of t key d
+
+-- Row operations that fit at a snapshot fit at the end of the journal, where no commit since then conflicts. The event at the place of the
+-- snapshot is the transaction's own, and no commit.
+abbrev pub KeptSnapshotsFit : Type 0
+KeptSnapshotsFit = (t : Transaction) (place : ℕ) (journal : Journal)
+    → commits_fit empty_database journal ≡ true → t.snapshot ≡ Some place → IsNoChangeAt place journal
+    → list_all is_row_op t.operations ≡ true → ops_fit t.operations (at_snapshot t.snapshot journal) ≡ true → conflict_of t journal ≡ None
+    → ops_fit t.operations (present journal) ≡ true
