@@ -1,2 +1,11 @@
 pub mod Maps
 pub mod Stays
+mod Given
+mod Columns
+mod Tables
+mod Inserts
+mod Updates
+mod Creates
+mod Within
+mod Changes
+mod RowChanges

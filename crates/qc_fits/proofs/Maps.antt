@@ -1,6 +1,6 @@
 -- Maps by key: what an entry that is put, changed or removed leaves at each key.
 use Rattle.std.proofs.Common.{◌≡◌, ℤ, ◌+◌, ◌≤◌, Bool, true, false, cond, List, [], ◌∷◌, length, refl, sym, ap, ◌∙◌, subst, arith, Option, Some, None, suc, true≢false}
-use Rattle.std.specs.Prelude.{is_some}
+use Rattle.std.specs.Prelude.{is_some, filter}
 use Rattle.std.specs.List.{AllByRecursion}
 use Rattle.std.specs.List.Sorted.{IsStrictlySortedBy}
 use Rattle.std.specs.Cmp.{IsTotalOrder}
@@ -117,6 +117,9 @@ pub rises_none : IsStrictlySortedBy int_cmp []
 unfolding IsStrictlySortedBy
 rises_none = tt
 
+pub key_at_itself : (k : ℤ) → is_at (int_cmp k) k ≡ true
+key_at_itself k = ap is_eq (tied_itself int_cmp_total k)
+
 greater_back : (a b : ℤ) → int_cmp a b ≡ Greater → int_cmp b a ≡ Less
 greater_back a b p = int_cmp_total.antisymm b a ∙ ap ordering_reverse p
 
@@ -172,6 +175,22 @@ module _ {X : Type 0} where
       elim (test e.0) as (λ b. Rises (cond b m (e ∷ remove_entry test m))) [
         | true ↦ rises_tail e m s
         | false ↦ rises_cons e (remove_entry test m) (keys_removed (λ y. int_cmp e.0 y ≡ Less) test m (above_head e m s)) (rises_removed test m (rises_tail e m s))
+      ]
+
+  keys_filtered : (P : ℤ → Type 0) (test : ℤ × X → Bool) (m : MapOf ℤ X) → AllByRecursion P (keys_of m) → AllByRecursion P (keys_of (filter test m))
+  keys_filtered P test [] a = tt
+  keys_filtered P test (e ∷ m) a =
+      elim (test e) as (λ b. AllByRecursion P (keys_of (cond b (e ∷ filter test m) (filter test m)))) [
+        | true ↦ (a.0, keys_filtered P test m a.1)
+        | false ↦ keys_filtered P test m a.1
+      ]
+
+  pub rises_filtered : (test : ℤ × X → Bool) (m : MapOf ℤ X) → Rises m → Rises (filter test m)
+  rises_filtered test [] s = s
+  rises_filtered test (e ∷ m) s =
+      elim (test e) as (λ b. Rises (cond b (e ∷ filter test m) (filter test m))) [
+        | true ↦ rises_cons e (filter test m) (keys_filtered (λ y. int_cmp e.0 y ≡ Less) test m (above_head e m s)) (rises_filtered test m (rises_tail e m s))
+        | false ↦ rises_filtered test m (rises_tail e m s)
       ]
 
   -- the row that is removed is gone

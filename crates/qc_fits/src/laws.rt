@@ -2,10 +2,25 @@
 
 ghost use Rattle.qc_sql.specs.Database.{empty_database};
 ghost use Rattle.qc_fits.specs.Sound.{IsSoundDatabase};
-ghost use Rattle.qc_fits.specs.Laws.{ChangesFit, SoundStays};
+ghost use Rattle.qc_fits.specs.Laws.{ChangesAreOfTable, ChangesAreRows, ChangesFit, ChangesStayWithin, FormsChange, SoundStays};
 
 /// A law, with no code: a sound database is sound after operations that fit. The empty database is.
 pub fn sound_stays()
     ensures stays { SoundStays }
     ensures empty { IsSoundDatabase empty_database }
+{}
+
+/// A law, with no code: what a statement does to a sound database fits it, operation by operation, and leaves no table with more rows than it may
+/// have.
+pub fn changes_fit()
+    ensures fit { ChangesFit }
+    ensures within { ChangesStayWithin }
+{}
+
+/// A law, with no code: INSERT, UPDATE and DELETE put and delete rows of their table alone, and a statement that creates, drops or truncates
+/// changes something.
+pub fn changes_by_kind()
+    ensures rows { ChangesAreRows }
+    ensures table { ChangesAreOfTable }
+    ensures forms { FormsChange }
 {}
