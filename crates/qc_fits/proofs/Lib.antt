@@ -9,3 +9,6 @@ mod Creates
 mod Within
 mod Changes
 mod RowChanges
+mod Written
+mod Journals
+mod Kept

@@ -123,6 +123,12 @@ key_at_itself k = ap is_eq (tied_itself int_cmp_total k)
 greater_back : (a b : ℤ) → int_cmp a b ≡ Greater → int_cmp b a ≡ Less
 greater_back a b p = int_cmp_total.antisymm b a ∙ ap ordering_reverse p
 
+pub keys_back : (k j : ℤ) → is_at (int_cmp k) j ≡ false → is_at (int_cmp j) k ≡ false
+keys_back k j h = other_way int_cmp_total exact_signed j k h
+
+pub key_is : (k j : ℤ) → is_at (int_cmp k) j ≡ true → k ≡ j
+key_is k j h = is_key int_cmp_total exact_signed k j h
+
 module _ {X : Type 0} where
   rises_cons : (e : ℤ × X) (es : MapOf ℤ X) → Above e.0 es → Rises es → Rises (e ∷ es)
   unfolding IsStrictlySortedBy

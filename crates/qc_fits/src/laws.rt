@@ -2,7 +2,7 @@
 
 ghost use Rattle.qc_sql.specs.Database.{empty_database};
 ghost use Rattle.qc_fits.specs.Sound.{IsSoundDatabase};
-ghost use Rattle.qc_fits.specs.Laws.{ChangesAreOfTable, ChangesAreRows, ChangesFit, ChangesStayWithin, FormsChange, SoundStays};
+ghost use Rattle.qc_fits.specs.Laws.{ChangesAreOfTable, ChangesAreRows, ChangesFit, ChangesStayWithin, FormsChange, FormsStay, JournalsAreSound, KeptSnapshotsFit, LawfulCommitsFit, LawfulStaysWithin, RowsStay, SoundStays};
 
 /// A law, with no code: a sound database is sound after operations that fit. The empty database is.
 pub fn sound_stays()
@@ -23,4 +23,24 @@ pub fn changes_by_kind()
     ensures rows { ChangesAreRows }
     ensures table { ChangesAreOfTable }
     ensures forms { FormsChange }
+{}
+
+/// A law, with no code: the commits of a lawful journal fit and make no table with more rows than it may have. Where the commits fit, the database
+/// is sound, at the end of the journal and at each snapshot.
+pub fn journals_are_sound()
+    ensures fit { LawfulCommitsFit }
+    ensures within { LawfulStaysWithin }
+    ensures sound { JournalsAreSound }
+{}
+
+/// A law, with no code: operations keep the columns of each table whose form they don't change, and each row that they don't write there.
+pub fn unwritten_rows_stay()
+    ensures columns { FormsStay }
+    ensures rows { RowsStay }
+{}
+
+/// A law, with no code: the row operations of a transaction that fit at its snapshot fit at the end of the journal, where no commit since then
+/// conflicts.
+pub fn kept_snapshots_fit()
+    ensures fit { KeptSnapshotsFit }
 {}
