@@ -1,21 +1,21 @@
 -- What a statement does to a sound database fits, and leaves no table with more rows than it may have.
-use Rattle.std.proofs.Common.{◌≡◌, ℕ, ℤ, true, false, List, [], ◌∷◌, refl, sym, ap, ◌∙◌, subst, Some, Ok}
+use Rattle.std.proofs.Common.{◌≡◌, ℕ, ℤ, true, false, List, [], ◌∷◌, refl, sym, subst, Ok}
 use Rattle.std.specs.List.{AllByRecursion}
 use Rattle.qc_types.specs.declared.names.TableName.{TableName}
 use Rattle.qc_types.specs.declared.names.Value.{Value}
 use Rattle.qc_sql.specs.declared.tables.RowOp.{RowOp}
 use Rattle.qc_sql.specs.declared.statements.Statement.{Statement}
 use Rattle.qc_sql.specs.declared.statements.Statement.TheVariants as statement
-use Rattle.qc_sql.specs.Database.{Name, MapOf, Table, Database, table_of, apply}
+use Rattle.qc_sql.specs.Database.{Name, MapOf, Database, apply}
 use Rattle.qc_sql.specs.Rules.{full_name}
 use Rattle.qc_sql.specs.Effects.{Effect, effect}
-use Rattle.qc_model.specs.Licence.{row_fits, columns_fit, ops_fit, is_within_rows}
-use Rattle.qc_fits.specs.Sound.{IsSoundDatabase, IsSoundTable}
+use Rattle.qc_model.specs.Licence.{row_fits, ops_fit}
+use Rattle.qc_fits.specs.Sound.{IsSoundDatabase}
 use Rattle.qc_fits.specs.Laws.{ChangesFit, ChangesStayWithin}
 use Rattle.qc_fits.proofs.Given.{each_weaker, Given, gives, weaker, given_has}
 use Rattle.qc_fits.proofs.Columns.{columns_called}
 use Rattle.qc_fits.proofs.Stays.{table_is_sound}
-use Rattle.qc_fits.proofs.Tables.{puts, puts_fit, dels, dels_fit}
+use Rattle.qc_fits.proofs.Tables.{puts_fit, dels, dels_fit}
 use Rattle.qc_fits.proofs.Inserts.{IsInsert, insert_given}
 use Rattle.qc_fits.proofs.Updates.{IsReplacement, IsUpdate, update_given, IsDelete, delete_given}
 use Rattle.qc_fits.proofs.Creates.{is_put, IsOfForm, create_given, drop_given, truncate_given, create_db_given, drop_db_given}

@@ -1,5 +1,5 @@
 -- Columns by name, and values that fit them.
-use Rattle.std.proofs.Common.{◌≡◌, ℕ, ◌≤◌, Bool, true, false, not, cond, List, [], ◌∷◌, map, length, refl, sym, ap, ◌∙◌, subst, Option, Some, None, Result, Ok, Err, true≢false, arith}
+use Rattle.std.proofs.Common.{◌≡◌, ℕ, Bool, true, false, not, cond, List, [], ◌∷◌, map, length, refl, sym, ap, ◌∙◌, Option, Some, None, Result, Ok, Err, true≢false}
 use Rattle.std.specs.Prelude.{◌&&◌, ◌||◌, bytes_eq, find, nat_lt, nat_le, count_by, ◌==◌}
 use Rattle.std.specs.List.{list_any, AllByRecursion}
 use Rattle.std.proofs.lemmas.Bool.{and_parts, and_from, or_parts, ltb-false, le-leb, not-true}
@@ -17,7 +17,7 @@ use Rattle.qc_sql.specs.Errors.{unknown_column, null_column, too_long}
 use Rattle.qc_sql.proofs.Untouched.{at_is, bytes_eq_self}
 use Rattle.qc_model.specs.Licence.{kind_fits, value_fits, row_fits, differ_in_name, columns_fit, most_columns, is_number_key, is_null as is_none_value}
 use Rattle.qc_fits.proofs.Maps.{some_is}
-use Rattle.qc_fits.proofs.Given.{each_weaker, each_both, none_from_any, found_passes, Given, gives, refuses, after, unless}
+use Rattle.qc_fits.proofs.Given.{found_passes, Given, gives, refuses, after, unless}
 
 pub name_is : (n k : Name) → bytes_eq n k ≡ true → n ≡ k
 name_is n k h = at_is n k (is_eq-slice_cmp n k ∙ h)

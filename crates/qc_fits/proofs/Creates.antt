@@ -1,5 +1,5 @@
 -- CREATE, DROP and TRUNCATE: what they do fits, and the columns of a new table do.
-use Rattle.std.proofs.Common.{◌≡◌, ℕ, ◌+◌, ◌<◌, ◌≤◌, zero, suc, Bool, true, false, not, cond, List, [], ◌∷◌, map, length, refl, sym, ap, ◌∙◌, subst, Option, Some, None, Result, Ok, Err, true≢false, arith}
+use Rattle.std.proofs.Common.{◌≡◌, ℕ, ◌+◌, ◌<◌, ◌≤◌, Bool, true, false, not, cond, List, [], ◌∷◌, map, length, refl, sym, ap, ◌∙◌, subst, Option, Some, None, true≢false, arith}
 use Rattle.std.specs.Prelude.{◌&&◌, ◌||◌, ◌==◌, bytes_eq, codes, find, nat_lt, nat_le, count_by, is_some, is_none, option_map, option_and_then}
 use Rattle.std.specs.List.{list_all, list_any, filter_map, AllByRecursion}
 use Rattle.std.specs.Map.{remove_entry}
@@ -14,12 +14,12 @@ use Rattle.qc_sql.specs.declared.statements.Part.{Part}
 use Rattle.qc_sql.specs.declared.statements.TableRef.{TableRef}
 use Rattle.qc_sql.specs.Database.{Name, Table, Tables, Database, at_name, table_of, tables_of, apply_one}
 use Rattle.qc_sql.specs.Rules.{full_name}
-use Rattle.qc_sql.specs.Rows.{◌>>=◌, first_repeated, refuse_if}
-use Rattle.qc_sql.specs.Effects.{Effect, is_int, new_column, new_key, bad_length, marked, has_one_key, known_database, create_effect, drop_effect, truncate_effect, create_db_effect, drop_db_of}
+use Rattle.qc_sql.specs.Rows.{first_repeated, refuse_if}
+use Rattle.qc_sql.specs.Effects.{Effect, is_int, new_column, new_key, marked, has_one_key, known_database, create_effect, drop_effect, truncate_effect, create_db_effect, drop_db_of}
 use Rattle.qc_sql.specs.Errors.{no_database_selected, unknown_database, table_exists, unknown_table, duplicate_column, no_key_column, too_many_columns, not_supported, database_exists}
-use Rattle.qc_sql.proofs.Untouched.{at, changed_same, bytes_eq_self}
+use Rattle.qc_sql.proofs.Untouched.{at, changed_same}
 use Rattle.qc_model.specs.Licence.{columns_fit, most_columns, differ_in_name, is_number_key, op_fits, ops_fit}
-use Rattle.qc_fits.specs.Sound.{IsSoundTable, IsSoundDatabase}
+use Rattle.qc_fits.specs.Sound.{IsSoundDatabase}
 use Rattle.qc_fits.proofs.Maps.{name_gone}
 use Rattle.qc_fits.proofs.Given.{each_weaker, Given, gives, refuses, after, unless, unless_some, anyway}
 use Rattle.qc_fits.proofs.Columns.{name_is}

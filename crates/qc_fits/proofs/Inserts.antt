@@ -1,20 +1,19 @@
 -- INSERT: the rows fit the columns, and there is room for them.
-use Rattle.std.proofs.Common.{◌≡◌, ℕ, ◌≤◌, ◌+◌, suc, ℤ, Bool, true, false, not, cond, List, [], ◌∷◌, map, length, refl, sym, ap, ◌∙◌, subst, Option, Some, None, Result, Ok, Err, true≢false, arith}
+use Rattle.std.proofs.Common.{◌≡◌, ℕ, ◌≤◌, ◌+◌, suc, ℤ, Bool, true, false, not, cond, List, [], ◌∷◌, length, refl, sym, ap, ◌∙◌, subst, Option, Some, None, arith}
 use Rattle.std.specs.Prelude.{◌&&◌, ◌||◌, ◌==◌, bytes_eq, codes, find, nat_lt}
 use Rattle.std.specs.List.{list_any, AllByRecursion}
 use Rattle.std.specs.Ordering.{int_cmp, is_eq}
-use Rattle.std.proofs.lemmas.Bool.{and_parts, or_from, ltb-false, not-false, eqb-true}
+use Rattle.std.proofs.lemmas.Bool.{or_from, ltb-false, not-false, eqb-true}
 use Rattle.qc_types.specs.declared.names.TableName.{TableName}
 use Rattle.qc_types.specs.declared.names.Value.{Value}
 use Rattle.qc_types.specs.declared.names.Value.TheVariants as value
-use Rattle.qc_types.specs.declared.sql_error.SqlError.{SqlError}
 use Rattle.qc_sql.specs.declared.tables.Column.{Column}
 use Rattle.qc_sql.specs.declared.statements.Insert.{Insert}
-use Rattle.qc_sql.specs.Database.{Name, Table, Database, table_of, tables_of, key_of}
+use Rattle.qc_sql.specs.Database.{Name, Table, Database, table_of, key_of}
 use Rattle.qc_sql.specs.Rules.{full_name}
-use Rattle.qc_sql.specs.Rows.{◌>>=◌, refuse_if, found_table, bound_in, Bound}
+use Rattle.qc_sql.specs.Rows.{found_table, bound_in}
 use Rattle.qc_sql.specs.Effects.{Effect, is_other_sort, may_be_null, named_columns, columns_of_insert, lacking, refuse_lacking, given_values, value_named, whole_row, has_key, new_rows, insert_effect}
-use Rattle.qc_sql.specs.Errors.{no_database_selected, unknown_database, duplicate_entry, column_named_twice, table_full, wrong_value_count, not_supported}
+use Rattle.qc_sql.specs.Errors.{no_database_selected, duplicate_entry, column_named_twice, table_full, wrong_value_count, not_supported}
 use Rattle.qc_model.specs.Licence.{value_fits, row_fits}
 use Rattle.qc_fits.proofs.Given.{each_both, each_weaker, none_found, Given, gives, refuses, after, unless, anyway}
 use Rattle.qc_fits.proofs.Columns.{name_is, IsCalled, called_is, called_given, same_column, stored_given, null_fits, row_from_each}

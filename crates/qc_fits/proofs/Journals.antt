@@ -1,13 +1,11 @@
 -- What a journal makes, where its commits fit.
-use Rattle.std.proofs.Common.{◌≡◌, ℕ, zero, suc, ◌-◌, true, List, [], ◌∷◌, ◌++◌, take, refl, sym, ap, ◌∙◌, subst, Option, Some, None}
-use Rattle.std.specs.Prelude.{◌&&◌}
+use Rattle.std.proofs.Common.{◌≡◌, ℕ, zero, suc, ◌-◌, true, [], ◌∷◌, ◌++◌, take, refl, sym, subst, Some, None}
 use Rattle.std.proofs.lemmas.Bool.{and_parts, and_from}
 use Rattle.qc_types.specs.declared.options.Options.{Options}
-use Rattle.qc_sql.specs.Database.{Database, empty_database, apply}
+use Rattle.qc_sql.specs.Database.{Database, apply}
 use Rattle.qc_model.specs.declared.events.Event.{Event}
 use Rattle.qc_model.specs.declared.events.Event.TheVariants as event
-use Rattle.qc_model.specs.Journal.{Journal, operations, database_after, present, before}
-use Rattle.qc_model.specs.Session.{at_snapshot}
+use Rattle.qc_model.specs.Journal.{Journal, operations, database_after, present}
 use Rattle.qc_model.specs.Licence.{ops_fit, is_within_rows, IsLicensed, IsLawfulAfter}
 use Rattle.qc_fits.specs.Sound.{IsSoundDatabase, commits_fit}
 use Rattle.qc_fits.specs.Laws.{LawfulCommitsFit, LawfulStaysWithin, JournalsAreSound}

@@ -1,20 +1,18 @@
 -- Row operations that fit at a snapshot fit at the end of the journal, where no commit since then conflicts.
 use Rattle.std.proofs.Common.{◌≡◌, ℕ, zero, suc, ◌+◌, ◌-◌, ◌<◌, ◌≤◌, ℤ, Bool, true, false, cond, List, [], ◌∷◌, ◌++◌, take, refl, sym, ap, ◌∙◌, subst, Option, Some, None, arith, true≢false}
-use Rattle.std.specs.Prelude.{◌&&◌, ◌||◌, is_some, nat_lt, option_map, option_and_then, IfSome, slice_get}
+use Rattle.std.specs.Prelude.{◌&&◌, is_some, nat_lt, option_map, IfSome, slice_get}
 use Rattle.std.specs.List.{list_all, list_any, AllByRecursion}
 use Rattle.std.specs.Ordering.{int_cmp, is_eq}
-use Rattle.std.specs.BTreeMap.{is_at}
-use Rattle.std.specs.Map.{lookup}
 use Rattle.std.proofs.lemmas.Bool.{and_parts, and_from, or_from, lt-ltb}
 use Rattle.qc_types.specs.declared.names.TableName.{TableName}
 use Rattle.qc_types.specs.declared.names.Value.{Value}
 use Rattle.qc_sql.specs.declared.tables.RowOp.{RowOp}
 use Rattle.qc_sql.specs.declared.tables.RowOp.TheVariants as op
-use Rattle.qc_sql.specs.Database.{Table, Database, table_of, key_of, with_row, without_row, apply, apply_one, same_table}
+use Rattle.qc_sql.specs.Database.{Table, Database, table_of, key_of, without_row, apply, apply_one, same_table}
 use Rattle.qc_sql.specs.Words.{◌or_else◌, when}
 use Rattle.qc_model.specs.Journal.{Journal, operations, database_after, present, before}
-use Rattle.qc_model.specs.Session.{Transaction, at_snapshot}
-use Rattle.qc_model.specs.Conflicts.{Written, Row, Form, Whole, Conflict, key_in, written_by, all_written, changes_form, is_row, met, first_met, conflict_with, conflict_above, conflict_at, conflict_of}
+use Rattle.qc_model.specs.Session.{at_snapshot}
+use Rattle.qc_model.specs.Conflicts.{Written, Row, Form, Whole, Conflict, key_in, written_by, all_written, changes_form, is_row, met, first_met, conflict_with, conflict_above, conflict_at}
 use Rattle.qc_model.specs.Licence.{row_fits, has_row, takes_row, op_fits, ops_fit}
 use Rattle.qc_fits.specs.Sound.{IsSoundDatabase, commits_fit, IsNoChangeAt, is_row_op, columns_of, row_of}
 use Rattle.qc_fits.specs.Laws.{KeptSnapshotsFit}
@@ -163,11 +161,11 @@ all_fit_too (o ∷ os) d e s p r h a =
 
 -- ---- commits that don't conflict
 
-neither : {A : Type 0} (a b : Option A) → (a or_else b) ≡ None → (a ≡ None) × (b ≡ None)
+pub neither : {A : Type 0} (a b : Option A) → (a or_else b) ≡ None → (a ≡ None) × (b ≡ None)
 neither None b h = (refl, h)
 neither (Some a) b h = absurd (true≢false (ap is_some h))
 
-not_when : {A : Type 0} (b : Bool) (a : A) → when b a ≡ None → b ≡ false
+pub not_when : {A : Type 0} (b : Bool) (a : A) → when b a ≡ None → b ≡ false
 not_when false a h = refl
 not_when true a h = absurd (true≢false (ap is_some h))
 

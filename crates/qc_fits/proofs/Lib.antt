@@ -12,3 +12,6 @@ mod RowChanges
 mod Written
 mod Journals
 mod Kept
+mod Open
+mod Full
+mod Examples

@@ -1,5 +1,5 @@
 -- INSERT, UPDATE and DELETE put and delete rows of one table, and what changes tables or databases has an operation.
-use Rattle.std.proofs.Common.{◌≡◌, ℕ, ◌<◌, ℤ, Bool, true, false, not, List, [], ◌∷◌, map, length, refl, sym, ap, subst, Some, None, Ok, arith}
+use Rattle.std.proofs.Common.{◌≡◌, ℕ, ◌<◌, ℤ, Bool, true, false, not, List, [], ◌∷◌, map, length, refl, subst, Some, Ok, arith}
 use Rattle.std.specs.Prelude.{filter, Option}
 use Rattle.std.specs.List.{list_all, list_any}
 use Rattle.std.proofs.lemmas.Bool.{and_from, or_from}
@@ -13,7 +13,7 @@ use Rattle.qc_sql.specs.declared.statements.Insert.{Insert}
 use Rattle.qc_sql.specs.declared.statements.Update.{Update}
 use Rattle.qc_sql.specs.declared.statements.TableRef.{TableRef}
 use Rattle.qc_sql.specs.declared.statements.Cond.{Cond}
-use Rattle.qc_sql.specs.Database.{Name, MapOf, Database, same_table, touches}
+use Rattle.qc_sql.specs.Database.{Name, Database, same_table, touches}
 use Rattle.qc_sql.specs.Rules.{full_name}
 use Rattle.qc_sql.specs.Rows.{◌>>=◌, each, bound_in, condition}
 use Rattle.qc_sql.specs.Effects.{Effect, effect, columns_of_insert, lacking, refuse_lacking, new_rows, insert_effect, assignment, assigned, labelled, same_values, values_in, matching, scope_of, update_effect, delete_effect, truncate_effect}

@@ -1,5 +1,5 @@
 -- A sound database is sound after operations that fit.
-use Rattle.std.proofs.Common.{◌≡◌, ℤ, true, false, cond, List, [], ◌∷◌, refl, sym, ap, ◌∙◌, subst, Option, Some, None, true≢false}
+use Rattle.std.proofs.Common.{◌≡◌, ℤ, true, cond, List, [], ◌∷◌, refl, sym, ap, ◌∙◌, subst, Option, Some, None, true≢false}
 use Rattle.std.specs.Prelude.{◌&&◌, is_some, is_none, option_and_then}
 use Rattle.std.specs.Ordering.{int_cmp}
 use Rattle.std.specs.BTreeMap.{insert_entry, is_at}
@@ -10,7 +10,7 @@ use Rattle.qc_types.specs.declared.names.Value.{Value}
 use Rattle.qc_sql.specs.declared.tables.Column.{Column}
 use Rattle.qc_sql.specs.declared.tables.RowOp.{RowOp}
 use Rattle.qc_sql.specs.declared.tables.RowOp.TheVariants as op
-use Rattle.qc_sql.specs.Database.{Name, name_cmp, Table, Tables, Database, no_tables, at_name, change_at, table_of, tables_of, key_of, with_row, without_row, apply, apply_one}
+use Rattle.qc_sql.specs.Database.{Name, name_cmp, Table, Tables, Database, no_tables, at_name, change_at, table_of, tables_of, key_of, with_row, without_row, apply_one}
 use Rattle.qc_sql.proofs.Untouched.{at}
 use Rattle.qc_model.specs.Licence.{row_fits, takes_row, columns_fit, op_fits, ops_fit}
 use Rattle.qc_fits.specs.Sound.{IsRow, IsSoundTable, AreSoundTables, IsSoundDatabase}

@@ -1,20 +1,19 @@
 -- What row operations leave of the table that they are of, and that they fit.
-use Rattle.std.proofs.Common.{◌≡◌, ℤ, ◌≤◌, ◌+◌, Bool, true, false, List, [], ◌∷◌, map, length, refl, sym, ap, ◌∙◌, subst, Option, Some, None, arith}
-use Rattle.std.specs.Prelude.{◌&&◌, is_some, nat_le, option_map, option_and_then}
+use Rattle.std.proofs.Common.{◌≡◌, ℤ, true, List, [], ◌∷◌, map, refl, ap, ◌∙◌, Option, Some, None}
+use Rattle.std.specs.Prelude.{is_some, option_map, option_and_then}
 use Rattle.std.specs.List.{AllByRecursion}
 use Rattle.std.specs.Ordering.{int_cmp, is_eq}
-use Rattle.std.specs.declared.cmp.Ordering.TheVariants.{Less, Equal, Greater}
-use Rattle.std.specs.BTreeMap.{insert_entry, is_at}
+use Rattle.std.specs.declared.cmp.Ordering.TheVariants.{Less}
+use Rattle.std.specs.BTreeMap.{is_at}
 use Rattle.std.specs.Map.{lookup, keys_of, remove_entry}
-use Rattle.std.proofs.lemmas.Bool.{and_parts, and_from}
+use Rattle.std.proofs.lemmas.Bool.{and_from}
 use Rattle.qc_types.specs.declared.names.TableName.{TableName}
 use Rattle.qc_types.specs.declared.names.Value.{Value}
-use Rattle.qc_sql.specs.declared.tables.Column.{Column}
 use Rattle.qc_sql.specs.declared.tables.RowOp.{RowOp}
 use Rattle.qc_sql.specs.declared.tables.RowOp.TheVariants as op
-use Rattle.qc_sql.specs.Database.{Name, MapOf, Table, Tables, Database, at_name, change_at, change_table, table_of, tables_of, key_of, with_row, without_row, apply, apply_one}
+use Rattle.qc_sql.specs.Database.{MapOf, Table, Tables, Database, at_name, change_at, change_table, table_of, tables_of, with_row, without_row, apply_one}
 use Rattle.qc_sql.proofs.Untouched.{changed_same}
-use Rattle.qc_model.specs.Licence.{row_fits, has_row, takes_row, op_fits, ops_fit}
+use Rattle.qc_model.specs.Licence.{row_fits, has_row, takes_row, ops_fit}
 use Rattle.qc_fits.proofs.Maps.{Rises, above_head, rises_tail, row_gone_other}
 
 -- a table that is changed, where it is there

@@ -1,6 +1,6 @@
 -- UPDATE and DELETE: the rows that are put fit and stand under keys that are there, and those that are deleted are there.
-use Rattle.std.proofs.Common.{◌≡◌, ℕ, ℤ, Bool, true, false, not, cond, List, [], ◌∷◌, map, refl, sym, ap, ◌∙◌, subst, Option, Some, None, Result, Ok, Err, true≢false}
-use Rattle.std.specs.Prelude.{◌&&◌, bytes_eq, codes, find, filter, is_some}
+use Rattle.std.proofs.Common.{◌≡◌, ℕ, ℤ, Bool, true, false, not, cond, List, [], ◌∷◌, map, refl, sym, ap, ◌∙◌, subst, Option, Some, Ok, true≢false}
+use Rattle.std.specs.Prelude.{◌&&◌, bytes_eq, codes, filter, is_some}
 use Rattle.std.specs.List.{AllByRecursion}
 use Rattle.std.specs.Ordering.{int_cmp}
 use Rattle.std.specs.BTreeMap.{is_at}
@@ -8,7 +8,6 @@ use Rattle.std.specs.Map.{lookup}
 use Rattle.std.proofs.lemmas.Bool.{and_parts}
 use Rattle.qc_types.specs.declared.names.TableName.{TableName}
 use Rattle.qc_types.specs.declared.names.Value.{Value}
-use Rattle.qc_types.specs.declared.sql_error.SqlError.{SqlError}
 use Rattle.qc_sql.specs.declared.tables.Column.{Column}
 use Rattle.qc_sql.specs.declared.tables.RowOp.TheVariants as op
 use Rattle.qc_sql.specs.declared.statements.Assignment.{Assignment}
@@ -19,15 +18,14 @@ use Rattle.qc_sql.specs.declared.statements.TableRef.{TableRef}
 use Rattle.qc_sql.specs.declared.statements.Cond.{Cond}
 use Rattle.qc_sql.specs.Database.{Name, MapOf, Table, Database, table_of, key_of, key_value}
 use Rattle.qc_sql.specs.Rules.{full_name}
-use Rattle.qc_sql.specs.Rows.{◌>>=◌, Combination, condition, mixes, sort_of_kind}
+use Rattle.qc_sql.specs.Rows.{◌>>=◌, condition, mixes, sort_of_kind}
 use Rattle.qc_sql.specs.Effects.{Effect, is_other_sort, Set, right_side, assignment, with_value, assigned, labelled, same_values, values_in, value_named, matching, scope_of, update_effect, delete_effect}
 use Rattle.qc_sql.specs.Errors.{not_supported}
-use Rattle.qc_sql.proofs.Untouched.{bytes_eq_self}
 use Rattle.qc_model.specs.Licence.{kind_fits, value_fits, row_fits}
 use Rattle.qc_fits.specs.Sound.{IsRow, IsSoundTable}
 use Rattle.qc_fits.proofs.Maps.{Rises, rises_filtered, key_at_itself}
-use Rattle.qc_fits.proofs.Given.{each_both, each_weaker, each_mapped, each_filtered, each_of, Given, gives, refuses, after, weaker, Anything, unless, anyway, each_given}
-use Rattle.qc_fits.proofs.Columns.{name_is, called, IsCalled, called_is, called_has_name, called_given, columns_called, same_column, stored_given, fits_sort}
+use Rattle.qc_fits.proofs.Given.{each_both, each_mapped, each_filtered, each_of, Given, gives, after, weaker, Anything, unless, anyway, each_given}
+use Rattle.qc_fits.proofs.Columns.{name_is, called, IsCalled, called_is, called_given, columns_called, same_column, stored_given, fits_sort}
 use Rattle.qc_fits.proofs.Tables.{puts, dels, AreThere}
 use Rattle.qc_fits.proofs.Inserts.{bound_given}
 

@@ -1,19 +1,19 @@
 -- No table has more rows than it may have, after operations that put no row, and after rows that are put.
-use Rattle.std.proofs.Common.{◌≡◌, ℤ, ◌≤◌, ◌+◌, Bool, true, false, cond, List, [], ◌∷◌, length, refl, sym, ap, ◌∙◌, subst, Option, Some, None, arith}
+use Rattle.std.proofs.Common.{◌≡◌, ℤ, ◌≤◌, ◌+◌, Bool, true, false, cond, List, [], ◌∷◌, length, refl, ap, ◌∙◌, Some, arith}
 use Rattle.std.specs.Prelude.{is_some, nat_le}
 use Rattle.std.specs.List.{list_all, AllByRecursion}
 use Rattle.std.specs.Ordering.{int_cmp}
 use Rattle.std.specs.BTreeMap.{insert_entry, is_at}
-use Rattle.std.specs.Map.{lookup, remove_entry}
-use Rattle.std.proofs.lemmas.Bool.{and_parts, and_from, leb-true, le-leb}
+use Rattle.std.specs.Map.{remove_entry}
+use Rattle.std.proofs.lemmas.Bool.{leb-true, le-leb}
 use Rattle.qc_types.specs.declared.names.TableName.{TableName}
 use Rattle.qc_types.specs.declared.names.Value.{Value}
 use Rattle.qc_sql.specs.declared.tables.RowOp.{RowOp}
 use Rattle.qc_sql.specs.declared.tables.RowOp.TheVariants as op
-use Rattle.qc_sql.specs.Database.{Name, MapOf, name_cmp, Table, Tables, Database, no_tables, at_name, change_at, table_of, tables_of, key_of, with_row, without_row, apply, apply_one}
+use Rattle.qc_sql.specs.Database.{name_cmp, Table, Tables, Database, no_tables, change_at, table_of, tables_of, key_of, with_row, without_row, apply, apply_one}
 use Rattle.qc_sql.proofs.Untouched.{at}
 use Rattle.qc_model.specs.Licence.{row_fits, takes_row, most_rows, is_within_rows}
-use Rattle.qc_fits.specs.Sound.{IsSoundDatabase, IsSoundTable}
+use Rattle.qc_fits.specs.Sound.{IsSoundDatabase}
 use Rattle.qc_fits.proofs.Maps.{all_change, all_insert, all_removed, holds_change, at_holds, fewer, one_more, as_many, row_stays}
 use Rattle.qc_fits.proofs.Given.{each_from_test, test_from_each, each_weaker}
 use Rattle.qc_fits.proofs.Stays.{in_database, tables_are_sound, table_is_sound, sound_one, new_table}

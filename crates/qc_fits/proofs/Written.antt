@@ -1,7 +1,7 @@
 -- What operations write, and what they leave of columns and rows that they don't write.
 use Rattle.std.proofs.Common.{◌≡◌, ℤ, Bool, true, false, List, [], ◌∷◌, ◌++◌, refl, sym, ap, ◌∙◌, subst, Option, Some, None, true≢false}
-use Rattle.std.specs.Prelude.{◌&&◌, ◌||◌, bytes_eq, is_some, option_map, option_and_then}
-use Rattle.std.specs.List.{list_any, AllByRecursion}
+use Rattle.std.specs.Prelude.{◌&&◌, ◌||◌, bytes_eq, option_map, option_and_then}
+use Rattle.std.specs.List.{list_any}
 use Rattle.std.specs.Ordering.{int_cmp, is_eq}
 use Rattle.std.specs.BTreeMap.{is_at}
 use Rattle.std.specs.Map.{lookup}
@@ -11,9 +11,9 @@ use Rattle.qc_types.specs.declared.names.Value.{Value}
 use Rattle.qc_sql.specs.declared.tables.Column.{Column}
 use Rattle.qc_sql.specs.declared.tables.RowOp.{RowOp}
 use Rattle.qc_sql.specs.declared.tables.RowOp.TheVariants as op
-use Rattle.qc_sql.specs.Database.{Name, Table, Database, table_of, key_of, with_row, without_row, apply, apply_one, same_table, touches}
+use Rattle.qc_sql.specs.Database.{Name, Table, Database, table_of, key_of, with_row, without_row, apply_one, same_table, touches}
 use Rattle.qc_sql.proofs.Untouched.{keeps_untouched}
-use Rattle.qc_model.specs.Conflicts.{Written, Row, Form, Whole, key_in, written_by, all_written, changes_form, is_row}
+use Rattle.qc_model.specs.Conflicts.{key_in, written_by, all_written, changes_form, is_row}
 use Rattle.qc_fits.specs.Sound.{columns_of, row_of}
 use Rattle.qc_fits.specs.Laws.{FormsStay, RowsStay}
 use Rattle.qc_fits.proofs.Maps.{row_gone_other, row_put_other, keys_back}

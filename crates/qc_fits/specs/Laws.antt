@@ -1,5 +1,5 @@
 -- Laws on operations that fit, which functions of this crate promise.
-use Rattle.std.specs.Prelude.{◌≡◌, ℕ, ◌<◌, ◌++◌, ℤ, Bool, true, false, List, length, Option, Some, None, Ok}
+use Rattle.std.specs.Prelude.{◌≡◌, ℕ, ◌+◌, ◌<◌, ℤ, true, false, List, [], ◌∷◌, ◌++◌, length, Option, Some, None, Ok, is_some}
 use Rattle.std.specs.List.{list_all, list_any}
 use Rattle.qc_types.specs.declared.names.TableName.{TableName}
 use Rattle.qc_types.specs.declared.options.Options.{Options}
@@ -7,11 +7,14 @@ use Rattle.qc_sql.specs.declared.tables.RowOp.{RowOp}
 use Rattle.qc_sql.specs.declared.statements.Statement.{Statement}
 use Rattle.qc_sql.specs.Database.{Name, Database, apply, empty_database, same_table, touches}
 use Rattle.qc_sql.specs.Effects.{Effect, effect}
-use Rattle.qc_model.specs.Journal.{Journal, present}
-use Rattle.qc_model.specs.Session.{Transaction, at_snapshot}
+use Rattle.qc_model.specs.declared.events.Event.{Event}
+use Rattle.qc_model.specs.Journal.{Journal, operations, present}
+use Rattle.qc_model.specs.Session.{Transaction, State, none_open, at_snapshot, seen_in, arrived, uses_rows}
 use Rattle.qc_model.specs.Conflicts.{changes_form, is_row, all_written, conflict_of}
-use Rattle.qc_model.specs.Licence.{ops_fit, is_within_rows, IsLawful}
+use Rattle.qc_model.specs.Licence.{ops_fit, is_within_rows, IsLawful, MayCommit}
+use Rattle.qc_model.specs.Machine.{full_table}
 use Rattle.qc_fits.specs.Sound.{IsSoundDatabase, commits_fit, IsNoChangeAt, is_row_op, rows_changed_by, changes_tables, columns_of, row_of}
+use Rattle.qc_fits.specs.Open.{IsFitting, AreFitting, grown}
 
 -- ---- operations that fit
 
@@ -75,3 +78,62 @@ KeptSnapshotsFit = (t : Transaction) (place : ℕ) (journal : Journal)
     → commits_fit empty_database journal ≡ true → t.snapshot ≡ Some place → IsNoChangeAt place journal
     → list_all is_row_op t.operations ≡ true → ops_fit t.operations (at_snapshot t.snapshot journal) ≡ true → conflict_of t journal ≡ None
     → ops_fit t.operations (present journal) ≡ true
+
+-- ---- an open transaction
+
+-- What a session sees is sound,
+abbrev pub ViewsAreSound : Type 0
+ViewsAreSound = (o : Option Transaction) (journal : Journal) → commits_fit empty_database journal ≡ true → AreFitting o journal → IsSoundDatabase (seen_in o journal)
+
+-- and leaves room.
+abbrev pub ViewsAreWithin : Type 0
+ViewsAreWithin = (o : Option Transaction) (journal : Journal) → is_within_rows (present journal) ≡ true → AreFitting o journal → is_within_rows (seen_in o journal) ≡ true
+
+-- A transaction that has just begun fits.
+abbrev pub NewOnesFit : Type 0
+NewOnesFit = (journal : Journal) → is_within_rows (present journal) ≡ true → IsFitting none_open journal
+
+-- It fits as the next statement arrives, which may open it or take its snapshot.
+abbrev pub ArrivedOnesFit : Type 0
+ArrivedOnesFit = (s : Statement) (state : State) (journal : Journal)
+    → is_within_rows (present journal) ≡ true → AreFitting state.transaction journal → AreFitting (arrived (length journal + 1) s state).transaction journal
+
+-- A statement that reads or writes rows has a snapshot, where a transaction is open.
+abbrev pub ArrivedHaveSnapshots : Type 0
+ArrivedHaveSnapshots = (s : Statement) (state : State) (place : ℕ) (t : Transaction)
+    → uses_rows s ≡ true → (arrived place s state).transaction ≡ Some t → is_some t.snapshot ≡ true
+
+-- It fits with what a statement that changes rows adds,
+abbrev pub GrownOnesFit : Type 0
+GrownOnesFit = (s : Statement) (t : Transaction) (journal : Journal) (db : Name) (session : ℕ) (table : TableName) (x : Effect)
+    → commits_fit empty_database journal ≡ true → IsFitting t journal → is_some t.snapshot ≡ true → rows_changed_by db s ≡ Some table
+    → effect s (seen_in (Some t) journal) db session ≡ Ok x → IsFitting (grown t x.operations) journal
+
+-- and after the next event, which changes nothing where the snapshot was taken at its place.
+abbrev pub FittingStays : Type 0
+FittingStays = (t : Transaction) (journal : Journal) (e : Event)
+    → is_within_rows (present (journal ++ e ∷ [])) ≡ true → (t.snapshot ≡ Some (length journal + 1) → operations e ≡ []) → IsFitting t journal → IsFitting t (journal ++ e ∷ [])
+
+-- ---- what may be committed
+
+-- A transaction that ends without a conflict fits the present.
+abbrev pub EndingsFit : Type 0
+EndingsFit = (t : Transaction) (journal : Journal) → commits_fit empty_database journal ≡ true → IsFitting t journal → conflict_of t journal ≡ None → ops_fit t.operations (present journal) ≡ true
+
+-- No table is full exactly where none has more rows than it may have.
+abbrev pub NoneIsFull : Type 0
+NoneIsFull = (d : Database) → full_table d ≡ None → is_within_rows d ≡ true
+
+abbrev pub WithinIsNotFull : Type 0
+WithinIsNotFull = (d : Database) → is_within_rows d ≡ true → full_table d ≡ None
+
+-- Operations that fit may be committed with those of a statement that is judged behind them.
+abbrev pub StatementsMayCommit : Type 0
+StatementsMayCommit = (own : List RowOp) (s : Statement) (journal : Journal) (db : Name) (session : ℕ) (x : Effect)
+    → commits_fit empty_database journal ≡ true → ops_fit own (present journal) ≡ true → is_within_rows (apply own (present journal)) ≡ true
+    → effect s (apply own (present journal)) db session ≡ Ok x → 0 < length (own ++ x.operations) → MayCommit journal (own ++ x.operations)
+
+-- The commits of a journal fit with one more that fits.
+abbrev pub CommitsGrow : Type 0
+CommitsGrow = (journal : Journal) (e : Event)
+    → commits_fit empty_database journal ≡ true → ops_fit (operations e) (present journal) ≡ true → commits_fit empty_database (journal ++ e ∷ []) ≡ true

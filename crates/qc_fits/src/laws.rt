@@ -2,7 +2,7 @@
 
 ghost use Rattle.qc_sql.specs.Database.{empty_database};
 ghost use Rattle.qc_fits.specs.Sound.{IsSoundDatabase};
-ghost use Rattle.qc_fits.specs.Laws.{ChangesAreOfTable, ChangesAreRows, ChangesFit, ChangesStayWithin, FormsChange, FormsStay, JournalsAreSound, KeptSnapshotsFit, LawfulCommitsFit, LawfulStaysWithin, RowsStay, SoundStays};
+ghost use Rattle.qc_fits.specs.Laws.{ArrivedHaveSnapshots, ArrivedOnesFit, ChangesAreOfTable, ChangesAreRows, ChangesFit, ChangesStayWithin, CommitsGrow, EndingsFit, FittingStays, FormsChange, FormsStay, GrownOnesFit, JournalsAreSound, KeptSnapshotsFit, LawfulCommitsFit, LawfulStaysWithin, NewOnesFit, NoneIsFull, RowsStay, SoundStays, StatementsMayCommit, ViewsAreSound, ViewsAreWithin, WithinIsNotFull};
 
 /// A law, with no code: a sound database is sound after operations that fit. The empty database is.
 pub fn sound_stays()
@@ -43,4 +43,29 @@ pub fn unwritten_rows_stay()
 /// conflicts.
 pub fn kept_snapshots_fit()
     ensures fit { KeptSnapshotsFit }
+{}
+
+/// A law, with no code: what a session sees is sound and leaves room, where its open transaction fits.
+pub fn views_are_sound()
+    ensures sound { ViewsAreSound }
+    ensures within { ViewsAreWithin }
+{}
+
+/// A law, with no code: an open transaction fits as it begins, as a statement arrives, with what a statement adds, and after each event.
+pub fn open_transactions_fit()
+    ensures begun { NewOnesFit }
+    ensures arrived { ArrivedOnesFit }
+    ensures snapshots { ArrivedHaveSnapshots }
+    ensures grown { GrownOnesFit }
+    ensures later { FittingStays }
+{}
+
+/// A law, with no code: what may be committed. A fitting transaction that ends without a conflict fits the present, and so do operations that fit
+/// there with those of a statement behind them.
+pub fn endings_may_commit()
+    ensures fit { EndingsFit }
+    ensures none { NoneIsFull }
+    ensures full { WithinIsNotFull }
+    ensures statements { StatementsMayCommit }
+    ensures journal { CommitsGrow }
 {}
