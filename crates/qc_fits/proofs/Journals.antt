@@ -32,7 +32,7 @@ journals_are_sound (Some place) J h = sound_after [] (take (place - 1) J) sound_
 
 -- ---- lawful journals
 
-more_after : (d : Database) (J : Journal) (e : Event) → database_after d (J ++ e ∷ []) ≡ apply (operations e) (database_after d J)
+pub more_after : (d : Database) (J : Journal) (e : Event) → database_after d (J ++ e ∷ []) ≡ apply (operations e) (database_after d J)
 more_after d [] e = refl
 more_after d (f ∷ fs) e = more_after (apply (operations f) d) fs e
 

@@ -1,17 +1,18 @@
 pub mod Maps
 pub mod Stays
-mod Given
-mod Columns
-mod Tables
+pub mod Given
+pub mod Columns
+pub mod Tables
 mod Inserts
 mod Updates
 mod Creates
 mod Within
-mod Changes
-mod RowChanges
-mod Written
-mod Journals
-mod Kept
-mod Open
-mod Full
+pub mod Changes
+pub mod RowChanges
+pub mod Written
+pub mod Journals
+pub mod Kept
+pub mod Open
+pub mod Full
+pub mod Machines
 mod Examples

@@ -7,14 +7,17 @@ use Rattle.qc_sql.specs.declared.tables.RowOp.{RowOp}
 use Rattle.qc_sql.specs.declared.statements.Statement.{Statement}
 use Rattle.qc_sql.specs.Database.{Name, Database, apply, empty_database, same_table, touches}
 use Rattle.qc_sql.specs.Effects.{Effect, effect}
+use Rattle.qc_sql.specs.declared.commands.Command.{Command}
+use Rattle.qc_sql.specs.declared.replies.Reply.{Reply}
+use Rattle.qc_model.specs.declared.events.Who.{Who}
 use Rattle.qc_model.specs.declared.events.Event.{Event}
 use Rattle.qc_model.specs.Journal.{Journal, operations, present}
 use Rattle.qc_model.specs.Session.{Transaction, State, none_open, at_snapshot, seen_in, arrived, uses_rows}
 use Rattle.qc_model.specs.Conflicts.{changes_form, is_row, all_written, conflict_of}
 use Rattle.qc_model.specs.Licence.{ops_fit, is_within_rows, IsLawful, MayCommit}
-use Rattle.qc_model.specs.Machine.{full_table}
+use Rattle.qc_model.specs.Machine.{full_table, Executes, local}
 use Rattle.qc_fits.specs.Sound.{IsSoundDatabase, commits_fit, IsNoChangeAt, is_row_op, rows_changed_by, changes_tables, columns_of, row_of}
-use Rattle.qc_fits.specs.Open.{IsFitting, AreFitting, grown}
+use Rattle.qc_fits.specs.Open.{IsFitting, AreFitting, grown, IsAtRest, MayCome}
 
 -- ---- operations that fit
 
@@ -137,3 +140,25 @@ StatementsMayCommit = (own : List RowOp) (s : Statement) (journal : Journal) (db
 abbrev pub CommitsGrow : Type 0
 CommitsGrow = (journal : Journal) (e : Event)
     → commits_fit empty_database journal ≡ true → ops_fit (operations e) (present journal) ≡ true → commits_fit empty_database (journal ++ e ∷ []) ≡ true
+
+-- ---- the machine
+
+-- What a command commits may be committed, where the session is at rest before it,
+abbrev pub CommandsMayCommit : Type 0
+CommandsMayCommit = (options : Options) (who : Who) (state next : State) (c : Command) (journal : Journal) (e : Event) (r : Reply)
+    → commits_fit empty_database journal ≡ true → is_within_rows (present journal) ≡ true → IsAtRest state.transaction journal
+    → Executes options who state c journal e r next → MayCome journal e
+
+-- and it is at rest again with its event,
+abbrev pub CommandsRest : Type 0
+CommandsRest = (options : Options) (who : Who) (state next : State) (c : Command) (journal : Journal) (e : Event) (r : Reply)
+    → commits_fit empty_database journal ≡ true → is_within_rows (present journal) ≡ true → IsAtRest state.transaction journal
+    → Executes options who state c journal e r next → IsAtRest next.transaction (journal ++ e ∷ [])
+
+-- after a command that has no event,
+abbrev pub LocalsRest : Type 0
+LocalsRest = (state next : State) (c : Command) (journal : Journal) (r : Reply) → local state c ≡ Some (r, next) → IsAtRest state.transaction journal → IsAtRest next.transaction journal
+
+-- and after an event of another session.
+abbrev pub OthersRest : Type 0
+OthersRest = (o : Option Transaction) (journal : Journal) (e : Event) → is_within_rows (present (journal ++ e ∷ [])) ≡ true → IsAtRest o journal → IsAtRest o (journal ++ e ∷ [])

@@ -2,7 +2,7 @@
 
 ghost use Rattle.qc_sql.specs.Database.{empty_database};
 ghost use Rattle.qc_fits.specs.Sound.{IsSoundDatabase};
-ghost use Rattle.qc_fits.specs.Laws.{ArrivedHaveSnapshots, ArrivedOnesFit, ChangesAreOfTable, ChangesAreRows, ChangesFit, ChangesStayWithin, CommitsGrow, EndingsFit, FittingStays, FormsChange, FormsStay, GrownOnesFit, JournalsAreSound, KeptSnapshotsFit, LawfulCommitsFit, LawfulStaysWithin, NewOnesFit, NoneIsFull, RowsStay, SoundStays, StatementsMayCommit, ViewsAreSound, ViewsAreWithin, WithinIsNotFull};
+ghost use Rattle.qc_fits.specs.Laws.{ArrivedHaveSnapshots, ArrivedOnesFit, ChangesAreOfTable, ChangesAreRows, ChangesFit, ChangesStayWithin, CommandsMayCommit, CommandsRest, CommitsGrow, EndingsFit, FittingStays, FormsChange, FormsStay, GrownOnesFit, JournalsAreSound, KeptSnapshotsFit, LawfulCommitsFit, LawfulStaysWithin, LocalsRest, NewOnesFit, NoneIsFull, OthersRest, RowsStay, SoundStays, StatementsMayCommit, ViewsAreSound, ViewsAreWithin, WithinIsNotFull};
 
 /// A law, with no code: a sound database is sound after operations that fit. The empty database is.
 pub fn sound_stays()
@@ -68,4 +68,12 @@ pub fn endings_may_commit()
     ensures full { WithinIsNotFull }
     ensures statements { StatementsMayCommit }
     ensures journal { CommitsGrow }
+{}
+
+/// A law, with no code: where each open transaction fits between two events, what a command commits may be committed, and each fits again after it.
+pub fn commands_may_commit()
+    ensures commits { CommandsMayCommit }
+    ensures rest { CommandsRest }
+    ensures locals { LocalsRest }
+    ensures others { OthersRest }
 {}
