@@ -1,9 +1,11 @@
 -- The definitions on small examples, by computation: what the laws suppose is met, and what they refuse is refused.
-use Rattle.std.proofs.Common.{◌≡◌, ℕ, ℤ, arith, List, [], ◌∷◌, refl, true, false, Ok, None}
+use Rattle.std.proofs.Common.{◌≡◌, ℕ, ℤ, arith, Option, List, [], ◌∷◌, refl, true, false, Ok, None}
 use Rattle.std.specs.Prelude.{codes, Some, pos}
 use Rattle.qc_types.specs.declared.names.TableName.{TableName}
 use Rattle.qc_types.specs.declared.names.Value.{Value}
 use Rattle.qc_types.specs.declared.names.Value.TheVariants as value
+use Rattle.qc_types.specs.declared.options.Options.{Options}
+use Rattle.qc_sql.specs.declared.replies.Reply.TheVariants as reply
 use Rattle.qc_sql.specs.declared.tables.Column.{Column}
 use Rattle.qc_sql.specs.declared.tables.Kind.TheVariants as kind
 use Rattle.qc_sql.specs.declared.tables.RowOp.{RowOp}
@@ -21,12 +23,12 @@ use Rattle.qc_model.specs.declared.events.Event.{Event}
 use Rattle.qc_model.specs.declared.events.Event.TheVariants as event
 use Rattle.qc_model.specs.declared.events.How.TheVariants as how
 use Rattle.qc_model.specs.Journal.{Journal, present}
-use Rattle.qc_model.specs.Session.{Transaction, at_snapshot}
+use Rattle.qc_model.specs.Session.{Transaction, State, at_snapshot}
 use Rattle.qc_model.specs.Conflicts.{conflict_of}
-use Rattle.qc_model.specs.Machine.{full_table}
+use Rattle.qc_model.specs.Machine.{full_table, ExecutesStatement}
 use Rattle.qc_model.specs.Licence.{ops_fit, is_within_rows, columns_fit}
 use Rattle.qc_fits.specs.Sound.{IsSoundDatabase, commits_fit, columns_of, row_of}
-use Rattle.qc_fits.specs.Open.{IsFitting}
+use Rattle.qc_fits.specs.Open.{IsFitting, IsAtRest}
 use Rattle.qc_fits.proofs.Stays.{sound_stays, sound_empty}
 
 unfoldable t : TableName
@@ -162,6 +164,21 @@ not_full = refl
 kept_is_fitting : IsFitting deletes_one kept
 unfolding deletes_one kept own_event made t id v row who
 kept_is_fitting = record { rows = refl; fit = refl; within = refl; placed = (omega arith, omega arith, refl) }
+
+kept_rests : IsAtRest (Some deletes_one) kept
+unfolding deletes_one kept own_event made t id v row who
+kept_rests = record { fitting = kept_is_fitting; settled = omega arith }
+
+unfoldable options : Options
+options = record { size = 0; limit = 0; unit = 4096; kind = 0 }
+
+unfoldable open_in : Option Transaction → State
+open_in o = record { session = 2; db = codes "d"; autocommit = true; charset = 33; ansi = false; row_limit = 1000; kind = 0; transaction = o }
+
+-- COMMIT commits what fits
+commit_is : ExecutesStatement options (who 2 2) (open_in (Some deletes_one)) (codes "COMMIT") kept statement.Commit (event.Commit (who 2 2) (op.Del t (pos 1) ∷ [])) (reply.Ok 0 2) (open_in None)
+unfolding options open_in deletes_one kept own_event made t id v row who
+commit_is = (refl, refl, refl)
 
 -- another session deletes the row first
 unfoldable lost : Journal

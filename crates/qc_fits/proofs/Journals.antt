@@ -1,14 +1,17 @@
 -- What a journal makes, where its commits fit.
-use Rattle.std.proofs.Common.{◌≡◌, ℕ, zero, suc, ◌-◌, true, [], ◌∷◌, ◌++◌, take, refl, sym, subst, Some, None}
+use Rattle.std.proofs.Common.{List, ◌≡◌, ℕ, zero, suc, ◌-◌, true, [], ◌∷◌, ◌++◌, take, refl, sym, subst, Some, None, Bool}
 use Rattle.std.proofs.lemmas.Bool.{and_parts, and_from}
+use Rattle.std.specs.List.{list_all}
+use Rattle.qc_sql.specs.declared.tables.RowOp.{RowOp}
 use Rattle.qc_types.specs.declared.options.Options.{Options}
 use Rattle.qc_sql.specs.Database.{Database, apply}
 use Rattle.qc_model.specs.declared.events.Event.{Event}
 use Rattle.qc_model.specs.declared.events.Event.TheVariants as event
 use Rattle.qc_model.specs.Journal.{Journal, operations, database_after, present}
+use Rattle.qc_model.specs.Session.{at_snapshot}
 use Rattle.qc_model.specs.Licence.{ops_fit, is_within_rows, IsLicensed, IsLawfulAfter}
 use Rattle.qc_fits.specs.Sound.{IsSoundDatabase, commits_fit}
-use Rattle.qc_fits.specs.Laws.{LawfulCommitsFit, LawfulStaysWithin, JournalsAreSound}
+use Rattle.qc_fits.specs.Laws.{LawfulCommitsFit, LawfulStaysWithin, JournalsAreSound, JournalsKeep, ViewsKeep}
 use Rattle.qc_fits.proofs.Stays.{sound_stays, sound_empty}
 
 -- ---- journals whose commits fit
@@ -72,3 +75,25 @@ lawful_commits_fit options J h = fits_after options [] J h
 
 pub lawful_stays_within : LawfulStaysWithin
 lawful_stays_within options J h = within_after options [] J h refl
+
+-- ---- tests that operations of a kind keep
+
+module _ (test : Database → Bool) (kind : RowOp → Bool) (step : (ops : List RowOp) (d : Database) → list_all kind ops ≡ true → test d ≡ true → test (apply ops d) ≡ true) where
+  kept_after : (d : Database) (J : Journal) → test d ≡ true → list_all (λ e. list_all kind (operations e)) J ≡ true → test (database_after d J) ≡ true
+  kept_after d [] t h = t
+  kept_after d (e ∷ es) t h =
+      let parts = and_parts (list_all kind (operations e)) (list_all (λ e. list_all kind (operations e)) es) h in
+      kept_after (apply (operations e) d) es (step (operations e) d parts.0 t) parts.1
+
+front_passes : {A : Type 0} (p : A → Bool) (k : ℕ) (xs : List A) → list_all p xs ≡ true → list_all p (take k xs) ≡ true
+front_passes p zero xs h = refl
+front_passes p (suc k) [] h = refl
+front_passes p (suc k) (x ∷ xs) h = let parts = and_parts (p x) (list_all p xs) h in and_from (p x) (list_all p (take k xs)) parts.0 (front_passes p k xs parts.1)
+
+pub journals_keep : JournalsKeep
+journals_keep test kind None J none step h = kept_after test kind step [] J none h
+journals_keep test kind (Some place) J none step h = kept_after test kind step [] (take (place - 1) J) none (front_passes (λ e. list_all kind (operations e)) (place - 1) J h)
+
+pub views_keep : ViewsKeep
+views_keep test kind None J none step h own = journals_keep test kind None J none step h
+views_keep test kind (Some t) J none step h own = step t.operations (at_snapshot t.snapshot J) own (journals_keep test kind t.snapshot J none step h)

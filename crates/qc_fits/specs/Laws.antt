@@ -1,5 +1,5 @@
 -- Laws on operations that fit, which functions of this crate promise.
-use Rattle.std.specs.Prelude.{◌≡◌, ℕ, ◌+◌, ◌<◌, ℤ, true, false, List, [], ◌∷◌, ◌++◌, length, Option, Some, None, Ok, is_some}
+use Rattle.std.specs.Prelude.{◌≡◌, ℕ, ◌+◌, ◌<◌, ℤ, true, false, List, [], ◌∷◌, ◌++◌, length, Option, Some, None, Ok, is_some, IfSome, Bool}
 use Rattle.std.specs.List.{list_all, list_any}
 use Rattle.qc_types.specs.declared.names.TableName.{TableName}
 use Rattle.qc_types.specs.declared.options.Options.{Options}
@@ -116,6 +116,18 @@ GrownOnesFit = (s : Statement) (t : Transaction) (journal : Journal) (db : Name)
 abbrev pub FittingStays : Type 0
 FittingStays = (t : Transaction) (journal : Journal) (e : Event)
     → is_within_rows (present (journal ++ e ∷ [])) ≡ true → (t.snapshot ≡ Some (length journal + 1) → operations e ≡ []) → IsFitting t journal → IsFitting t (journal ++ e ∷ [])
+
+-- What operations of a kind keep, as a bound on names and values, journals of that kind keep at their end and at each snapshot,
+abbrev pub JournalsKeep : Type 0
+JournalsKeep = (test : Database → Bool) (kind : RowOp → Bool) (snapshot : Option ℕ) (journal : Journal)
+    → test empty_database ≡ true → ((ops : List RowOp) (d : Database) → list_all kind ops ≡ true → test d ≡ true → test (apply ops d) ≡ true)
+    → list_all (λ e. list_all kind (operations e)) journal ≡ true → test (at_snapshot snapshot journal) ≡ true
+
+-- and so does what a session sees.
+abbrev pub ViewsKeep : Type 0
+ViewsKeep = (test : Database → Bool) (kind : RowOp → Bool) (o : Option Transaction) (journal : Journal)
+    → test empty_database ≡ true → ((ops : List RowOp) (d : Database) → list_all kind ops ≡ true → test d ≡ true → test (apply ops d) ≡ true)
+    → list_all (λ e. list_all kind (operations e)) journal ≡ true → IfSome o (λ t. list_all kind t.operations ≡ true) → test (seen_in o journal) ≡ true
 
 -- ---- what may be committed
 

@@ -2,7 +2,7 @@
 
 ghost use Rattle.qc_sql.specs.Database.{empty_database};
 ghost use Rattle.qc_fits.specs.Sound.{IsSoundDatabase};
-ghost use Rattle.qc_fits.specs.Laws.{ArrivedHaveSnapshots, ArrivedOnesFit, ChangesAreOfTable, ChangesAreRows, ChangesFit, ChangesStayWithin, CommandsMayCommit, CommandsRest, CommitsGrow, EndingsFit, FittingStays, FormsChange, FormsStay, GrownOnesFit, JournalsAreSound, KeptSnapshotsFit, LawfulCommitsFit, LawfulStaysWithin, LocalsRest, NewOnesFit, NoneIsFull, OthersRest, RowsStay, SoundStays, StatementsMayCommit, ViewsAreSound, ViewsAreWithin, WithinIsNotFull};
+ghost use Rattle.qc_fits.specs.Laws.{ArrivedHaveSnapshots, ArrivedOnesFit, ChangesAreOfTable, ChangesAreRows, ChangesFit, ChangesStayWithin, CommandsMayCommit, CommandsRest, CommitsGrow, EndingsFit, FittingStays, FormsChange, FormsStay, GrownOnesFit, JournalsAreSound, JournalsKeep, KeptSnapshotsFit, LawfulCommitsFit, LawfulStaysWithin, LocalsRest, NewOnesFit, NoneIsFull, OthersRest, RowsStay, SoundStays, StatementsMayCommit, ViewsAreSound, ViewsAreWithin, ViewsKeep, WithinIsNotFull};
 
 /// A law, with no code: a sound database is sound after operations that fit. The empty database is.
 pub fn sound_stays()
@@ -49,6 +49,13 @@ pub fn kept_snapshots_fit()
 pub fn views_are_sound()
     ensures sound { ViewsAreSound }
     ensures within { ViewsAreWithin }
+{}
+
+/// A law, with no code: a test of databases that operations of some kind keep, as a bound on names and values, is passed by what a session sees
+/// where the journal's operations and its own are of that kind.
+pub fn views_keep()
+    ensures journals { JournalsKeep }
+    ensures views { ViewsKeep }
 {}
 
 /// A law, with no code: an open transaction fits as it begins, as a statement arrives, with what a statement adds, and after each event.
