@@ -1,5 +1,5 @@
 -- What a journal makes, where its commits fit.
-use Rattle.std.proofs.Common.{List, ◌≡◌, ℕ, zero, suc, ◌-◌, true, [], ◌∷◌, ◌++◌, take, refl, sym, subst, Some, None, Bool}
+use Rattle.std.proofs.Common.{◌≡◌, ℕ, zero, suc, ◌-◌, Bool, true, List, [], ◌∷◌, ◌++◌, take, refl, sym, subst, Some, None}
 use Rattle.std.proofs.lemmas.Bool.{and_parts, and_from}
 use Rattle.std.specs.List.{list_all}
 use Rattle.qc_sql.specs.declared.tables.RowOp.{RowOp}
