@@ -1,0 +1,15 @@
+//! The journal: the one list of events of the server, what it counts, and when it last changed a table.
+#![tactic(auto)]
+
+mod changes;
+mod counts;
+mod journal;
+mod name_map;
+mod replicas;
+#[cfg(test)]
+mod tests;
+mod touching;
+
+pub use journal::Journal;
+pub use qc_model::events::{Counters, Event, Events, GoneWhy, How, Reason, Who};
+pub use qc_types::Totals;

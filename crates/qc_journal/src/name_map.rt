@@ -1,0 +1,66 @@
+//! Maps from names.
+
+ghost use Rattle.std.specs.Prelude.{◌≡◌, [], OnOk, OnErr, option_copied};
+ghost use Rattle.std.specs.Option.{option_copied_mut};
+ghost use Rattle.std.specs.Borrow.{sem};
+ghost use Rattle.std.specs.BTreeMap.{insert_entry};
+ghost use Rattle.qc_sql.specs.Database.{at_name, name_cmp};
+ghost use Rattle.qc_journal.specs.Lent.{lends_value};
+
+use qc_types::NoMemory;
+use std::alloc::Global;
+use std::collections::BTreeMap;
+use std::marker::Model;
+
+/// A map from names, by the order of their bytes. Each call costs the logarithm of how many names it has.
+#[derive(Drop)]
+pub(crate) struct NameMap<V> {
+    held: BTreeMap<Vec<u8>, V>,
+}
+
+impl<V> Model for NameMap<V> {
+    ghost use Rattle.std.specs.Prelude.{List, ℕ, map};
+    ghost use Rattle.std.specs.Coded.{coded_list, coded×, coded_ℕ};
+
+    ghost Value = { List (List ℕ × V) };
+
+    ghost coded = { coded_list (coded× (coded_list coded_ℕ) V.code) };
+
+    ghost view = { λ m. map (λ e. (e.0.items, e.1)) m.held.entries };
+}
+
+impl<V: Drop> NameMap<V> {
+    /// A map with no name.
+    pub(crate) fn new(alloc: Global) -> NameMap<V>
+        ensures { result ≡ [] }
+    {
+        NameMap {
+            held: BTreeMap::new(alloc),
+        }
+    }
+
+    /// What the name has, where it has something.
+    pub(crate) fn get(&self, name: &[u8]) -> Option<&V>
+        ensures { option_copied result ≡ at_name name.now self.now }
+    {
+        self.held.get(name)
+    }
+
+    /// What the name has, where it has something, to be changed.
+    pub(crate) fn get_mut(&mut self, name: &[u8]) -> Option<&mut V>
+        ensures* writes_back { sem 𝓛 (lends_value V.row self.entry name.now result) }
+        ensures value { option_copied_mut result ≡ at_name name.now self.old }
+    {
+        self.held.get_mut(name)
+    }
+
+    /// Gives the name this value, in the place of the one that it may have. Where memory lacks, the map stays.
+    pub(crate) fn insert(&mut self, alloc: Global, name: &[u8], value: V) -> Result<(), NoMemory>
+        ensures ok { OnOk result (self.new ≡ insert_entry name_cmp self.old name.now value) }
+        ensures err { OnErr result (self.new ≡ self.old) }
+    {
+        let name = Vec::from_slice(alloc, name)?;
+        self.held.insert(name, value)?;
+        Ok(())
+    }
+}
