@@ -9,6 +9,7 @@ pub mod Levels
 pub mod Folds
 pub mod SortKeys
 pub mod Gathers
+pub mod KeptRows
 pub mod Stages
 pub mod Rows
 pub mod Plans

@@ -8,6 +8,7 @@ pub mod Scans
 pub mod Levels
 pub mod Rooms
 pub mod Shown
+pub mod Entries
 pub mod Folds
 pub mod Ahead
 pub mod SortKeys

@@ -7,6 +7,7 @@ mod filters;
 mod gathering;
 mod item;
 mod joined;
+mod matching;
 mod operand;
 mod plan;
 mod row;
@@ -20,4 +21,5 @@ mod totals;
 mod truth;
 mod values;
 
+pub use matching::{RowNumbers, matching_rows};
 pub use plan::Plan;

@@ -9,6 +9,7 @@ pub mod InGroup
 pub mod InRow
 pub mod ItemAgrees
 pub mod Lists
+pub mod OneTable
 pub mod OrderAgrees
 pub mod Parts
 pub mod RowAgrees

@@ -2,6 +2,7 @@ pub mod Columns
 pub mod Fit
 pub mod Folding
 pub mod Judged
+pub mod Kept
 pub mod Meaning
 pub mod Steps
 pub mod Values

@@ -8,6 +8,7 @@ mod definitions;
 mod formula;
 mod groups;
 mod items;
+mod matching;
 mod order;
 mod resolved;
 mod scope;
@@ -16,6 +17,7 @@ mod test;
 mod values;
 
 pub use formula::{Formula, Formulas, Place};
+pub use matching::resolve_condition;
 pub use resolved::{Fold, Folds, OrderKey, OrderKeys, Output, Resolved, Versions};
 pub use select::resolve;
 pub use test::{Test, Tests};
