@@ -1,0 +1,16 @@
+pub mod Counts
+pub mod Dels
+pub mod Exits
+pub mod Founds
+pub mod Inserts
+pub mod KeptEntries
+pub mod KeyColumns
+pub mod Keys
+pub mod Lists
+pub mod Named
+pub mod Names
+pub mod Placings
+pub mod Puts
+pub mod Rows
+pub mod Turns
+pub mod Whole

@@ -1,0 +1,74 @@
+//! The table that a statement changes.
+
+ghost use Rattle.std.specs.Prelude.{◌≡◌, IfOk};
+ghost use Rattle.qc_types.specs.Answers.{Gives};
+ghost use Rattle.qc_sql.specs.Effects as meant;
+ghost use Rattle.qc_sql.specs.Rules as rules;
+ghost use Rattle.qc_table.specs.Tables.{IsSound};
+ghost use Rattle.qc_write.specs.Targets.{bound_of, target_in};
+
+use qc_errors::{no_database_selected, no_such_table, unknown_database};
+use qc_sql::statements::TableRef;
+use qc_table::{Database, TableVersion};
+use qc_types::{NoMemory, Or, SqlError, TableName, Text};
+use std::alloc::Global;
+
+/// A table that a statement changes: its whole name, and the table as it stands.
+#[derive(Drop)]
+pub(crate) struct Target<'a> {
+    pub(crate) name: TableName,
+    pub(crate) version: &'a TableVersion,
+}
+
+/// The table that a statement names, with this current database (empty: none). Refused where no database is named or current (1046), where the
+/// database isn't there (1049), and where it has no such table (1146), in this order. Costs the logarithm of how many databases and tables there are.
+pub(crate) fn bind_target<'a>(
+    alloc: Global,
+    database: &'a Database,
+    db: &[u8],
+    table: &TableRef,
+) -> Result<Target<'a>, Or<SqlError>>
+    ensures gives { Gives bound_of (λ e. e) result (target_in database.now db.now table.now) }
+    ensures name { IfOk result (λ t. t.name ≡ rules.full_name db.now table.now) }
+    ensures sound { IfOk result (λ t. IsSound t.version.now) }
+{
+    let name = full_name(alloc, db, table)?;
+    check_database(alloc, database, &name)?;
+    let Some(version) = database.table(&name) else {
+        return Err(Or::Other(no_such_table(alloc, &name)?));
+    };
+    // says that the table is sound
+    let _columns = version.columns();
+    Ok(Target { name, version })
+}
+
+/// Refuses a table where no database is named or current (1046), and where the database isn't there (1049).
+pub(crate) fn check_database(
+    alloc: Global,
+    database: &Database,
+    name: &TableName,
+) -> Result<(), Or<SqlError>>
+    ensures { Gives (λ _. tt) (λ e. e) result (meant.known_database database.now name.now) }
+{
+    if name.db.bytes().is_empty() {
+        return Err(Or::Other(no_database_selected(alloc)?));
+    }
+    if !database.has_db(name.db.bytes()) {
+        return Err(Or::Other(unknown_database(alloc, name.db.bytes())?));
+    }
+    Ok(())
+}
+
+/// The whole name of a table, of the current database where none is written.
+pub(crate) fn full_name(alloc: Global, db: &[u8], table: &TableRef) -> Result<TableName, NoMemory>
+    ensures { IfOk result (λ t. t ≡ rules.full_name db.now table.now) }
+{
+    let db = match &table.db {
+        Some(db) => db.copy(alloc)?,
+        None => Text::of(alloc, db)?,
+    };
+    Ok(TableName {
+        db,
+        name: table.name.copy(alloc)?,
+    })
+}
