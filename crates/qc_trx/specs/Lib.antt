@@ -1,0 +1,7 @@
+pub mod Endings
+pub mod Orders
+pub mod Progresses
+pub mod Sites
+pub mod Standings
+pub mod Values
+pub mod Writes

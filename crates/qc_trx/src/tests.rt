@@ -1,0 +1,7 @@
+//! A session's state by its public calls.
+
+mod conflicts;
+mod fits;
+mod sets;
+mod states;
+mod trial;
