@@ -3,7 +3,7 @@ use Rattle.std.proofs.lemmas.Result.{err_from_is_err_and}
 use Rattle.qc_types.specs.declared.names.Value.{Value}
 use Rattle.qc_resolve.specs.Steps.{run}
 use Rattle.qc_write.specs.Placing.{IsPlacingIn, assigned_one, placed, placing_of}
-use Rattle.qc_write.proofs.Exits.{refused_too}
+use Rattle.qc_resolve.proofs.Exits.{refused_too}
 use Rattle.qc_write.proofs.Turns.{mapped_at, mapped_ended, mapped_on, mapped_refused}
 use Rattle.qc_write.proofs.assigned_rows.assigned.Goals as goal
 

@@ -3,7 +3,7 @@ use Rattle.std.proofs.lemmas.Result.{err_from_is_err_and}
 use Rattle.qc_types.specs.declared.names.Value.{Value}
 use Rattle.qc_eval.specs.Entries.{entry_at}
 use Rattle.qc_write.specs.Placing.{changed_row, placed, placing_of}
-use Rattle.qc_write.proofs.Exits.{refused_too}
+use Rattle.qc_resolve.proofs.Exits.{refused_too}
 use Rattle.qc_write.proofs.Turns.{change_refused, changed_none, changed_some}
 use Rattle.qc_write.proofs.assigned_rows.changed_row.Goals as goal
 

@@ -7,7 +7,7 @@ use Rattle.qc_resolve.specs.Steps.{run}
 use Rattle.qc_eval.specs.Entries.{entry_at}
 use Rattle.qc_resolve.proofs.Steps.{run_ended, run_on, run_refused}
 use Rattle.qc_write.specs.Placing.{changed_row, placing_of, put_of, put_step}
-use Rattle.qc_write.proofs.Exits.{refused_too}
+use Rattle.qc_resolve.proofs.Exits.{refused_too}
 use Rattle.qc_write.proofs.Turns.{number_at, number_is}
 use Rattle.qc_write.proofs.assigned_rows.put_rows.Goals as goal
 

@@ -6,7 +6,7 @@ use Rattle.qc_resolve.specs.Steps.{run, push_made}
 use Rattle.qc_resolve.proofs.Steps.{each_by_run, run_ended, run_on, run_refused}
 use Rattle.qc_write.specs.declared.assignments.Placed.{Placed}
 use Rattle.qc_write.specs.Placing.{assignment_placed, placing_of}
-use Rattle.qc_write.proofs.Exits.{refused_too}
+use Rattle.qc_resolve.proofs.Exits.{refused_too}
 use Rattle.qc_write.proofs.assignments.place_all.Goals as goal
 
 pub loop-assignment-init : goal.loop-assignment-init

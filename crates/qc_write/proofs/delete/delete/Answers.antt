@@ -4,7 +4,7 @@ use Rattle.qc_types.specs.Answers.{Gives}
 use Rattle.qc_sql.specs.Effects.{Effect, Judged, delete_effect}
 use Rattle.qc_write.specs.Targets.{bound_of, target_in}
 use Rattle.qc_write.proofs.Dels.{delete_found, delete_lost}
-use Rattle.qc_write.proofs.Exits.{refused_too}
+use Rattle.qc_resolve.proofs.Exits.{refused_too}
 use Rattle.qc_write.proofs.delete.delete.Goals as goal
 
 pub returns-in_err-target : goal.returns-in_err-target

@@ -6,7 +6,7 @@ use Rattle.qc_resolve.specs.Kept.{kept_rows}
 use Rattle.qc_eval.specs.Entries.{entry_at}
 use Rattle.qc_write.specs.Removing.{del_of, delete_judged}
 use Rattle.qc_write.specs.Targets.{bound_of}
-use Rattle.qc_write.proofs.Exits.{refused_too}
+use Rattle.qc_resolve.proofs.Exits.{refused_too}
 use Rattle.qc_write.proofs.KeptEntries.{rows_gone}
 use Rattle.qc_write.proofs.delete.delete_from.Goals as goal
 

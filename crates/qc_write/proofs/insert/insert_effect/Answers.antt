@@ -5,7 +5,7 @@ use Rattle.qc_types.specs.declared.sql_error.SqlError.{SqlError}
 use Rattle.qc_sql.specs.Rows.{Bound}
 use Rattle.qc_sql.specs.Effects.{Effect, Judged, insert_effect}
 use Rattle.qc_write.specs.Targets.{bound_of, target_in}
-use Rattle.qc_write.proofs.Exits.{refused_too}
+use Rattle.qc_resolve.proofs.Exits.{refused_too}
 use Rattle.qc_write.proofs.Whole.{insert_is, insert_refused}
 use Rattle.qc_write.proofs.insert.insert_effect.Goals as goal
 

@@ -9,7 +9,7 @@ use Rattle.qc_sql.specs.declared.statements.Insert.{Insert}
 use Rattle.qc_sql.specs.Effects.{Effect, Judged, effect_of}
 use Rattle.qc_write.specs.Inserts.{named_in, places, shape_judged, rows_judged, insert_judged}
 use Rattle.qc_write.specs.Targets.{bound_of}
-use Rattle.qc_write.proofs.Exits.{refused_too}
+use Rattle.qc_resolve.proofs.Exits.{refused_too}
 use Rattle.qc_write.proofs.insert.insert_into.Goals as goal
 
 abbrev of_named : Bound → Insert → List Column → Judged

@@ -9,7 +9,7 @@ use Rattle.qc_types.specs.declared.sql_error.SqlError.{SqlError}
 use Rattle.qc_sql.specs.Database.{key_of}
 use Rattle.qc_write.specs.Inserts.{named_in, tuple_judged, key_judged, row_judged}
 use Rattle.qc_write.specs.Targets.{bound_of}
-use Rattle.qc_write.proofs.Exits.{refused_too}
+use Rattle.qc_resolve.proofs.Exits.{refused_too}
 use Rattle.qc_write.proofs.Rows.{key_refused, row_good}
 use Rattle.qc_write.proofs.insert.put_row.Goals as goal
 

@@ -13,7 +13,7 @@ use Rattle.qc_sql.specs.declared.tables.RowOp.TheVariants as op
 use Rattle.qc_sql.specs.Database.{key_of}
 use Rattle.qc_write.specs.Inserts.{named_in, row_judged, rows_judged}
 use Rattle.qc_write.specs.Targets.{bound_of}
-use Rattle.qc_write.proofs.Exits.{refused_too}
+use Rattle.qc_resolve.proofs.Exits.{refused_too}
 use Rattle.qc_write.proofs.Inserts.{rows_on, row_refused, row_put, rows_ended}
 use Rattle.qc_write.proofs.Keys.{one_taken}
 use Rattle.qc_write.proofs.insert.put_rows.Goals as goal

@@ -3,7 +3,7 @@ use Rattle.std.proofs.lemmas.Result.{err_from_is_err_and}
 use Rattle.qc_types.specs.Answers.{Gives}
 use Rattle.qc_sql.specs.Effects.{Effect, Judged, update_effect}
 use Rattle.qc_write.specs.Targets.{bound_of, target_in}
-use Rattle.qc_write.proofs.Exits.{refused_too}
+use Rattle.qc_resolve.proofs.Exits.{refused_too}
 use Rattle.qc_write.proofs.Puts.{update_found, update_lost}
 use Rattle.qc_write.proofs.update.update.Goals as goal
 

@@ -16,7 +16,7 @@ use Rattle.qc_eval.specs.Entries.{entry_at}
 use Rattle.qc_write.specs.declared.assignments.Placed.{Placed}
 use Rattle.qc_write.specs.Placing.{IsPlacingIn, Placing, assignment_placed, placing_of, put_step, update_judged}
 use Rattle.qc_write.specs.Targets.{bound_of}
-use Rattle.qc_write.proofs.Exits.{refused_too}
+use Rattle.qc_resolve.proofs.Exits.{refused_too}
 use Rattle.qc_write.proofs.KeyColumns.{names_differ}
 use Rattle.qc_write.proofs.KeptEntries.{cond_refused, places_within, rows_changed, rows_refused, sets_refused}
 use Rattle.qc_write.proofs.update.update_in.Goals as goal
