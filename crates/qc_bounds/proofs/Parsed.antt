@@ -23,7 +23,7 @@ use Rattle.qc_sql.specs.Reading.{ParseFault, Unread, Stop, Refused, Reader, pure
 use Rattle.qc_sql.specs.Reading as reading
 use Rattle.qc_sql.specs.Grammar as rule
 use Rattle.qc_sql.specs.Grammar.{is_arithmetic, at_literal, at_call, at_aggregate, is_known_call, op_ahead, op_in, negated, grouped, like_at, at_further, with_source, span_text, no_from, all_conds, other_kind, is_pattern, other_show, unsupported_at}
-use Rattle.qc_bounds.specs.Names.{is_short, is_bounded_value, are_short_tokens, passes_if_there, is_short_column, is_short_value_at, is_short_value, is_short_cond_at, is_short_cond, is_short_table, is_short_item, is_short_source, is_short_order, says_what, is_short_right, is_short_assignment, is_short_part, is_short_statement}
+use Rattle.qc_bounds.specs.Names.{is_short, is_bounded_value, are_short_tokens, passes_if_there, is_short_column, is_short_value_at, is_short_value, is_short_cond_at, is_short_cond, is_short_table, is_short_item, is_short_source, is_short_order, says_what, is_short_right, is_short_assignment, is_short_part, is_short_setting, is_short_statement}
 use Rattle.qc_bounds.specs.Laws.{ParsedNamesAreShort}
 use Rattle.qc_bounds.proofs.Tokens.{tokens_are_short}
 use Rattle.qc_bounds.proofs.Readers.{anything, Gave, Passes, one, gives, stops, refuses, refuses_any, read_anything, either, chosen, in_place, then_gave, after, name_passes, any_word_passes, words_pass, number_passes, at_the_word, at_the_sign, some_all, all_from_some, separated_pass, some_listed, weaker, bracketed_passes, optional_passes, listed_pass, passed_passes}
@@ -482,16 +482,16 @@ set_value_passes =
     (either (at_word (codes "DEFAULT")) (after (at_the_word (codes "DEFAULT")) (λ _ _. gives refl))
     (after any_word_passes (λ w _. gives refl))))
 
-set_variable_passes : (n : Name) → Passes anything (rule.set_variable n)
+set_variable_short : (n : Name) → is_short n ≡ true → Passes is_short_setting (rule.set_variable n)
 unfolding rule.set_variable
-set_variable_passes n = after (at_the_sign (codes "=")) (λ _ _. after set_value_passes (λ v _. gives refl))
+set_variable_short n h = after (at_the_sign (codes "=")) (λ _ _. after set_value_passes (λ v _. gives h))
 
-setting_passes : (w : Name) → Passes anything (rule.setting_of w)
+setting_short : (w : Name) → is_short w ≡ true → Passes is_short_setting (rule.setting_of w)
 unfolding rule.setting_of
-setting_passes w =
-    either (at_sign (codes "=")) (set_variable_passes w)
+setting_short w h =
+    either (at_sign (codes "=")) (set_variable_short w h)
     (chosen (same_word w (codes "NAMES")) (after any_word_passes (λ n _. gives refl))
-    (chosen (same_word w (codes "SESSION")) (after any_word_passes (λ n _. set_variable_passes n))
+    (chosen (same_word w (codes "SESSION")) (after any_word_passes set_variable_short)
     (chosen (same_word w (codes "GLOBAL")) refuses_any
     (chosen (same_word w (codes "TRANSACTION")) refuses_any stops))))
 
@@ -501,7 +501,7 @@ no_second_passes = either (at_sign (codes ",")) refuses (gives refl)
 
 set_short : Passes is_short_statement rule.set
 unfolding rule.set
-set_short = after (at_the_word (codes "SET")) (λ _ _. after (after any_word_passes (λ w _. setting_passes w)) (λ s _. after no_second_passes (λ _ _. gives refl)))
+set_short = after (at_the_word (codes "SET")) (λ _ _. after (after any_word_passes setting_short) (λ s h. after no_second_passes (λ _ _. gives h)))
 
 one_word_short : Passes is_short_statement rule.one_word
 unfolding rule.one_word

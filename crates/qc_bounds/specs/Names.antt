@@ -21,6 +21,8 @@ use Rattle.qc_sql.specs.declared.statements.Right.{Right}
 use Rattle.qc_sql.specs.declared.statements.Right.TheVariants as right
 use Rattle.qc_sql.specs.declared.statements.Part.{Part}
 use Rattle.qc_sql.specs.declared.statements.Part.TheVariants as piece
+use Rattle.qc_sql.specs.declared.statements.Setting.{Setting}
+use Rattle.qc_sql.specs.declared.statements.Setting.TheVariants as setting
 use Rattle.qc_sql.specs.declared.statements.Statement.{Statement}
 use Rattle.qc_sql.specs.declared.statements.Statement.TheVariants as statement
 use Rattle.qc_sql.specs.Trees.{fold_expr, fold_cond}
@@ -137,7 +139,11 @@ abbrev pub is_short_part : Part → Bool
 is_short_part (piece.Column name kind required key) = is_short name
 is_short_part (piece.Primary name) = is_short name
 
--- nothing is said of SET
+-- the name of a variable
+abbrev pub is_short_setting : Setting → Bool
+is_short_setting (setting.Names w) = true
+is_short_setting (setting.Variable name v) = is_short name
+
 abbrev pub is_short_statement : Statement → Bool
 is_short_statement (statement.Select s) = is_short_select s
 is_short_statement (statement.Insert i) = is_short_insert i
@@ -149,4 +155,5 @@ is_short_statement (statement.DropTable t) = is_short_table t
 is_short_statement (statement.CreateDb name) = is_short name
 is_short_statement (statement.DropDb name) = is_short name
 is_short_statement (statement.UseDb name) = is_short name
+is_short_statement (statement.Set x) = is_short_setting x
 is_short_statement _ = true

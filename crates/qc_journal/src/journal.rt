@@ -1,6 +1,6 @@
 //! The journal.
 
-ghost use Rattle.std.specs.Prelude.{◌≡◌, ◌+◌, ◌≤◌, ◌++◌, ◌∷◌, [], length, IfOk, OnOk, Some};
+ghost use Rattle.std.specs.Prelude.{◌≡◌, ◌+◌, ◌^◌, ◌<◌, ◌≤◌, ◌++◌, ◌∷◌, [], length, IfOk, OnOk, Some};
 ghost use Rattle.qc_model.specs.Cache as meant;
 ghost use Rattle.qc_model.specs.Journal.{event_at, last_change};
 
@@ -90,7 +90,8 @@ impl Journal {
 
     /// How many events there are, which is the number of the last. Constant time.
     pub fn len(&self) -> u64
-        ensures { result ≡ length self.now.events }
+        ensures value { result ≡ length self.now.events }
+        ensures within { length self.now.events < 2 ^ 63 }
     {
         self.events.len() as u64
     }
