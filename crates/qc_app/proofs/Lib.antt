@@ -1,15 +1,6 @@
-pub mod Journals
-pub mod Order
-pub mod Steps
-pub mod Sounds
-pub mod Ends
-pub mod Shorts
 pub mod Inputs
-pub mod Changes
-pub mod Methods
 pub mod Nexts
 pub mod Pieces
 pub mod Reports
 pub mod Tops
-pub mod Told
 pub mod Texts

@@ -11,10 +11,10 @@ use Rattle.qc_model.specs.Agrees.{commands_of, ending_of, then_commands}
 use Rattle.qc_sessions.specs.Cuts.{Takes}
 use Rattle.qc_sessions.proofs.Cutting.{cuts_one, cuts_none, takes_one, takes_more}
 use Rattle.qc_wire.specs.Commands.{ReadsCommand}
-use Rattle.qc_app.specs.declared.session.Session.{Session}
-use Rattle.qc_app.specs.Going.{DoesOne}
+use Rattle.qc_single.specs.declared.session.Session.{Session}
+use Rattle.qc_single.specs.Going.{DoesOne}
 use Rattle.qc_app.specs.Ran.{HasGone}
-use Rattle.qc_app.proofs.Methods.{taken_more}
+use Rattle.qc_single.proofs.Methods.{taken_more}
 
 some_is : (x y : List ℕ) → ◌≡◌ {A = Option (List ℕ)} (Some x) (Some y) → x ≡ y
 some_is x y e = cc

@@ -14,12 +14,12 @@ use Rattle.qc_model.specs.Journal.{Journal}
 use Rattle.qc_model.specs.Agrees.{Agrees}
 use Rattle.qc_script.specs.ShortNames.{HasShortNames, HasShortColumns, HasShortName, MakesShortColumns}
 use Rattle.qc_sessions.specs.Runs.{report_of}
-use Rattle.qc_app.specs.Words.{without_cache}
-use Rattle.qc_app.specs.Stage.{first_machine}
+use Rattle.qc_single.specs.Stage.{first_machine, without_cache}
 use Rattle.qc_bounds.specs.Names.{is_short}
-use Rattle.qc_app.specs.Run.{is_simple, makes_short_names}
+use Rattle.qc_bounds.specs.Replies.{are_bounded_columns, is_bounded_column, is_bounded_kind, is_bounded_operation}
+use Rattle.qc_single.specs.Sound.{is_simple, is_small_operation, makes_short_name}
 use Rattle.qc_app.specs.Ran.{IsReportOf}
-use Rattle.qc_app.proofs.Ends.{one_session, no_session}
+use Rattle.qc_single.proofs.Ends.{one_session, no_session}
 
 both : (a b : Bool) → (a && b) ≡ true → (a ≡ true) × (b ≡ true)
 both true b h = (refl, h)
@@ -32,19 +32,22 @@ all_of p P f [] h k d lt = absurd (omega (arith, lt))
 all_of p P f (x ∷ xs) h zero d lt = f x (both (p x) (list_all p xs) h).0
 all_of p P f (x ∷ xs) h (suc k) d lt = all_of p P f xs (both (p x) (list_all p xs) h).1 k d (omega (arith, lt))
 
-column_short : (c : Column) → is_short c.name ≡ true → HasShortName c
-column_short c h = grind (arith)
+column_short : (c : Column) → is_bounded_column c ≡ true → HasShortName c
+column_short c h = let short = (both (is_short c.name) (is_bounded_kind c.kind) h).0 in grind (arith)
 
-op_short : (o : RowOp) → makes_short_names o ≡ true → MakesShortColumns o
-op_short (op.CreateTable t columns) h = all_of (λ c. is_short c.name) HasShortName column_short columns h
-op_short (op.Put t row) h = tt
-op_short (op.Del t key) h = tt
-op_short (op.DropTable t) h = tt
-op_short (op.CreateDb name) h = tt
-op_short (op.DropDb name) h = tt
+op_bounded : (o : RowOp) → is_bounded_operation o ≡ true → MakesShortColumns o
+op_bounded (op.CreateTable t columns) h = all_of is_bounded_column HasShortName column_short columns (both _ (list_all is_bounded_column columns) h).1
+op_bounded (op.Put t row) h = tt
+op_bounded (op.Del t key) h = tt
+op_bounded (op.DropTable t) h = tt
+op_bounded (op.CreateDb name) h = tt
+op_bounded (op.DropDb name) h = tt
+
+op_short : (o : RowOp) → is_small_operation o ≡ true → MakesShortColumns o
+op_short o h = op_bounded o (both (is_bounded_operation o) (makes_short_name o) h).0
 
 event_short : (e : Event) → is_simple e ≡ true → HasShortColumns e
-event_short (event.Commit who ops) h = all_of makes_short_names MakesShortColumns op_short ops (both _ (list_all makes_short_names ops) h).1
+event_short (event.Commit who ops) h = all_of is_small_operation MakesShortColumns op_short ops (both _ (list_all is_small_operation ops) h).1
 event_short (event.Run who x) h = tt
 event_short (event.Done serial) h = tt
 event_short (event.Gone serial why) h = tt
@@ -73,11 +76,11 @@ run_agrees script input report same is =
     let s = is.session in
     subst (λ (x : Script). Agrees first_machine x without_cache report) (sym same)
     (subst (λ (r : Report). Agrees first_machine (record { setup = None; sessions = input ∷ [] }) without_cache r) (sym is.same)
-    (one_session input s.lines is.ending s.events s.db s.database is.ran.taken.fit.sound is.ran.taken.runs is.ran.same_ending))
+    (one_session input s.lines is.ending s.journal.events s.state.state s.database is.ran.taken.fit.sound is.ran.taken.runs is.ran.same_ending))
 
 pub run_names : (input : List ℕ) (report : Report) → IsReportOf without_cache input report → HasShortNames report
 run_names input report is =
-    subst HasShortNames (sym is.same) (names_are_short without_cache (record { session = 1; lines = is.session.lines; ending = is.ending } ∷ []) is.session.events is.ran.taken.fit.sound.simple)
+    subst HasShortNames (sym is.same) (names_are_short without_cache (record { session = 1; lines = is.session.lines; ending = is.ending } ∷ []) is.session.journal.events is.ran.taken.fit.sound.simple)
 
 -- ---- no session
 

@@ -1,9 +1,5 @@
 pub mod Words
-pub mod Stage
 pub mod Top
-pub mod Run
 pub mod Reading
 pub mod Inputs
-pub mod Going
 pub mod Ran
-pub mod Counting

@@ -7,11 +7,11 @@ use Rattle.qc_sql.specs.declared.commands.Command.{Command}
 use Rattle.qc_model.specs.declared.reports.Report.{Report}
 use Rattle.qc_sessions.specs.Cuts.{Takes}
 use Rattle.qc_sessions.specs.Runs.{report_of}
-use Rattle.qc_execute.specs.Outcomes.{only_session}
+use Rattle.qc_single.specs.Sound.{only_session}
 use Rattle.qc_model.specs.declared.reports.Ending.{Ending}
 use Rattle.qc_model.specs.Agrees.{commands_of}
-use Rattle.qc_app.specs.declared.session.Session.{Session}
-use Rattle.qc_app.specs.Going.{HasTaken}
+use Rattle.qc_single.specs.declared.session.Session.{Session}
+use Rattle.qc_single.specs.Going.{HasTaken}
 
 -- the next command of an input was taken, and this is left; or there is none, and the input ends so
 abbrev pub Advances : Result Command (Or Ending) → List ℕ → List ℕ → Type 0
@@ -35,4 +35,4 @@ pub record IsReportOf (options : Options) (input : List ℕ) (report : Report) :
   pub session : Session
   pub ending : Ending
   pub ran : HasRun input session ending
-  pub same : report ≡ report_of options (record { session = only_session; lines = session.lines; ending = ending } ∷ []) session.events
+  pub same : report ≡ report_of options (record { session = only_session; lines = session.lines; ending = ending } ∷ []) session.journal.events

@@ -2,10 +2,7 @@
 use Rattle.std.specs.Prelude.{ℕ, ◌&&◌, List, [], ◌∷◌, Option, None, bytes_eq, codes}
 use Rattle.qc_types.specs.declared.options.Options.{Options}
 use Rattle.qc_sql.specs.Words.{when}
-
--- with no memory for the cache, and else as by default
-abbrev pub without_cache : Options
-without_cache = record { size = 0; limit = 1048576; unit = 4096; kind = 1 }
+use Rattle.qc_single.specs.Stage.{without_cache}
 
 -- the options of the words behind the program's name, or none where these aren't in the form; so far they are `run --size 0`
 abbrev pub options_of : List (List ℕ) → Option Options

@@ -1,17 +1,15 @@
 //! The program: from the words of the command line and an input to the bytes of a report.
 #![tactic(auto)]
 
-mod counters;
 mod reading;
 mod run;
-mod session;
 mod standard;
 #[cfg(test)]
 mod tests;
 mod top;
 mod words;
 
-pub use qc_model::events::{Counters, Event, Events, GoneWhy, How, Reason, Who};
+pub use qc_journal::{Counters, Event, Events, GoneWhy, How, Reason, Who};
 pub use qc_model::reports::{
     Ending, Report, ReportLine, ReportLines, Script, ScriptRefusal, SessionReport, SessionReports,
     Word,

@@ -11,14 +11,12 @@ ghost use Rattle.qc_script.specs.ShortNames.{HasShortNames};
 ghost use Rattle.qc_sessions.specs.Runs as meant;
 ghost use Rattle.qc_app.specs.Inputs.{IsSmall};
 ghost use Rattle.qc_app.specs.Ran.{Advances, HasRun, IsReportOf};
-ghost use Rattle.qc_app.specs.Run.{is_simple};
-ghost use Rattle.qc_app.specs.Stage.{first_machine};
-ghost use Rattle.qc_app.specs.Words.{without_cache};
+ghost use Rattle.qc_single.specs.Sound.{is_simple};
+ghost use Rattle.qc_single.specs.Stage.{first_machine, without_cache};
 
-use crate::counters::count_events;
-use crate::session::{ONLY_SESSION, Session};
-use qc_model::events::Events;
+use qc_journal::Journal;
 use qc_model::reports::{Ending, Report, Script, SessionReport, SessionReports};
+use qc_single::{ONLY_SESSION, Session};
 use qc_sql::commands::{Command, CommandEnd};
 use qc_types::{NoMemory, Options, Or, Steps};
 use qc_wire::read_command;
@@ -36,7 +34,7 @@ pub fn run_script(alloc: Global, options: Options, script: &Script) -> Result<Re
 {
     match script.sessions.items() {
         [input] => run_one(alloc, options, input.bytes()),
-        _ => Ok(report_of(options, SessionReports::new(alloc), Events::new(alloc))),
+        _ => Ok(report_of(options, SessionReports::new(alloc), Journal::new(alloc))),
     }
 }
 
@@ -45,9 +43,9 @@ fn run_one(alloc: Global, options: Options, input: &[u8]) -> Result<Report, NoMe
 {
     let (session, ending) = run_session::<Brand>(alloc, input, Blank::new(1))?;
     let Session {
+        state: _,
         database: _,
-        db: _,
-        events,
+        journal,
         lines,
     } = session;
     let mut sessions = SessionReports::new(alloc);
@@ -56,19 +54,19 @@ fn run_one(alloc: Global, options: Options, input: &[u8]) -> Result<Report, NoMe
         lines,
         ending,
     })?;
-    Ok(report_of(options, sessions, events))
+    Ok(report_of(options, sessions, journal))
 }
 
 /// A report, with the counters of its journal, after which the cache is empty.
-fn report_of(options: Options, sessions: SessionReports, journal: Events) -> Report
-    requires { list_all is_simple journal ≡ true }
-    ensures { result ≡ meant.report_of options sessions journal }
+fn report_of(options: Options, sessions: SessionReports, journal: Journal) -> Report
+    requires { list_all is_simple journal.events ≡ true }
+    ensures { result ≡ meant.report_of options sessions journal.events }
 {
-    let counters = count_events(journal.items(), 0);
+    let counters = journal.counters(0);
     Report {
         options,
         sessions,
-        journal,
+        journal: journal.into_events(),
         counters,
     }
 }

@@ -150,6 +150,92 @@ counters 10 0 0 8 0 0
 end
 ";
 
+/// Statements that change rows, tables and databases, in transactions and outside, with some that are refused.
+const CHANGES: &str = "session 1
+query CREATE DATABASE d
+query USE d
+query CREATE TABLE t (id BIGINT PRIMARY KEY, v BIGINT NOT NULL, name VARCHAR(5))
+query INSERT INTO t VALUES (7, 70, 'seven'), (3, 30, NULL)
+query INSERT INTO t VALUES (5, 50, 'five'), (7, 0, NULL)
+query INSERT INTO t (v, id) VALUES (10, -1)
+query UPDATE t SET v = 0, name = 'few' WHERE v <= 30
+query SELECT * FROM t
+query BEGIN
+query DELETE FROM t WHERE id = 3
+query SELECT COUNT(*) FROM t
+query ROLLBACK
+query SELECT id FROM t WHERE name = 'few'
+query SET autocommit = OFF
+query DELETE FROM t WHERE v > 0
+query CREATE TABLE u (id BIGINT PRIMARY KEY)
+query INSERT INTO u SELECT id FROM t
+query SET sql_mode = 'ansi_quotes'
+query SELECT \"id\" FROM t
+query COMMIT
+query SET autocommit = ON
+query TRUNCATE TABLE t
+query DROP DATABASE d
+query SELECT id FROM t
+ping
+quit
+";
+
+const CHANGES_REPORT: &str = "qcache report 1
+options 0 1048576 4096 1
+sessions 1
+session 1 commands 25 end quit
+1 other 0700000100010002000000
+2 other 0700000100000002000000
+3 other 0700000100000002000000
+4 other 0700000100020002000000
+5 other 1b000001ff26042332333030304475706c696361746520656e7472793a2037
+6 other 0700000100010002000000
+7 other 0700000100020002000000
+8 plain 01000001031d000002036465660164017401740269640269640c3f00140000000803000000001b00000303646566016401740174017601760c3f00140000000801000000002100000403646566016401740174046e616d65046e616d650c210005000000fd000000000005000005fe0000020009000006022d310130036665770800000701330130036665770b000008013702373005736576656e05000009fe00000200
+9 other 0700000100000003000000
+10 other 0700000100010003000000
+11 plain 01000001011e0000020364656600000008434f554e54282a29000c3f001400000008000000000005000003fe0000030002000004013205000005fe00000300
+12 other 0700000100000002000000
+13 plain 01000001011d000002036465660164017401740269640269640c3f001400000008030000000005000003fe0000020003000004022d3102000005013305000006fe00000200
+14 other 0700000100000000000000
+15 other 0700000100010001000000
+16 other 0700000100000000000000
+16 local 20000001ff280423343230303053796e746178206572726f722061742062797465203134
+16 local 0700000100000000000000
+17 plain 01000001011d000002036465660164017401740269640269640c3f001400000008030000000005000003fe0000010003000004022d3102000005013305000006fe00000100
+18 other 0700000100000000000000
+19 other 0700000100000002000000
+20 other 0700000100000002000000
+21 other 0700000100020002000000
+22 plain 1c000001ff1904233432303030556e6b6e6f776e2064617461626173653a2064
+22 local 0700000100000002000000
+journal 22
+1 commit 1 1 1 createdb:64
+2 run 1 2 other
+3 commit 1 3 1 create:64.74:02696400000003017600000001046e616d6501050000
+4 commit 1 4 2 put:64.74:013702373005736576656e,put:64.74:0133023330fb
+5 run 1 5 other
+6 commit 1 6 1 put:64.74:022d31023130fb
+7 commit 1 7 2 put:64.74:022d31013003666577,put:64.74:0133013003666577
+8 run 1 8 plain off
+9 run 1 9 other
+10 run 1 10 other
+11 run 1 11 plain off
+12 run 1 12 other
+13 run 1 13 plain off
+14 run 1 14 other
+15 run 1 15 other
+16 commit 1 16 2 del:64.74:7,create:64.75:02696400000003
+17 run 1 17 plain off
+18 run 1 18 other
+19 run 1 19 other
+20 commit 1 20 2 drop:64.74,create:64.74:02696400000003017600000001046e616d6501050000
+21 commit 1 21 1 dropdb:64
+22 run 1 22 plain error 1049
+counters 5 0 0 4 0 0
+end
+";
+
 fn words(alloc: Global, line: &str) -> Result<Vec<String>, AllocError> {
     let mut words = Vec::new(alloc);
     for word in line.split_whitespace() {
@@ -195,11 +281,12 @@ fn run(rt: &HostRuntime, script: &[u8]) -> Result<(Ended, BytesSink), AllocError
 
 #[test]
 fn whole_reports(rt: HostRuntime) -> Result<(), Fail> {
-    let rows: [(&str, &str); 4] = [
+    let rows: [(&str, &str); 5] = [
         (FIRST_ROW, FIRST_REPORT),
         ("", EMPTY_REPORT),
         (NO_ROWS, NO_ROWS_REPORT),
         (SELECTS, SELECTS_REPORT),
+        (CHANGES, CHANGES_REPORT),
     ];
     for (script, report) in rows {
         let (ended, out) = run(&rt, script.as_bytes())?;
@@ -450,6 +537,9 @@ fn answer_line(answer: &str) -> &'static str {
     } else if answer == "tables" {
         // 1116, HY000, Too many tables
         "0 local 18000001ff5c04234859303030546f6f206d616e79207461626c6573\n"
+    } else if answer == "nowhere" {
+        // 1046, 3D000, No database selected
+        "1 other 1d000001ff16042333443030304e6f2064617461626173652073656c6563746564\n"
     } else if answer == "created" {
         "1 other 0700000100010002000000\n"
     } else {
@@ -458,12 +548,19 @@ fn answer_line(answer: &str) -> &'static str {
     }
 }
 
-/// The report of one session, whose only event makes the database d, where there is one.
+/// The journals of the table below: no event, one that makes the database d, and one of a statement that was refused.
+const NONE: &str = "journal 0\n";
+
+const CREATED: &str = "journal 1\n1 commit 1 1 1 createdb:64\n";
+
+const REFUSED: &str = "journal 1\n1 run 1 1 other\n";
+
+/// The report of one session with this journal, in which no SELECT counts.
 fn stream_report(
     alloc: Global,
     answers: &str,
     ending: &str,
-    created: bool,
+    journal: &str,
 ) -> Result<String, AllocError> {
     let count = answers.split_whitespace().count();
     let mut text = format!(in alloc;
@@ -472,11 +569,7 @@ fn stream_report(
     for answer in answers.split_whitespace() {
         text.push_str(answer_line(answer))?;
     }
-    text.push_str(if created {
-        "journal 1\n1 commit 1 1 1 createdb:64\n"
-    } else {
-        "journal 0\n"
-    })?;
+    text.push_str(journal)?;
     text.push_str("counters 0 0 0 0 0 0\nend\n")?;
     Ok(text)
 }
@@ -484,71 +577,77 @@ fn stream_report(
 #[test]
 fn streams_of_a_session(rt: HostRuntime) -> Result<(), Fail> {
     let alloc = rt.alloc();
-    // what stands behind `session 1`, the answers, the ending, and whether a database is made
-    let rows: [(&str, &str, &str, bool); 31] = [
-        ("raw ", "", "input", false),
-        ("raw 01", "", "cut 1", false),
-        ("raw 010000", "", "cut 3", false),
-        ("raw 01000000", "", "cut 4", false),
-        ("raw 0300000003", "", "cut 5", false),
-        ("raw 010000010e", "", "badsequence 1 0", false),
-        ("raw 010000ff", "", "badsequence 255 0", false),
-        ("raw ffffff00", "", "toolong 16777215", false),
-        ("raw ffffff01", "", "toolong 16777215", false),
-        ("raw feffff00", "", "cut 4", false),
-        ("raw 010000000E", "ping", "input", false),
-        ("ping\nraw 010000000e\nraw 01", "ping ping", "cut 1", false),
-        ("raw 010000001d", "unknown", "input", false),
-        ("raw 010000001d\nping\n", "unknown ping", "input", false),
-        ("raw 00000000\nping\n", "unknown ping", "input", false),
-        ("raw 020000000100\nping", "unknown ping", "input", false),
-        ("raw 020000000e00", "unknown", "input", false),
-        ("quit", "", "quit", false),
+    // what stands behind `session 1`, the answers, the ending, and the journal
+    let rows: [(&str, &str, &str, &str); 32] = [
+        ("raw ", "", "input", NONE),
+        ("raw 01", "", "cut 1", NONE),
+        ("raw 010000", "", "cut 3", NONE),
+        ("raw 01000000", "", "cut 4", NONE),
+        ("raw 0300000003", "", "cut 5", NONE),
+        ("raw 010000010e", "", "badsequence 1 0", NONE),
+        ("raw 010000ff", "", "badsequence 255 0", NONE),
+        ("raw ffffff00", "", "toolong 16777215", NONE),
+        ("raw ffffff01", "", "toolong 16777215", NONE),
+        ("raw feffff00", "", "cut 4", NONE),
+        ("raw 010000000E", "ping", "input", NONE),
+        ("ping\nraw 010000000e\nraw 01", "ping ping", "cut 1", NONE),
+        ("raw 010000001d", "unknown", "input", NONE),
+        ("raw 010000001d\nping\n", "unknown ping", "input", NONE),
+        ("raw 00000000\nping\n", "unknown ping", "input", NONE),
+        ("raw 020000000100\nping", "unknown ping", "input", NONE),
+        ("raw 020000000e00", "unknown", "input", NONE),
+        ("quit", "", "quit", NONE),
         (
             "ping\nquit\nping\nquery CREATE DATABASE d\nraw 01",
             "ping",
             "quit",
-            false,
+            NONE,
         ),
-        ("raw 0100000001ff", "", "quit", false),
-        ("\n# quit\nping\n\n#ping\n", "ping", "input", false),
+        ("raw 0100000001ff", "", "quit", NONE),
+        ("\n# quit\nping\n\n#ping\n", "ping", "input", NONE),
         // CREATE DATABASE d
         (
             "raw 1200000003435245\nraw 4154452044415441424153452064",
             "created",
             "input",
-            true,
+            CREATED,
         ),
         (
             "query CREATE DATABASE d\nping\nquit",
             "created later",
             "quit",
-            true,
+            CREATED,
         ),
-        ("query x\nping", "syntax ping", "input", false),
-        ("query SELEC 1", "syntax", "input", false),
-        ("query ", "syntax", "input", false),
-        ("query SELECT id FROM ; ", "end", "input", false),
-        ("query  SELECT id FROM", "end", "input", false),
+        ("query x\nping", "syntax ping", "input", NONE),
+        ("query SELEC 1", "syntax", "input", NONE),
+        ("query ", "syntax", "input", NONE),
+        ("query SELECT id FROM ; ", "end", "input", NONE),
+        ("query  SELECT id FROM", "end", "input", NONE),
         (
             "query SELECT a FROM t UNION SELECT b FROM t",
             "union",
             "input",
-            false,
+            NONE,
         ),
         (
             "query SELECT x FROM a, b, c, d, e, f, g, h, i",
             "tables",
             "input",
-            false,
+            NONE,
         ),
-        ("query DROP TABLE t\nping", "form ping", "input", false),
+        (
+            "query DROP TABLE t\nping",
+            "nowhere later",
+            "input",
+            REFUSED,
+        ),
+        ("query RESET QUERY CACHE\nping", "form ping", "input", NONE),
     ];
-    for (lines, answers, ending, created) in rows {
+    for (lines, answers, ending, journal) in rows {
         let script = format!(in alloc; "session 1\n{lines}")?;
         let (ended, out) = run(&rt, script.as_bytes())?;
         assert_eq!(rt; ended.status, 0u8, "at {lines}");
-        let report = stream_report(alloc, answers, ending, created)?;
+        let report = stream_report(alloc, answers, ending, journal)?;
         assert_eq!(rt; out.bytes(), report.as_bytes(), "at {lines}");
     }
     Ok(())
@@ -585,20 +684,20 @@ fn commands_of_every_form(rt: HostRuntime) -> Result<(), Fail> {
     let longest = format!(in alloc; "query CREATE DATABASE {NAME_OF_64}")?;
     let too_long = format!(in alloc; "query CREATE DATABASE {NAME_OF_64}m")?;
     // what is sent after the start, and the answers to it
-    let rows: [(&[u8], &str); 43] = [
+    let rows: [(&[u8], &str); 48] = [
         (b"", ""),
         (b"query CREATE DATABASE e", "4 other, "),
         (b"query CREATE DATABASE e\n", "4 other, "),
-        (b"query CREATE DATABASE d", "3 local, "),
+        (b"query CREATE DATABASE d", "4 other, "),
         (b"query CREATE DATABASE ", "3 local, "),
         (longest.as_bytes(), "4 other, "),
         (too_long.as_bytes(), "3 local, "),
         (b"query CREATE DATABASE select", "3 local, "),
         (b"query CREATE DATABASE SELECT", "3 local, "),
         (b"query CREATE DATABASE sELECT", "3 local, "),
-        (b"query CREATE DATABASE E", "3 local, "),
-        (b"query CREATE DATABASE e1", "3 local, "),
-        (b"query CREATE DATABASE e\x80", "3 local, "),
+        (b"query CREATE DATABASE E", "4 other, "),
+        (b"query CREATE DATABASE e1", "4 other, "),
+        (b"query CREATE DATABASE e\x80", "4 other, "),
         (b"query create database e", "4 other, "),
         (b"query CREATE DATABASE e;", "4 other, "),
         (b"query  CREATE DATABASE `e` ; ", "4 other, "),
@@ -608,7 +707,7 @@ fn commands_of_every_form(rt: HostRuntime) -> Result<(), Fail> {
             "4 other, ",
         ),
         (b"query CREATE TABLE u id BIGINT PRIMARY KEY", "3 local, "),
-        (b"query CREATE TABLE t (id BIGINT PRIMARY KEY)", "3 local, "),
+        (b"query CREATE TABLE t (id BIGINT PRIMARY KEY)", "4 other, "),
         (
             b"query CREATE TABLE u (key BIGINT PRIMARY KEY)",
             "3 local, ",
@@ -616,7 +715,7 @@ fn commands_of_every_form(rt: HostRuntime) -> Result<(), Fail> {
         (b"query INSERT INTO t VALUES(7)", "4 other, "),
         (b"query INSERT INTO t VALUES ( 7 )", "4 other, "),
         (b"query INSERT INTO t VALUES (007)", "4 other, "),
-        (b"query INSERT INTO t VALUES (-7)", "3 local, "),
+        (b"query INSERT INTO t VALUES (-7)", "4 other, "),
         (b"query INSERT INTO t VALUES ()", "3 local, "),
         (
             b"query INSERT INTO t VALUES (999999999999999999)",
@@ -624,12 +723,12 @@ fn commands_of_every_form(rt: HostRuntime) -> Result<(), Fail> {
         ),
         (
             b"query INSERT INTO t VALUES (1000000000000000000)",
-            "3 local, ",
+            "4 other, ",
         ),
-        (b"query INSERT INTO u VALUES (7)", "3 local, "),
+        (b"query INSERT INTO u VALUES (7)", "4 other, "),
         (
             b"query INSERT INTO t VALUES (7)\nquery INSERT INTO t VALUES (07)",
-            "4 other, 4 local, ",
+            "4 other, 5 other, ",
         ),
         (b"query SELECT id FROM t", "4 plain, "),
         (b"query SELECT   id FROM  t", "4 plain, "),
@@ -645,8 +744,25 @@ fn commands_of_every_form(rt: HostRuntime) -> Result<(), Fail> {
         (b"query SELECT id FROM t WHERE id = 7", "4 plain, "),
         (b"query ", "3 local, "),
         (b"query \xff\x80\0", "3 local, "),
-        (b"init e\nquery SELECT id FROM t", "3 local, 4 plain, "),
-        (b"init \ninit d", "3 local, 4 other, "),
+        (b"init e\nquery SELECT id FROM t", "4 other, 5 plain, "),
+        (b"init \ninit d", "4 other, 5 other, "),
+        (b"query USE e\nquery USE d", "4 other, 5 other, "),
+        (
+            b"query UPDATE t SET id = 1\nquery DELETE FROM t\nquery DELETE FROM t WHERE",
+            "4 other, 5 other, 5 local, ",
+        ),
+        (
+            b"query TRUNCATE t\nquery DROP TABLE t\nquery DROP TABLE t\nquery DROP DATABASE d",
+            "4 other, 5 other, 6 other, 7 other, ",
+        ),
+        (
+            b"query BEGIN\nquery SELECT id FROM t\nquery COMMIT\nquery START TRANSACTION\nquery ROLLBACK",
+            "4 other, 5 plain, 6 other, 7 other, 8 other, ",
+        ),
+        (
+            b"query SET autocommit = 0\nquery SET autocommit = 2\nquery SET NAMES utf8mb4\nquery SET x = 1",
+            "4 other, 5 other, 5 local, 5 local, ",
+        ),
     ];
     for (rest, want) in rows {
         let mut script = bytes(alloc, start.as_bytes())?;
@@ -658,6 +774,89 @@ fn commands_of_every_form(rt: HostRuntime) -> Result<(), Fail> {
             "at {rest:?}"
         );
     }
+    Ok(())
+}
+
+/// The reply to the last command of a script's last session.
+fn last_reply(rt: &HostRuntime, script: &[u8]) -> Result<Vec<u8>, Fail> {
+    let alloc = rt.alloc();
+    let (ended, _out) = run(rt, script)?;
+    let Some(report) = ended.report else {
+        return Err(Fail::new("no report"));
+    };
+    let mut last = Vec::new(alloc);
+    for session in report.sessions.items() {
+        for line in session.lines.items() {
+            last = bytes(alloc, line.reply.bytes())?;
+        }
+    }
+    Ok(last)
+}
+
+/// A byte, so many times.
+fn extend_by(text: &mut Vec<u8>, byte: u8, times: usize) -> Result<(), AllocError> {
+    text.resize(text.len().saturating_add(times), byte)
+}
+
+#[test]
+fn texts_of_every_length_form(rt: HostRuntime) -> Result<(), Fail> {
+    let alloc = rt.alloc();
+    let mut script = bytes(
+        alloc,
+        b"session 1\nquery CREATE DATABASE d\ninit d\nquery CREATE TABLE t (id BIGINT PRIMARY KEY, v VARCHAR(65535))\n",
+    )?;
+    script.extend_from_slice(b"query INSERT INTO t VALUES (1, '")?;
+    extend_by(&mut script, b'a', 250)?;
+    script.extend_from_slice(b"'), (2, '")?;
+    extend_by(&mut script, b'b', 251)?;
+    script.extend_from_slice(b"'), (3, '")?;
+    extend_by(&mut script, b'c', 65_535)?;
+    script.extend_from_slice(b"'), (4, ''), (5, NULL)\nquery SELECT v FROM t\n")?;
+    let mut wanted = bytes(
+        alloc,
+        b"\x01\x00\x00\x01\x01\x1b\x00\x00\x02\x03def\x01d\x01t\x01t\x01v\x01v\x0c\x21\x00\xff\xff\x00\x00\xfd\x00\x00\x00\x00\x00\x05\x00\x00\x03\xfe\x00\x00\x02\x00",
+    )?;
+    wanted.extend_from_slice(b"\xfb\x00\x00\x04\xfa")?;
+    extend_by(&mut wanted, b'a', 250)?;
+    wanted.extend_from_slice(b"\xfe\x00\x00\x05\xfc\xfb\x00")?;
+    extend_by(&mut wanted, b'b', 251)?;
+    wanted.extend_from_slice(b"\x02\x00\x01\x06\xfc\xff\xff")?;
+    extend_by(&mut wanted, b'c', 65_535)?;
+    wanted.extend_from_slice(b"\x01\x00\x00\x07\x00\x01\x00\x00\x08\xfb")?;
+    wanted.extend_from_slice(b"\x05\x00\x00\x09\xfe\x00\x00\x02\x00")?;
+    let reply = last_reply(&rt, &script)?;
+    assert_eq!(rt; reply.as_slice(), wanted.as_slice());
+    Ok(())
+}
+
+#[test]
+fn sequence_numbers_go_round(rt: HostRuntime) -> Result<(), Fail> {
+    let alloc = rt.alloc();
+    let mut script = bytes(
+        alloc,
+        b"session 1\nquery CREATE DATABASE d\ninit d\nquery CREATE TABLE t (id BIGINT PRIMARY KEY)\nquery INSERT INTO t VALUES ",
+    )?;
+    let mut wanted = bytes(
+        alloc,
+        b"\x01\x00\x00\x01\x01\x1d\x00\x00\x02\x03def\x01d\x01t\x01t\x02id\x02id\x0c\x3f\x00\x14\x00\x00\x00\x08\x03\x00\x00\x00\x00\x05\x00\x00\x03\xfe\x00\x00\x02\x00",
+    )?;
+    // The first row's packet has the number 4, the 252nd 255 and the 253rd 0.
+    let mut sequence = 4u8;
+    for number in 0..300u32 {
+        let comma = if number > 0 { ", " } else { "" };
+        script.extend_from_slice(format!(in alloc; "{comma}({number})")?.as_bytes())?;
+        let digits = format!(in alloc; "{number}")?;
+        let Ok(long) = u8::try_from(digits.len()) else {
+            return Err(Fail::new("too many digits"));
+        };
+        wanted.extend_from_slice(&[long.wrapping_add(1), 0, 0, sequence, long])?;
+        wanted.extend_from_slice(digits.as_bytes())?;
+        sequence = sequence.wrapping_add(1);
+    }
+    script.extend_from_slice(b"\nquery SELECT id FROM t\n")?;
+    wanted.extend_from_slice(b"\x05\x00\x00\x30\xfe\x00\x00\x02\x00")?;
+    let reply = last_reply(&rt, &script)?;
+    assert_eq!(rt; reply.as_slice(), wanted.as_slice());
     Ok(())
 }
 

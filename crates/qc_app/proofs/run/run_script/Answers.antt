@@ -3,8 +3,7 @@ use Rattle.qc_types.specs.declared.options.Options.{Options}
 use Rattle.qc_model.specs.Agrees.{Agrees}
 use Rattle.qc_script.specs.ShortNames.{HasShortNames}
 use Rattle.qc_app.specs.Ran.{IsReportOf}
-use Rattle.qc_app.specs.Stage.{first_machine}
-use Rattle.qc_app.specs.Words.{without_cache}
+use Rattle.qc_single.specs.Stage.{first_machine, without_cache}
 use Rattle.qc_app.proofs.Reports.{the_script, run_agrees, run_names, if_ok}
 use Rattle.qc_app.proofs.run.run_script.Goals as goal
 

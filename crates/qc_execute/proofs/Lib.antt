@@ -1,4 +1,0 @@
-pub mod Changes
-pub mod Fits
-pub mod Keys
-pub mod Trees

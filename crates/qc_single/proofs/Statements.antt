@@ -1,0 +1,143 @@
+-- What each statement executes.
+use Rattle.std.proofs.Common.{◌≡◌, ℕ, ◌+◌, true, false, List, [], ◌∷◌, length, refl, sym, ap, ◌∙◌, subst, None, Some, Ok, Err, Result, true≢false, arith}
+use Rattle.std.specs.Prelude.{◌==◌, MatchResult, nat_lt, option_map}
+use Rattle.std.proofs.lemmas.Bool.Decides.{nat_tests}
+use Rattle.qc_types.specs.declared.sql_error.SqlError.{SqlError}
+use Rattle.qc_sql.specs.declared.commands.Command.TheVariants as command
+use Rattle.qc_sql.specs.declared.statements.Select.{Select}
+use Rattle.qc_sql.specs.declared.statements.Setting.{Setting}
+use Rattle.qc_sql.specs.declared.statements.Statement.{Statement}
+use Rattle.qc_sql.specs.declared.statements.Statement.TheVariants as statement
+use Rattle.qc_sql.specs.Database.{Name}
+use Rattle.qc_sql.specs.Rows.{Rows, rows}
+use Rattle.qc_model.specs.declared.events.How.TheVariants as how
+use Rattle.qc_model.specs.Journal.{Journal}
+use Rattle.qc_model.specs.Session.{State, arrived, base, flags_of, opened, snapshot_taken, with_transaction}
+use Rattle.qc_model.specs.Choice.{Allows}
+use Rattle.qc_model.specs.Settings.{set_to, is_autocommit}
+use Rattle.qc_model.specs.Machine.{Given, begun, changed_form, ended_with, ok_reply, other, refused, set_autocommit, used}
+use Rattle.qc_answer.specs.Answers.{error_code}
+use Rattle.qc_fits.specs.Sound.{changes_tables}
+use Rattle.qc_trx.specs.Standings.{Standing}
+use Rattle.qc_single.specs.declared.session.Session.{Session}
+use Rattle.qc_single.specs.Stage.{changes_rows, without_cache}
+use Rattle.qc_single.specs.Sound.{next_who, reason_of}
+use Rattle.qc_single.specs.Going.{Arrives, IsFit, GivesOut, TellsOut, SetsOther, DoesOne, DoesStatement, select_given, rows_given}
+use Rattle.qc_single.proofs.Methods.{does_given, statement_given, statement_told}
+
+-- ---- what has arrived
+
+-- the same from where the session stood before
+behind : (old mid new : Session) (given : Journal → State → Given) (a : State) → mid.journal ≡ old.journal → mid.lines ≡ old.lines → mid.state.state ≡ a
+    → GivesOut mid new (given mid.journal.events mid.state.state) → GivesOut old new (given old.journal.events a)
+behind old mid new given a journal lines state out = record {
+  events = rw (← journal, ← state) out.events;
+  lines = rw (← journal, ← lines, ← state) out.lines;
+  state = rw (← journal, ← state) out.state;
+  fit = out.fit;
+}
+
+-- ---- SELECT
+
+allowed : (J : Journal) (state : State) (text : List ℕ) (s : Select) (r : Result Rows SqlError) → rows s (base state J) state.db (flags_of state) state.session ≡ r
+    → Allows without_cache state text s J (how.Plain (reason_of (error_code r)))
+allowed J state text s (Ok x) e = rw e refl
+allowed J state text s (Err x) e = rw e refl
+
+pub select_does : (s : Select) (old mid new : Session) → IsFit old → mid.journal ≡ old.journal → mid.lines ≡ old.lines
+    → mid.state.state ≡ arrived (length old.journal.events + 1) (statement.Select s) old.state.state → GivesOut mid new (select_given mid.journal.events mid.state.state s) → DoesStatement (statement.Select s) old new
+select_does s old mid new fit journal lines state out =
+    let J = old.journal.events in
+    let a : State = arrived (length J + 1) (statement.Select s) old.state.state in
+    let r = rows s (base a J) a.db (flags_of a) a.session in
+    statement_given (statement.Select s) old new (select_given J a s) fit refl refl
+    (λ text. record { chosen = (how.Plain (reason_of (error_code r)), refl, allowed J a text s r refl); answered = refl; same = refl })
+    (behind old mid new (λ j x. select_given j x s) a journal lines state out)
+
+-- ---- INSERT, UPDATE and DELETE
+
+pub rows_does : (s : Statement) (old mid new : Session) → changes_rows s ≡ true → IsFit old → mid.journal ≡ old.journal → mid.lines ≡ old.lines
+    → mid.state.state ≡ arrived (length old.journal.events + 1) s old.state.state → GivesOut mid new (rows_given mid.journal.events mid.state.state s) → DoesStatement s old new
+rows_does (statement.Insert i) old mid new is fit journal lines state out =
+    let s = statement.Insert i in
+    let a : State = arrived (length old.journal.events + 1) s old.state.state in
+    statement_given s old new (rows_given old.journal.events a s) fit refl refl (λ text. (refl, refl, refl)) (behind old mid new (λ j x. rows_given j x s) a journal lines state out)
+rows_does (statement.Update u) old mid new is fit journal lines state out =
+    let s = statement.Update u in
+    let a : State = arrived (length old.journal.events + 1) s old.state.state in
+    statement_given s old new (rows_given old.journal.events a s) fit refl refl (λ text. (refl, refl, refl)) (behind old mid new (λ j x. rows_given j x s) a journal lines state out)
+rows_does (statement.Delete d) old mid new is fit journal lines state out =
+    let s = statement.Delete d in
+    let a : State = arrived (length old.journal.events + 1) s old.state.state in
+    statement_given s old new (rows_given old.journal.events a s) fit refl refl (λ text. (refl, refl, refl)) (behind old mid new (λ j x. rows_given j x s) a journal lines state out)
+rows_does s old mid new is fit journal lines state out = absurd (true≢false (sym is))
+
+-- ---- the others
+
+pub forms_does : (s : Statement) (old new : Session) → changes_tables s ≡ true → IsFit old
+    → GivesOut old new (changed_form (next_who old.journal.events) old.state.state old.journal.events s) → DoesStatement s old new
+forms_does (statement.Truncate t) old new is fit out = statement_given (statement.Truncate t) old new _ fit refl refl (λ text. (refl, refl, refl)) out
+forms_does (statement.CreateTable t parts) old new is fit out = statement_given (statement.CreateTable t parts) old new _ fit refl refl (λ text. (refl, refl, refl)) out
+forms_does (statement.DropTable t) old new is fit out = statement_given (statement.DropTable t) old new _ fit refl refl (λ text. (refl, refl, refl)) out
+forms_does (statement.CreateDb name) old new is fit out = statement_given (statement.CreateDb name) old new _ fit refl refl (λ text. (refl, refl, refl)) out
+forms_does (statement.DropDb name) old new is fit out = statement_given (statement.DropDb name) old new _ fit refl refl (λ text. (refl, refl, refl)) out
+forms_does s old new is fit out = absurd (true≢false (sym is))
+
+pub use_does : (name : Name) (old new : Session) → IsFit old → GivesOut old new (used (next_who old.journal.events) old.state.state old.journal.events name) → DoesStatement (statement.UseDb name) old new
+use_does name old new fit out = statement_given (statement.UseDb name) old new _ fit refl refl (λ text. (refl, refl, refl)) out
+
+pub choose_does : (name : Name) (old new : Session) → IsFit old → GivesOut old new (used (next_who old.journal.events) old.state.state old.journal.events name) → DoesOne (command.InitDb name) old new
+choose_does name old new fit out = does_given (command.InitDb name) old new _ fit refl refl (refl, refl, refl) out
+
+pub begin_does : (old new : Session) → IsFit old → GivesOut old new (ended_with (next_who old.journal.events) old.state.state old.journal.events (begun old.state.state)) → DoesStatement statement.Begin old new
+begin_does old new fit out = statement_given statement.Begin old new _ fit refl refl (λ text. (refl, refl, refl)) out
+
+pub commit_does : (old new : Session) → IsFit old → GivesOut old new (ended_with (next_who old.journal.events) old.state.state old.journal.events (with_transaction old.state.state None)) → DoesStatement statement.Commit old new
+commit_does old new fit out = statement_given statement.Commit old new _ fit refl refl (λ text. (refl, refl, refl)) out
+
+pub rollback_does : (old new : Session) → IsFit old → GivesOut old new (other (next_who old.journal.events) (with_transaction old.state.state None) (ok_reply (with_transaction old.state.state None) 0)) → DoesStatement statement.Rollback old new
+rollback_does old new fit out = statement_given statement.Rollback old new _ fit refl refl (λ text. (refl, refl, refl)) out
+
+-- ---- SET
+
+pub autocommit_does : (x : Setting) (old new : Session) → IsFit old → is_autocommit x ≡ true
+    → GivesOut old new (set_autocommit (next_who old.journal.events) old.state.state old.journal.events (set_to old.state.state x)) → DoesStatement (statement.Set x) old new
+autocommit_does x old new fit is out = statement_given (statement.Set x) old new _ fit refl (rw is refl) (λ text. (is, (refl, refl, refl))) out
+
+set_told : (x : Setting) (old new : Session) (r : Result State SqlError) → is_autocommit x ≡ false → set_to old.state.state x ≡ r
+    → MatchResult r (λ next. TellsOut old new (ok_reply next 0) next) (λ e. TellsOut old new (refused e) old.state.state) → DoesStatement (statement.Set x) old new
+set_told x old new (Ok next) is e out = statement_told (statement.Set x) old new (ok_reply next 0) next refl (rw (is, e) refl) out
+set_told x old new (Err error) is e out = statement_told (statement.Set x) old new (refused error) old.state.state refl (rw (is, e) refl) out
+
+pub set_does : (x : Setting) (old new : Session) → is_autocommit x ≡ false → SetsOther x old new → DoesStatement (statement.Set x) old new
+set_does x old new is out = set_told x old new (set_to old.state.state x) is refl out
+
+-- ---- a select that names tables arrives, and another doesn't
+
+pub arrived_select : (s : Select) (old mid new : Session) → IsFit old → nat_lt 0 (length s.from) ≡ true → Arrives old mid → GivesOut mid new (select_given mid.journal.events mid.state.state s) → DoesStatement (statement.Select s) old new
+arrived_select s old mid new fit some a out =
+    let place = length old.journal.events + 1 in
+    let st = old.state.state in
+    let is : arrived place (statement.Select s) st ≡ with_transaction st (option_map (snapshot_taken place) (opened st)) = rw some refl in
+    select_does s old mid new fit a.journal a.lines (ap (λ (x : Standing). x.state) a.state ∙ sym is) out
+
+pub plain_select : (s : Select) (old new : Session) → IsFit old → nat_lt 0 (length s.from) ≡ false → GivesOut old new (select_given old.journal.events old.state.state s) → DoesStatement (statement.Select s) old new
+plain_select s old new fit none out =
+    let st = old.state.state in
+    let is : arrived (length old.journal.events + 1) (statement.Select s) st ≡ st = rw none refl in
+    select_does s old old new fit refl refl (sym is) out
+
+-- a statement that changes rows arrives
+pub arrived_rows : (s : Statement) (old mid new : Session) → IsFit old → changes_rows s ≡ true → Arrives old mid → GivesOut mid new (rows_given mid.journal.events mid.state.state s) → DoesStatement s old new
+arrived_rows (statement.Insert i) old mid new fit is a out = rows_does (statement.Insert i) old mid new is fit a.journal a.lines (ap (λ (x : Standing). x.state) a.state) out
+arrived_rows (statement.Update u) old mid new fit is a out = rows_does (statement.Update u) old mid new is fit a.journal a.lines (ap (λ (x : Standing). x.state) a.state) out
+arrived_rows (statement.Delete d) old mid new fit is a out = rows_does (statement.Delete d) old mid new is fit a.journal a.lines (ap (λ (x : Standing). x.state) a.state) out
+arrived_rows s old mid new fit is a out = absurd (true≢false (sym is))
+
+-- ---- a list is empty, or isn't
+
+pub some_there : (n : ℕ) → (n == 0) ≡ false → nat_lt 0 n ≡ true
+some_there n h = grind (arith, nat_tests)
+
+pub none_there : (n : ℕ) → (n == 0) ≡ true → nat_lt 0 n ≡ false
+none_there n h = grind (arith, nat_tests)

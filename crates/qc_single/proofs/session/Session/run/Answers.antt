@@ -1,0 +1,5 @@
+use Rattle.qc_single.proofs.Methods.{on_ok, fit_run}
+use Rattle.qc_single.proofs.session.Session.run.Goals as goal
+
+pub returns : goal.returns
+returns c = on_ok c.log.result (fit_run c.args.self.now c.log.new.self c.args.how c.args.reply c.requires.fit c.requires.simple c.requires.may) (rw c.next_who-who.ensures at c.log.ensures)

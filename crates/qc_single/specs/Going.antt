@@ -1,0 +1,129 @@
+-- What a session's methods do.
+use Rattle.std.specs.Prelude.{◌≡◌, ℕ, ◌+◌, codes, List, [], ◌∷◌, ◌++◌, length, None, Result, Ok, Err, MatchResult}
+use Rattle.qc_types.specs.declared.text.Text.{Text}
+use Rattle.qc_sql.specs.declared.commands.Command.{Command}
+use Rattle.qc_sql.specs.declared.commands.Command.TheVariants as command
+use Rattle.qc_sql.specs.declared.statements.Statement.{Statement}
+use Rattle.qc_sql.specs.Grammar.{meaning, trimmed}
+use Rattle.qc_model.specs.declared.events.Event.{Event}
+use Rattle.qc_model.specs.declared.reports.ReportLine.{ReportLine}
+use Rattle.qc_model.specs.declared.reports.Word.TheVariants as word
+use Rattle.qc_sql.specs.declared.replies.Reply.{Reply}
+use Rattle.qc_sql.specs.declared.statements.Select.{Select}
+use Rattle.qc_sql.specs.Rows.{rows}
+use Rattle.qc_sql.specs.Effects.{Effect, effect}
+use Rattle.qc_model.specs.declared.events.Event.TheVariants as event
+use Rattle.qc_model.specs.declared.events.How.TheVariants as how
+use Rattle.qc_model.specs.Journal.{Journal}
+use Rattle.qc_model.specs.Machine.{Given, changed_rows, refused, ok_reply}
+use Rattle.qc_model.specs.Settings.{set_to}
+use Rattle.qc_sql.specs.Errors.{not_supported}
+use Rattle.qc_sql.specs.declared.statements.Setting.{Setting}
+use Rattle.qc_sql.specs.declared.tables.RowOp.{RowOp}
+use Rattle.qc_types.specs.declared.sql_error.SqlError.{SqlError}
+use Rattle.qc_answer.specs.Answers.{error_code}
+use Rattle.qc_model.specs.Session.{State, starting, base, flags_of, select_reply, with_transaction}
+use Rattle.qc_model.specs.Agrees.{line, word_of}
+use Rattle.qc_sessions.specs.Runs.{Stand, stand, Answers, Runs}
+use Rattle.qc_single.specs.declared.session.Session.{Session}
+use Rattle.qc_single.specs.Stage.{first_machine, without_cache}
+use Rattle.qc_single.specs.Sound.{only_session, next_who, reason_of, IsSound, IsFitState, arrived_standing}
+
+-- where the session stands
+abbrev pub stand_of : Session → Stand
+stand_of s = stand s.journal.events s.state.state (length s.journal.events)
+
+-- where it begins
+abbrev pub begun : Stand
+begun = stand [] (starting only_session 1) 0
+
+-- what holds between two commands
+pub record IsFit (s : Session) : Type 0 where
+  pub sound : IsSound s.journal.events s.database
+  pub state : IsFitState s.journal.events s.state
+
+-- an event more, with a line at its place; nothing else changes
+pub record Adds (old new : Session) (e : Event) (reply : Text) : Type 0 where
+  pub events : new.journal.events ≡ old.journal.events ++ e ∷ []
+  pub lines : new.lines ≡ old.lines ++ record { place = length old.journal.events + 1; how = word_of e; reply = reply } ∷ []
+  pub database : new.database ≡ old.database
+  pub state : new.state ≡ old.state
+
+-- the same, with what the event commits, and the session is fit for its next command
+pub record Logs (old new : Session) (e : Event) (reply : Text) : Type 0 where
+  pub events : new.journal.events ≡ old.journal.events ++ e ∷ []
+  pub lines : new.lines ≡ old.lines ++ record { place = length old.journal.events + 1; how = word_of e; reply = reply } ∷ []
+  pub state : new.state ≡ old.state
+  pub fit : IsFit new
+
+-- a line more, at the place of the last event; nothing else changes
+pub record Tells (old new : Session) (reply : Text) : Type 0 where
+  pub events : new.journal.events ≡ old.journal.events
+  pub lines : new.lines ≡ old.lines ++ record { place = length old.journal.events; how = word.Local; reply = reply } ∷ []
+  pub database : new.database ≡ old.database
+  pub state : new.state ≡ old.state
+
+-- a statement on rows has arrived
+pub record Arrives (old new : Session) : Type 0 where
+  pub journal : new.journal ≡ old.journal
+  pub lines : new.lines ≡ old.lines
+  pub database : new.database ≡ old.database
+  pub state : new.state ≡ arrived_standing (length old.journal.events + 1) old.database old.state
+
+-- a command's event with its line, what it commits, and the session's next state
+pub record GivesOut (old new : Session) (g : Given) : Type 0 where
+  pub events : new.journal.events ≡ old.journal.events ++ g.event ∷ []
+  pub lines : new.lines ≡ old.lines ++ line (length old.journal.events + 1) (word_of g.event) g.reply ∷ []
+  pub state : new.state.state ≡ g.next
+  pub fit : IsFit new
+
+-- a reply without an event, and the session's next state
+pub record TellsOut (old new : Session) (reply : Reply) (next : State) : Type 0 where
+  pub events : new.journal.events ≡ old.journal.events
+  pub lines : new.lines ≡ old.lines ++ line (length old.journal.events) word.Local reply ∷ []
+  pub state : new.state.state ≡ next
+  pub fit : IsFit new
+
+-- ---- what commands give
+
+-- a select in the state in which it is judged
+abbrev pub select_given : Journal → State → Select → Given
+select_given journal state s =
+    let r = rows s (base state journal) state.db (flags_of state) state.session in
+    record { event = event.Run (next_who journal) (how.Plain (reason_of (error_code r))); reply = select_reply (flags_of state) r; next = state }
+
+-- a statement that changes rows, in the state in which it is judged
+abbrev pub rows_given : Journal → State → Statement → Given
+rows_given journal state s = changed_rows (next_who journal) state (effect s (base state journal) state.db state.session)
+
+-- a statement that changes tables or databases, behind these operations of the transaction that it ends
+abbrev pub forms_given : Journal → State → List RowOp → Result Effect SqlError → Given
+forms_given journal state own (Err e) = record { event = event.Run (next_who journal) how.Other; reply = refused e; next = state }
+forms_given journal state own (Ok x) = record {
+  event = event.Commit (next_who journal) (own ++ x.operations);
+  reply = ok_reply (with_transaction state None) x.affected;
+  next = with_transaction state None;
+}
+
+abbrev pub form_refusal : Reply
+form_refusal = refused (not_supported (codes "form"))
+
+-- a variable without event was set, or not
+abbrev pub SetsOther : Setting → Session → Session → Type 0
+SetsOther setting old new = MatchResult (set_to old.state.state setting) (λ next. TellsOut old new (ok_reply next 0) next) (λ e. TellsOut old new (refused e) old.state.state)
+
+-- one command was answered
+pub record DoesOne (c : Command) (old new : Session) : Type 0 where
+  pub answered : ReportLine
+  pub answers : Answers first_machine without_cache only_session (stand_of old) c answered (stand_of new)
+  pub lines : new.lines ≡ old.lines ++ answered ∷ []
+  pub fit : IsFit new
+
+-- a query of a text that means this statement was answered
+abbrev pub DoesStatement : Statement → Session → Session → Type 0
+DoesStatement s old new = (text : List ℕ) → meaning (trimmed text) old.state.state.ansi ≡ Ok s → DoesOne (command.Query text) old new
+
+-- the session has taken these commands
+pub record HasTaken (cs : List Command) (s : Session) : Type 0 where
+  pub runs : Runs first_machine without_cache only_session begun cs s.lines (stand_of s)
+  pub fit : IsFit s

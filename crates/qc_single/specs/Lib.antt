@@ -1,0 +1,5 @@
+pub mod Stage
+pub mod Sound
+pub mod Ends
+pub mod Going
+pub mod Told

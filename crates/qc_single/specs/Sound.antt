@@ -1,0 +1,127 @@
+-- What stays true of a session that runs by itself, between two of its commands.
+use Rattle.std.specs.Prelude.{◌≡◌, ◌==◌, ◌≤◌, ◌+◌, ◌++◌, ℕ, Bool, true, false, ◌&&◌, List, [], ◌∷◌, length, Option, Some, None}
+use Rattle.std.specs.List.{list_all}
+use Rattle.qc_sql.specs.declared.tables.RowOp.{RowOp}
+use Rattle.qc_sql.specs.declared.tables.RowOp.TheVariants as op
+use Rattle.qc_sql.specs.Database.{Name, MapOf, Table, Tables, Database, apply}
+use Rattle.qc_model.specs.declared.events.Event.{Event}
+use Rattle.qc_model.specs.declared.events.Event.TheVariants as event
+use Rattle.qc_model.specs.declared.events.How.TheVariants as how
+use Rattle.qc_model.specs.declared.events.Reason.{Reason}
+use Rattle.qc_model.specs.declared.events.Reason.TheVariants as reason
+use Rattle.qc_model.specs.declared.events.Who.{Who}
+use Rattle.qc_model.specs.Agrees.{who_of}
+use Rattle.qc_model.specs.Journal.{Journal, present, before}
+use Rattle.qc_model.specs.Session.{State, Transaction}
+use Rattle.qc_model.specs.Licence.{IsLawful, ops_fit, is_within_rows}
+use Rattle.qc_bounds.specs.Names.{is_short}
+use Rattle.qc_bounds.specs.Replies.{is_bounded_database, is_bounded_operation}
+use Rattle.qc_fits.specs.Sound.{IsSoundDatabase, IsNoChangeAt, is_row_op}
+use Rattle.qc_trx.specs.Standings.{Standing, after_arrival, after_sight}
+use Rattle.qc_single.specs.Stage.{without_cache}
+
+-- the number of the one session
+abbrev pub only_session : ℕ
+only_session = 1
+
+-- the session, and the number of its next event
+abbrev pub next_who : Journal → Who
+next_who journal = who_of only_session (length journal + 1)
+
+-- ---- its events
+
+-- a database or a table that an operation makes has a short name
+abbrev pub makes_short_name : RowOp → Bool
+makes_short_name (op.CreateDb name) = is_short name
+makes_short_name (op.CreateTable t columns) = is_short t.name
+makes_short_name _ = true
+
+-- what an operation stores is bounded, and so are the names that it makes
+abbrev pub is_small_operation : RowOp → Bool
+is_small_operation o = is_bounded_operation o && makes_short_name o
+
+-- a commit of such operations, or a run outside the cache, of this session
+abbrev pub is_simple : Event → Bool
+is_simple (event.Commit who ops) = (who.session == only_session) && list_all is_small_operation ops
+is_simple (event.Run who how.Other) = who.session == only_session
+is_simple (event.Run who (how.Plain reason.Off)) = who.session == only_session
+is_simple (event.Run who (how.Plain (reason.Error code))) = who.session == only_session
+is_simple (event.Run who (how.Conflict table key by)) = who.session == only_session
+is_simple _ = false
+
+-- ---- its database
+
+-- short names, each of something that passes a test
+abbrev pub are_named : {X : Type 0} → (X → Bool) → MapOf Name X → Bool
+are_named test m = list_all (λ entry. is_short entry.0 && test entry.1) m
+
+abbrev pub have_short_names : Tables → Bool
+have_short_names ts = are_named {X = Table} (λ table. true) ts
+
+-- the names of the databases are short, and those of their tables
+abbrev pub are_short : Database → Bool
+are_short d = are_named have_short_names d
+
+pub record IsOrderly (d : Database) : Type 0 where
+  pub sound : IsSoundDatabase d
+  pub within : is_within_rows d ≡ true
+  pub bounded : is_bounded_database d ≡ true
+  pub short : are_short d ≡ true
+
+-- the journal is lawful, and the database is the one that it makes
+pub record IsSound (journal : Journal) (d : Database) : Type 0 where
+  pub simple : list_all is_simple journal ≡ true
+  pub lawful : IsLawful without_cache journal
+  pub database : d ≡ present journal
+  pub orderly : IsOrderly d
+
+-- ---- its transaction
+
+-- operations that may be carried out on a database
+pub record MayFollow (ops : List RowOp) (d : Database) : Type 0 where
+  pub small : list_all is_small_operation ops ≡ true
+  pub fit : ops_fit ops d ≡ true
+  pub within : is_within_rows (apply ops d) ≡ true
+
+-- operations on rows that may
+pub record AreOwn (ops : List RowOp) (d : Database) : Type 0 where
+  pub rows : list_all is_row_op ops ≡ true
+  pub follow : MayFollow ops d
+
+-- its snapshot is a place of the journal or the next one, where nothing is committed; the database there, and its own operations
+pub record HasSnapshot (journal : Journal) (place : ℕ) (origin : Option Database) (ops : List RowOp) : Type 0 where
+  pub least : 1 ≤ place
+  pub most : place ≤ length journal + 1
+  pub quiet : IsNoChangeAt place journal
+  pub is : origin ≡ Some (present (before place journal))
+  pub own : AreOwn ops (present (before place journal))
+
+-- before it has a snapshot it has no operations
+abbrev pub IsFitAt : Journal → Option Database → Option ℕ → List RowOp → Type 0
+IsFitAt journal origin None own = (origin ≡ None) × (own ≡ [])
+IsFitAt journal origin (Some place) own = HasSnapshot journal place origin own
+
+abbrev pub IsFitTransaction : Journal → Option Database → Transaction → Type 0
+IsFitTransaction journal origin t = IsFitAt journal origin t.snapshot t.operations
+
+abbrev pub IsFitIn : Journal → Option Database → Option Transaction → Type 0
+IsFitIn journal origin None = origin ≡ None
+IsFitIn journal origin (Some t) = IsFitTransaction journal origin t
+
+pub record IsFitState (journal : Journal) (x : Standing) : Type 0 where
+  pub session : x.state.session ≡ only_session
+  pub db : is_short x.state.db ≡ true
+  pub transaction : IsFitIn journal x.origin x.state.transaction
+
+-- ---- what it writes
+
+-- why a select has a plain run: the code of the error that refuses it, or there is no cache
+abbrev pub reason_of : Option ℕ → Reason
+reason_of None = reason.Off
+reason_of (Some code) = reason.Error code
+
+-- ---- what arrives
+
+-- a statement on rows has arrived at this place, on this database: where a transaction is open, or opens by itself, it has a snapshot now
+abbrev pub arrived_standing : ℕ → Database → Standing → Standing
+arrived_standing place now x = after_sight place now (after_arrival x)

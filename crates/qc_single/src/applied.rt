@@ -1,0 +1,24 @@
+//! Operations that are carried out on a database which has room for what they make.
+
+ghost use Rattle.std.specs.Prelude.{◌≡◌, true, IfOk};
+ghost use Rattle.qc_sql.specs.Database.{apply};
+ghost use Rattle.qc_model.specs.Licence.{is_within_rows, ops_fit};
+
+use qc_sql::tables::Ops;
+use qc_table::Database;
+use qc_types::{NoMemory, Or};
+use std::alloc::Global;
+
+/// What operations make of a database, the first of them first, where no table has too many rows then. The database stays as it is. The one error
+/// is want of memory. Costs k log k for k operations and tables, and what the tables hold that are touched.
+pub(crate) fn applied(alloc: Global, database: &Database, ops: &Ops) -> Result<Database, NoMemory>
+    requires fit { ops_fit ops.now database.now ≡ true }
+    requires within { is_within_rows (apply ops.now database.now) ≡ true }
+    ensures { IfOk result (λ d. d ≡ apply ops.now database.now) }
+{
+    match database.apply(alloc, ops) {
+        Ok(next) => Ok(next),
+        Err(Or::Memory) => Err(NoMemory),
+        Err(Or::Other(_)) => unreachable!(),
+    }
+}

@@ -1,0 +1,277 @@
+//! Scripts of one session, each statement with its answer and the event that it leaves, worked out by hand.
+//!
+//! A text is a statement, but for three:
+//!
+//! ```text
+//! init NAME        COM_INIT_DB
+//! ping             COM_PING
+//! empty            a command of no bytes
+//! ```
+//!
+//! An answer is spelled in one of these ways. A status is 1 in a transaction, and 2 more with autocommit:
+//!
+//! ```text
+//! ok 2 status 3                      affected rows and status
+//! error 1062 Duplicate entry: 7      code and message
+//! rows 7,NULL;8,abc status 2         the rows of a result set, and its status
+//! no rows status 2                   a result set without rows
+//! ```
+//!
+//! And an event in one of these:
+//!
+//! ```text
+//! -                                  none
+//! other                              a command that is no SELECT and changed no data
+//! plain off                          a SELECT, and there is no cache
+//! plain error 1146                   a SELECT that was refused
+//! commit put d.t 7,abc; del d.t 8    operations, in their order
+//! ```
+//!
+//! The other operations are `create d.t id BIGINT key, v VARCHAR(10), w BIGINT not null`, `drop d.t`, `createdb d` and `dropdb d`.
+//! A line of the session that has another place or word than its event says is an error too, and so is an event of another session or number.
+
+mod autocommit;
+mod definitions;
+mod deletes;
+mod inserts;
+mod settings;
+mod show;
+mod texts;
+mod transactions;
+mod updates;
+
+ghost use Rattle.std.specs.Prelude.{◌≡◌, ◌<◌, ◌≤◌, length, IfOk, OnOk};
+ghost use Rattle.qc_sql.specs.Commands.{command_payload};
+ghost use Rattle.qc_sql.specs.Packets.{most_payload};
+ghost use Rattle.qc_single.specs.Going.{IsFit};
+
+use crate::Session;
+use qc_sql::commands::Command;
+use qc_types::{NoMemory, Steps, Text};
+use show::{Before, put_answer, put_event};
+use std::alloc::Global;
+use std::marker::Brand;
+use std::sync::ledger::{Blank, Ledger};
+use std::test::Fail;
+
+/// A text, its answer and the event that it leaves.
+pub struct Step {
+    pub text: &'static str,
+    pub answer: &'static str,
+    pub event: &'static str,
+}
+
+/// A session, and three lines for each text that it answered otherwise than it should.
+#[derive(Drop)]
+struct Run {
+    alloc: Global,
+    session: Session,
+    lines: String,
+}
+
+impl Run {
+    fn new(alloc: Global) -> Result<Run, NoMemory>
+        ensures { IfOk result (λ run. IsFit run.session) }
+    {
+        Ok(Run {
+            alloc,
+            session: Session::new(alloc)?,
+            lines: String::new(alloc),
+        })
+    }
+
+    /// Gives a text to the session, and puts down what it answers and leaves where that isn't what is wanted.
+    fn take<L: Ledger>(&mut self, step: &Step, steps: &mut Steps<L>) -> Result<(), Fail>
+        requires { IsFit self.old.session }
+        ensures { OnOk result (IsFit self.new.session) }
+    {
+        let before = Before::of(&self.session);
+        let command = command_of(self.alloc, step.text)?;
+        self.session.execute(self.alloc, &command, steps)?;
+        let found = found_in(self.alloc, &self.session, before)?;
+        let wanted = wanted_by(self.alloc, step)?;
+        if found.as_slice() != wanted.as_slice() {
+            let lines = difference(self.alloc, step.text, found.as_slice(), wanted.as_slice())?;
+            self.lines.push_str(&lines)?;
+        }
+        Ok(())
+    }
+}
+
+/// The command that a text means.
+fn command_of(alloc: Global, text: &str) -> Result<Command, Fail>
+    ensures { IfOk result (λ command. length (command_payload command) ≤ most_payload) }
+{
+    if text == "ping" {
+        return Ok(Command::Ping);
+    }
+    if text == "empty" {
+        return Ok(Command::Empty);
+    }
+    match text.strip_prefix("init ") {
+        Some(name) => Ok(Command::InitDb(short(alloc, name)?)),
+        None => Ok(Command::Query(short(alloc, text)?)),
+    }
+}
+
+/// A text of no more than 10,000 bytes.
+fn short(alloc: Global, text: &str) -> Result<Text, Fail>
+    ensures { IfOk result (λ t. length t ≤ 10000) }
+{
+    let bytes = text.as_bytes();
+    if bytes.len() > 10_000 {
+        return Err(Fail::from("a text is too long"));
+    }
+    Ok(Text::of(alloc, bytes)?)
+}
+
+/// What a session answered and left since then.
+fn found_in(alloc: Global, session: &Session, before: Before) -> Result<Vec<u8>, NoMemory> {
+    let mut found = Vec::new(alloc);
+    put_answer(alloc, session, before, &mut found)?;
+    found.extend_from_slice(b" | ")?;
+    put_event(alloc, session, before, &mut found)?;
+    Ok(found)
+}
+
+/// What it should have.
+fn wanted_by(alloc: Global, step: &Step) -> Result<Vec<u8>, NoMemory> {
+    let mut wanted = Vec::from_slice(alloc, step.answer.as_bytes())?;
+    wanted.extend_from_slice(b" | ")?;
+    wanted.extend_from_slice(step.event.as_bytes())?;
+    Ok(wanted)
+}
+
+fn difference(alloc: Global, text: &str, found: &[u8], wanted: &[u8]) -> Result<String, NoMemory> {
+    let text = front(alloc, text.as_bytes())?;
+    let found = front(alloc, found)?;
+    let wanted = front(alloc, wanted)?;
+    Ok(format!(in alloc; "{text}\n    is  {found}\n    not {wanted}\n")?)
+}
+
+/// The front of a text, to be printed.
+fn front(alloc: Global, text: &[u8]) -> Result<String, NoMemory> {
+    let front = text.get(..400).unwrap_or(text);
+    Ok(String::from_utf8_lossy(alloc, front)?)
+}
+
+/// What a session on an empty database answers and leaves otherwise than a script says.
+fn differences(alloc: Global, script: &[Step]) -> Result<String, Fail> {
+    differences_by::<Brand>(alloc, script, Blank::new(1))
+}
+
+/// The same, with the steps counted on this ledger.
+fn differences_by<L: Ledger>(alloc: Global, script: &[Step], blank: Blank) -> Result<String, Fail>
+    requires name { blank.name ≡ L.name }
+    requires parts { blank.parts ≡ L.parts }
+    requires one { 0 < blank.parts }
+{
+    let mut steps = Steps::<L>::new(blank);
+    let mut run = Run::new(alloc)?;
+    for step in script {
+        run.take(step, &mut steps)?;
+    }
+    Ok(run.lines)
+}
+
+/// The differences of several scripts, each on a session of its own.
+fn differences_of_all(alloc: Global, scripts: &[&[Step]]) -> Result<String, Fail> {
+    let mut lines = String::new(alloc);
+    for script in scripts {
+        let more = differences(alloc, script)?;
+        lines.push_str(&more)?;
+    }
+    Ok(lines)
+}
+
+#[test]
+fn rows_are_inserted(rt: HostRuntime) -> Result<(), Fail> {
+    let scripts = [
+        inserts::SETS_OF_ROWS,
+        inserts::KEYS_THAT_ARE_THERE,
+        inserts::REFUSED_VALUES,
+        inserts::FIRST_REFUSALS,
+    ];
+    let lines = differences_of_all(rt.alloc(), &scripts)?;
+    assert!(rt; lines.is_empty(), "{lines}");
+    Ok(())
+}
+
+#[test]
+fn rows_are_updated(rt: HostRuntime) -> Result<(), Fail> {
+    let scripts = [
+        updates::ASSIGNMENTS,
+        updates::UNKNOWN_CONDITIONS,
+        updates::FIRST_REFUSALS,
+    ];
+    let lines = differences_of_all(rt.alloc(), &scripts)?;
+    assert!(rt; lines.is_empty(), "{lines}");
+    Ok(())
+}
+
+#[test]
+fn rows_are_deleted(rt: HostRuntime) -> Result<(), Fail> {
+    let scripts = [deletes::SOME_AND_ALL, deletes::REFUSALS_AND_TRUNCATE];
+    let lines = differences_of_all(rt.alloc(), &scripts)?;
+    assert!(rt; lines.is_empty(), "{lines}");
+    Ok(())
+}
+
+#[test]
+fn tables_and_databases(rt: HostRuntime) -> Result<(), Fail> {
+    let scripts = [
+        definitions::DATABASES,
+        definitions::TABLES,
+        definitions::REFUSED_TABLES,
+    ];
+    let lines = differences_of_all(rt.alloc(), &scripts)?;
+    assert!(rt; lines.is_empty(), "{lines}");
+    Ok(())
+}
+
+#[test]
+fn begun_and_ended(rt: HostRuntime) -> Result<(), Fail> {
+    let scripts = [
+        transactions::ENDS,
+        transactions::BEGIN_INSIDE,
+        transactions::REFUSED_INSIDE,
+        transactions::DEFINITIONS_INSIDE,
+        transactions::REFUSED_DEFINITIONS_INSIDE,
+        transactions::TWO_DATABASES,
+    ];
+    let lines = differences_of_all(rt.alloc(), &scripts)?;
+    assert!(rt; lines.is_empty(), "{lines}");
+    Ok(())
+}
+
+#[test]
+fn without_autocommit(rt: HostRuntime) -> Result<(), Fail> {
+    let scripts = [autocommit::OPENING, autocommit::SWITCHES];
+    let lines = differences_of_all(rt.alloc(), &scripts)?;
+    assert!(rt; lines.is_empty(), "{lines}");
+    Ok(())
+}
+
+#[test]
+fn variables_are_set(rt: HostRuntime) -> Result<(), Fail> {
+    let scripts = [
+        settings::VARIABLES,
+        settings::ANSI_QUOTES,
+        settings::ROW_LIMIT,
+    ];
+    let lines = differences_of_all(rt.alloc(), &scripts)?;
+    assert!(rt; lines.is_empty(), "{lines}");
+    Ok(())
+}
+
+#[test]
+fn refused_texts_and_the_cache(rt: HostRuntime) -> Result<(), Fail> {
+    let scripts = [
+        texts::REFUSED_TEXTS,
+        texts::STATEMENTS_ON_THE_CACHE,
+        texts::WITHOUT_A_CACHE,
+    ];
+    let lines = differences_of_all(rt.alloc(), &scripts)?;
+    assert!(rt; lines.is_empty(), "{lines}");
+    Ok(())
+}

@@ -1,0 +1,291 @@
+//! What a command was answered and what event it left, as a line.
+
+use crate::Session;
+use qc_model::events::{Event, How, Reason, Who};
+use qc_model::reports::{ReportLine, Word};
+use qc_sql::replies::{Reply, TextRow};
+use qc_sql::tables::{Column, Kind, RowOp};
+use qc_types::{NoMemory, Or, TableName, Value};
+use qc_wire::read_reply;
+use std::alloc::Global;
+
+/// How many lines and events a session has.
+#[derive(Clone, Copy)]
+pub struct Before {
+    lines: usize,
+    events: u64,
+}
+
+impl Before {
+    pub fn of(session: &Session) -> Before {
+        Before {
+            lines: session.lines.items().len(),
+            events: session.journal.len(),
+        }
+    }
+}
+
+/// The one line that a session has had since then.
+fn new_line(session: &Session, before: Before) -> Option<&ReportLine> {
+    match session.lines.items() {
+        [earlier @ .., line] if earlier.len() == before.lines => Some(line),
+        _ => None,
+    }
+}
+
+/// The answer of the command since then.
+pub fn put_answer(
+    alloc: Global,
+    session: &Session,
+    before: Before,
+    out: &mut Vec<u8>,
+) -> Result<(), NoMemory> {
+    let Some(line) = new_line(session, before) else {
+        return put(b"not one line", out);
+    };
+    match read_reply(alloc, line.reply.bytes()) {
+        Ok(reply) => put_reply(alloc, &reply, out),
+        Err(Or::Other(_)) => put(b"no reply", out),
+        Err(Or::Memory) => Err(NoMemory),
+    }
+}
+
+/// The event of the command since then, and what is wrong with its line or its number.
+pub fn put_event(
+    alloc: Global,
+    session: &Session,
+    before: Before,
+    out: &mut Vec<u8>,
+) -> Result<(), NoMemory> {
+    let last = session.journal.len();
+    if last <= before.events {
+        put(b"-", out)?;
+        return put_faults(session, before, Word::Local, out);
+    }
+    let event = session.journal.event(last);
+    put_one_event(alloc, event, out)?;
+    if last - before.events > 1 {
+        put(b" behind another event", out)?;
+    }
+    if !is_numbered(event, last) {
+        put(b" of another number", out)?;
+    }
+    put_faults(session, before, word_of(event), out)
+}
+
+/// Whether an event is that of session 1 with this number, as each event is where there is one session and no cache.
+fn is_numbered(event: &Event, wanted: u64) -> bool {
+    match event {
+        Event::Run { who, .. } | Event::Commit { who, .. } => is_who(*who, wanted),
+        _ => false,
+    }
+}
+
+fn is_who(who: Who, wanted: u64) -> bool {
+    who.session == 1 && who.number == wanted
+}
+
+/// The word of a line whose command has this event.
+fn word_of(event: &Event) -> Word {
+    match event {
+        Event::Run { how, .. } => match how {
+            How::Hit(_) => Word::Hit,
+            How::Start { .. } => Word::Start,
+            How::Plain(_) => Word::Plain,
+            _ => Word::Other,
+        },
+        _ => Word::Other,
+    }
+}
+
+/// What is wrong with the new line: its place is the number of the last event.
+fn put_faults(
+    session: &Session,
+    before: Before,
+    word: Word,
+    out: &mut Vec<u8>,
+) -> Result<(), NoMemory> {
+    let Some(line) = new_line(session, before) else {
+        return Ok(());
+    };
+    if line.place != session.journal.len() {
+        put(b" at another place", out)?;
+    }
+    if line.how != word {
+        put(b" by another word", out)?;
+    }
+    Ok(())
+}
+
+fn put(text: &[u8], out: &mut Vec<u8>) -> Result<(), NoMemory> {
+    out.extend_from_slice(text)?;
+    Ok(())
+}
+
+fn put_number(alloc: Global, number: u64, out: &mut Vec<u8>) -> Result<(), NoMemory> {
+    put(number.to_string(alloc)?.as_bytes(), out)
+}
+
+fn put_status(alloc: Global, status: u16, out: &mut Vec<u8>) -> Result<(), NoMemory> {
+    put(b" status ", out)?;
+    put_number(alloc, u64::from(status), out)
+}
+
+fn put_reply(alloc: Global, reply: &Reply, out: &mut Vec<u8>) -> Result<(), NoMemory> {
+    match reply {
+        Reply::Ok { affected, status } => {
+            put(b"ok ", out)?;
+            put_number(alloc, *affected, out)?;
+            put_status(alloc, *status, out)
+        }
+        Reply::Err(error) => {
+            put(b"error ", out)?;
+            put_number(alloc, u64::from(error.code), out)?;
+            put(b" ", out)?;
+            put(error.message.bytes(), out)
+        }
+        Reply::Rows { rows, status, .. } => {
+            put_rows(rows.items(), out)?;
+            put_status(alloc, *status, out)
+        }
+    }
+}
+
+fn put_rows(rows: &[TextRow], out: &mut Vec<u8>) -> Result<(), NoMemory> {
+    if rows.is_empty() {
+        return put(b"no rows", out);
+    }
+    let mut between: &[u8] = b"rows ";
+    for row in rows {
+        put(between, out)?;
+        put_cells(row, out)?;
+        between = b";";
+    }
+    Ok(())
+}
+
+fn put_cells(row: &TextRow, out: &mut Vec<u8>) -> Result<(), NoMemory> {
+    let mut between: &[u8] = b"";
+    for cell in row.items() {
+        put(between, out)?;
+        match cell {
+            Some(text) => put(text.bytes(), out)?,
+            None => put(b"NULL", out)?,
+        }
+        between = b",";
+    }
+    Ok(())
+}
+
+fn put_one_event(alloc: Global, event: &Event, out: &mut Vec<u8>) -> Result<(), NoMemory> {
+    match event {
+        Event::Run { how, .. } => put_how(alloc, how, out),
+        Event::Commit { ops, .. } => put_ops(alloc, ops.items(), out),
+        _ => put(b"an event of the cache", out),
+    }
+}
+
+fn put_how(alloc: Global, how: &How, out: &mut Vec<u8>) -> Result<(), NoMemory> {
+    match how {
+        How::Plain(Reason::Off) => put(b"plain off", out),
+        How::Plain(Reason::Error(code)) => {
+            put(b"plain error ", out)?;
+            put_number(alloc, u64::from(*code), out)
+        }
+        How::Plain(_) => put(b"plain for another reason", out),
+        How::Other => put(b"other", out),
+        How::Conflict { .. } => put(b"conflict", out),
+        _ => put(b"a run by the cache", out),
+    }
+}
+
+fn put_ops(alloc: Global, ops: &[RowOp], out: &mut Vec<u8>) -> Result<(), NoMemory> {
+    let mut between: &[u8] = b"commit ";
+    for op in ops {
+        put(between, out)?;
+        put_op(alloc, op, out)?;
+        between = b"; ";
+    }
+    if ops.is_empty() {
+        put(b"commit of nothing", out)?;
+    }
+    Ok(())
+}
+
+fn put_op(alloc: Global, op: &RowOp, out: &mut Vec<u8>) -> Result<(), NoMemory> {
+    match op {
+        RowOp::Put(table, row) => {
+            put_table(b"put ", table, out)?;
+            put(b" ", out)?;
+            put_values(alloc, row.items(), out)
+        }
+        RowOp::Del(table, key) => {
+            put_table(b"del ", table, out)?;
+            put(b" ", out)?;
+            put(key.to_string(alloc)?.as_bytes(), out)
+        }
+        RowOp::CreateTable(table, columns) => {
+            put_table(b"create ", table, out)?;
+            put_columns(alloc, columns.items(), out)
+        }
+        RowOp::DropTable(table) => put_table(b"drop ", table, out),
+        RowOp::CreateDb(name) => {
+            put(b"createdb ", out)?;
+            put(name.bytes(), out)
+        }
+        RowOp::DropDb(name) => {
+            put(b"dropdb ", out)?;
+            put(name.bytes(), out)
+        }
+    }
+}
+
+fn put_table(word: &[u8], table: &TableName, out: &mut Vec<u8>) -> Result<(), NoMemory> {
+    put(word, out)?;
+    put(table.db.bytes(), out)?;
+    put(b".", out)?;
+    put(table.name.bytes(), out)
+}
+
+fn put_values(alloc: Global, values: &[Value], out: &mut Vec<u8>) -> Result<(), NoMemory> {
+    let mut between: &[u8] = b"";
+    for value in values {
+        put(between, out)?;
+        match value {
+            Value::Null => put(b"NULL", out)?,
+            Value::Int(number) => put(number.to_string(alloc)?.as_bytes(), out)?,
+            Value::Str(text) => put(text.bytes(), out)?,
+        }
+        between = b",";
+    }
+    Ok(())
+}
+
+fn put_columns(alloc: Global, columns: &[Column], out: &mut Vec<u8>) -> Result<(), NoMemory> {
+    let mut between: &[u8] = b" ";
+    for column in columns {
+        put(between, out)?;
+        put_column(alloc, column, out)?;
+        between = b", ";
+    }
+    Ok(())
+}
+
+/// A key is never NULL, so only one that says otherwise shows it.
+fn put_column(alloc: Global, column: &Column, out: &mut Vec<u8>) -> Result<(), NoMemory> {
+    put(column.name.bytes(), out)?;
+    match column.kind {
+        Kind::Int => put(b" BIGINT", out)?,
+        Kind::Str(length) => {
+            put(b" VARCHAR(", out)?;
+            put_number(alloc, u64::from(length), out)?;
+            put(b")", out)?;
+        }
+    }
+    match (column.primary, column.not_null) {
+        (true, true) => put(b" key", out),
+        (true, false) => put(b" key null", out),
+        (false, true) => put(b" not null", out),
+        (false, false) => Ok(()),
+    }
+}
