@@ -1,6 +1,7 @@
 //! Which tables an operation and an event touch.
 
 ghost use Rattle.std.specs.Prelude.{◌≡◌};
+ghost use Rattle.std.specs.List.{list_any};
 ghost use Rattle.qc_sql.specs.Database as database;
 ghost use Rattle.qc_model.specs.Journal as journal;
 
@@ -8,10 +9,11 @@ use qc_model::events::Event;
 use qc_sql::tables::RowOp;
 use qc_types::TableName;
 
-fn same_table(a: &TableName, b: &TableName) -> bool
-    ensures { result ≡ database.same_table a.now b.now }
+/// Whether two names are of one table.
+pub fn same_table(table: &TableName, other: &TableName) -> bool
+    ensures { result ≡ database.same_table table.now other.now }
 {
-    a.db.bytes() == b.db.bytes() && a.name.bytes() == b.name.bytes()
+    table.db.bytes() == other.db.bytes() && table.name.bytes() == other.name.bytes()
 }
 
 /// Whether an operation touches a table: it puts into it, deletes from it, creates or drops it, or drops its database.
@@ -28,12 +30,19 @@ fn touches(table: &TableName, op: &RowOp) -> bool
     }
 }
 
+/// Whether one of the operations touches a table. Linear in their number.
+pub fn any_touches(table: &TableName, ops: &[RowOp]) -> bool
+    ensures { result ≡ list_any (database.touches table.now) ops.now }
+{
+    ops.iter().any(|op| touches(table, op))
+}
+
 /// Whether an event is a commit that touches a table. Linear in the commit's operations.
 pub(crate) fn touches_table(table: &TableName, event: &Event) -> bool
     ensures { result ≡ journal.touches_table table.now event.now }
 {
     match event {
-        Event::Commit { who: _, ops } => ops.items().iter().any(|op| touches(table, op)),
+        Event::Commit { who: _, ops } => any_touches(table, ops.items()),
         _ => false,
     }
 }

@@ -1,32 +1,41 @@
 -- An index of the first own operation that writes each row, or a row of each table, or of each database.
-use Rattle.std.specs.Prelude.{◌≡◌, ℕ, ◌≤◌, ℤ, pos, Bool, true, ◌&&◌, ◌||◌, ◌==◌, List, [], drop, length, Option, Some, None, is_some, bytes_eq, zero, suc}
+use Rattle.std.specs.Prelude.{◌≡◌, ℕ, ◌≤◌, ℤ, Bool, true, false, ◌&&◌, List, drop, length, Option, is_some, bytes_eq}
 use Rattle.std.specs.List.{position_from}
-use Rattle.std.specs.Ordering.{int_cmp, nat_cmp, is_eq, ordering_then}
-use Rattle.std.specs.declared.cmp.Ordering.{Ordering}
-use Rattle.std.specs.Cmp.Lexicographic.{slice_cmp}
+use Rattle.std.specs.Ordering.{int_cmp, is_eq}
 use Rattle.std.specs.Map.{lookup}
-use Rattle.qc_trx.specs.declared.sites.Site.{Site}
-use Rattle.qc_sql.specs.Database.{Name}
+use Rattle.qc_types.specs.declared.names.TableName.{TableName}
+use Rattle.qc_sql.specs.Database.{Name, same_table}
 use Rattle.qc_sql.specs.Words.{◌or_else◌}
+use Rattle.qc_trx.specs.declared.sites.Site.{Site}
+use Rattle.qc_trx.specs.declared.sites.Site.TheVariants as site
 use Rattle.qc_trx.specs.declared.writes.OwnRow.{OwnRow}
-use Rattle.qc_trx.specs.Writes.{is_own}
+use Rattle.qc_trx.specs.Writes.{is_of_database, is_of_table, is_own, is_row_of}
 
--- how sites are ordered
-abbrev pub site_cmp : Site → Site → Ordering
-site_cmp q s = ordering_then (nat_cmp q.kind s.kind) (ordering_then (int_cmp q.key s.key) (ordering_then (slice_cmp nat_cmp q.db.items s.db.items) (slice_cmp nat_cmp q.table.items s.table.items)))
+-- what a site stands for
+pub data Scope : Type 0 where
+  OfDatabase : (db : Name) → Scope
+  OfTable : (table : TableName) → Scope
+  OfRow : (table : TableName) → (key : ℤ) → Scope
 
--- whether a site is the one of a kind with a key and these names
-abbrev pub is_site : Site → ℕ → ℤ → Name → Name → Bool
-is_site q kind key db table = (q.kind == kind && is_eq (int_cmp q.key key)) && (bytes_eq q.db.items db && bytes_eq q.table.items table)
+abbrev pub scope : Site → Scope
+scope (site.Database db) = OfDatabase db.items
+scope (site.Table db name) = OfTable (record { db = db.items; name = name.items })
+scope (site.Row key db name) = OfRow (record { db = db.items; name = name.items }) key
 
--- whether a site is the one of a row's database, for 0, of its table, for 1, or of the row itself
-abbrev pub is_kind_of : ℕ → Site → OwnRow → Bool
-is_kind_of zero q r = is_site q 0 (pos 0) r.table.db []
-is_kind_of (suc zero) q r = is_site q 1 (pos 0) r.table.db r.table.name
-is_kind_of _ q r = is_site q 2 r.key r.table.db r.table.name
+-- whether a row is in it
+abbrev pub is_in : Scope → OwnRow → Bool
+is_in (OfDatabase db) r = is_of_database db r
+is_in (OfTable t) r = is_of_table t r
+is_in (OfRow t key) r = is_row_of t key r
 
 abbrev pub is_site_of : Site → OwnRow → Bool
-is_site_of q r = is_kind_of 0 q r || (is_kind_of 1 q r || is_kind_of 2 q r)
+is_site_of q r = is_in (scope q) r
+
+abbrev pub same_scope : Scope → Scope → Bool
+same_scope (OfDatabase db) (OfDatabase other) = bytes_eq db other
+same_scope (OfTable t) (OfTable u) = same_table t u
+same_scope (OfRow t key) (OfRow u other) = is_eq (int_cmp key other) && same_table t u
+same_scope p q = false
 
 -- the sites with the numbers that are entered for them, in order
 abbrev pub Entries : Type 0
@@ -34,7 +43,7 @@ Entries = List (Site × ℕ)
 
 -- the number that is entered for a site
 abbrev pub at_site : Site → Entries → Option ℕ
-at_site q entries = lookup (λ s. is_eq (site_cmp q s)) entries
+at_site q entries = lookup (λ s. same_scope (scope q) (scope s)) entries
 
 -- the number of the first row from one on that has the site
 abbrev pub first_from : Site → ℕ → List (Option OwnRow) → Option ℕ
@@ -45,14 +54,6 @@ pub record IsIndex (entries : Entries) (entered : ℕ) (rows : List (Option OwnR
   pub within : entered ≤ length rows
   pub finds : (q : Site) → (at_site q entries or_else first_from q entered rows) ≡ position_from (is_own (is_site_of q)) 0 rows
 
--- each site of a kind that the row has is entered
-abbrev pub HasKind : ℕ → OwnRow → Entries → Type 0
-HasKind kind r entries = (q : Site) → is_kind_of kind q r ≡ true → is_some (at_site q entries) ≡ true
-
 -- what was entered is
 abbrev pub KeepsEntered : Entries → Entries → Type 0
 KeepsEntered old new = (q : Site) → is_some (at_site q old) ≡ true → is_some (at_site q new) ≡ true
-
--- a site of a kind with a key and these names
-abbrev pub Parts : Site → ℕ → ℤ → Name → Name → Type 0
-Parts s kind key db table = (s.kind ≡ kind) × (s.key ≡ key) × (s.db.items ≡ db) × (s.table.items ≡ table)

@@ -11,9 +11,8 @@ ghost use Rattle.qc_trx.specs.Writes.{by_commit, first_own, is_met, row_there, r
 ghost use Rattle.qc_trx.specs.Endings.{meant, IsOriginIn};
 
 use crate::noting::{columns_of, key_in};
-use crate::touching::same_table;
 use crate::writes::{OwnRow, Writes};
-use qc_journal::Journal;
+use qc_journal::{Journal, same_table};
 use qc_model::events::Event;
 use qc_sql::tables::RowOp;
 use qc_table::Database;

@@ -9,7 +9,6 @@ mod sites;
 mod state;
 #[cfg(test)]
 mod tests;
-mod touching;
 mod writes;
 
 pub use conflict::Conflict;

@@ -4,8 +4,8 @@ ghost use Rattle.std.specs.Prelude.{◌≡◌, ◌+◌, ◌<◌, ◌^◌, [], If
 ghost use Rattle.qc_sql.specs.Database.{key_of, key_value};
 ghost use Rattle.qc_trx.specs.Writes.{columns_left, columns_of, key_by, makes_table, row_left, rows_left};
 
-use crate::touching::same_table;
 use crate::writes::OwnRow;
+use qc_journal::same_table;
 use qc_sql::tables::{Columns, RowOp, StoredRow};
 use qc_table::Database;
 use qc_types::{Duplicate, NoMemory, TableName, Value};

@@ -1,27 +1,32 @@
 //! An index of the first own operation that writes each row, or a row of each table, or of each database.
 
-ghost use Rattle.std.specs.Prelude.{◌≡◌, ◌+◌, ◌<◌, ◌≤◌, true, pos, [], length, IfOk, OnOk, OnErr, Some};
+ghost use Rattle.std.specs.Prelude.{◌≡◌, ◌+◌, ◌<◌, ◌≤◌, ◌&&◌, true, bytes_eq, is_some, length, IfOk, OnOk, OnErr, Some};
 ghost use Rattle.std.specs.List.{slice_get};
 ghost use Rattle.qc_trx.specs.Writes.{is_own};
 ghost use Rattle.qc_trx.specs.Sites as sites;
-ghost use Rattle.qc_trx.specs.Sites.{first_from, is_kind_of, HasKind, IsIndex, KeepsEntered, Parts};
+ghost use Rattle.qc_trx.specs.Sites.{at_site, first_from, scope, IsIndex, KeepsEntered, OfDatabase, OfRow, OfTable};
 
 use crate::writes::OwnRow;
 use qc_types::{NoMemory, TableName};
 use std::alloc::Global;
 use std::collections::BTreeMap;
 
-/// A database, a table or a row.
+/// What the index finds numbers for.
 #[derive(Drop, PartialEq, Eq, PartialOrd, Ord)]
-pub(crate) struct Site {
-    /// 0 for a database, 1 for a table, 2 for a row.
-    kind: u8,
-    /// The row's key, or 0.
-    key: i64,
-    /// The database's name.
-    db: Vec<u8>,
-    /// The table's name, or nothing.
-    table: Vec<u8>,
+pub(crate) enum Site {
+    /// A database, by its name.
+    Database(Vec<u8>),
+    /// A table, by the name of its database and its own.
+    Table {
+        db: Vec<u8>,
+        name: Vec<u8>,
+    },
+    /// A row, by its key and its table.
+    Row {
+        key: i64,
+        db: Vec<u8>,
+        name: Vec<u8>,
+    },
 }
 
 /// The number of the first operation for each site, from 0.
@@ -29,37 +34,29 @@ pub(crate) type Firsts = BTreeMap<Site, usize>;
 
 /// The site of a database.
 pub(crate) fn database_site(alloc: Global, db: &[u8]) -> Result<Site, NoMemory>
-    ensures { IfOk result (λ s. Parts s 0 (pos 0) db.now []) }
+    ensures { IfOk result (λ s. scope s ≡ OfDatabase db.now) }
 {
-    Ok(Site {
-        kind: 0,
-        key: 0,
-        db: Vec::from_slice(alloc, db)?,
-        table: Vec::new(alloc),
-    })
+    Ok(Site::Database(Vec::from_slice(alloc, db)?))
 }
 
 /// The site of a table.
 pub(crate) fn table_site(alloc: Global, table: &TableName) -> Result<Site, NoMemory>
-    ensures { IfOk result (λ s. Parts s 1 (pos 0) table.now.db table.now.name) }
+    ensures { IfOk result (λ s. scope s ≡ OfTable table.now) }
 {
-    Ok(Site {
-        kind: 1,
-        key: 0,
+    Ok(Site::Table {
         db: Vec::from_slice(alloc, table.db.bytes())?,
-        table: Vec::from_slice(alloc, table.name.bytes())?,
+        name: Vec::from_slice(alloc, table.name.bytes())?,
     })
 }
 
 /// The site of a row.
 pub(crate) fn row_site(alloc: Global, table: &TableName, key: i64) -> Result<Site, NoMemory>
-    ensures { IfOk result (λ s. Parts s 2 key table.now.db table.now.name) }
+    ensures { IfOk result (λ s. scope s ≡ OfRow table.now key) }
 {
-    Ok(Site {
-        kind: 2,
+    Ok(Site::Row {
         key,
         db: Vec::from_slice(alloc, table.db.bytes())?,
-        table: Vec::from_slice(alloc, table.name.bytes())?,
+        name: Vec::from_slice(alloc, table.name.bytes())?,
     })
 }
 
@@ -67,19 +64,18 @@ pub(crate) fn row_site(alloc: Global, table: &TableName, key: i64) -> Result<Sit
 fn is_site_of(site: &Site, row: &OwnRow) -> bool
     ensures { result ≡ sites.is_site_of site.now row.now }
 {
-    let (db, name) = (row.table.db.bytes(), row.table.name.bytes());
-    is_site(site, 0, 0, db, b"")
-        || is_site(site, 1, 0, db, name)
-        || is_site(site, 2, row.key, db, name)
+    match site {
+        Site::Database(db) => row.table.db.bytes() == db.as_slice(),
+        Site::Table { db, name } => has_names(&row.table, db, name),
+        Site::Row { key, db, name } => has_names(&row.table, db, name) && row.key == *key,
+    }
 }
 
-fn is_site(site: &Site, kind: u8, key: i64, db: &[u8], name: &[u8]) -> bool
-    ensures { result ≡ sites.is_site site.now kind key db.now name.now }
+/// Whether a table has this name, in a database of that one.
+fn has_names(table: &TableName, db: &[u8], name: &[u8]) -> bool
+    ensures { result ≡ (bytes_eq table.now.db db.now && bytes_eq table.now.name name.now) }
 {
-    site.kind == kind
-        && site.key == key
-        && site.db.as_slice() == db
-        && site.table.as_slice() == name
+    table.db.bytes() == db && table.name.bytes() == name
 }
 
 /// The number of the first row from one on that has the site. Linear in how many there are from there on.
@@ -153,40 +149,32 @@ fn enter_row(
     ensures ok { OnOk result (IsIndex firsts.new.entries (number + 1) rows.now) }
     ensures err { OnErr result (IsIndex firsts.new.entries number rows.now) }
 {
-    enter_kind(alloc, rows, firsts, number, row, 0)?;
-    enter_kind(alloc, rows, firsts, number, row, 1)?;
-    enter_kind(alloc, rows, firsts, number, row, 2)
+    let database = database_site(alloc, row.table.db.bytes())?;
+    let table = table_site(alloc, &row.table)?;
+    let one = row_site(alloc, &row.table, row.key)?;
+    enter_site(rows, firsts, number, row, database)?;
+    enter_site(rows, firsts, number, row, table)?;
+    enter_site(rows, firsts, number, row, one)
 }
 
 /// Enters one of the sites of a row, unless it is.
-fn enter_kind(
-    alloc: Global,
+fn enter_site(
     rows: &[Option<OwnRow>],
     firsts: &mut Firsts,
     number: usize,
     row: &OwnRow,
-    kind: u8,
+    site: Site,
 ) -> Result<(), NoMemory>
     requires index { IsIndex firsts.old.entries number rows.now }
     requires at { slice_get rows.now number ≡ Some (Some row.now) }
+    requires of { sites.is_site_of site row.now ≡ true }
     ensures index { IsIndex firsts.new.entries number rows.now }
-    ensures has { OnOk result (HasKind kind row.now firsts.new.entries) }
+    ensures has { OnOk result (is_some (at_site site firsts.new.entries) ≡ true) }
     ensures keeps { KeepsEntered firsts.old.entries firsts.new.entries }
 {
-    let site = site_of(alloc, row, kind)?;
     if firsts.contains_key(&site) {
         return Ok(());
     }
     firsts.insert(site, number)?;
     Ok(())
-}
-
-fn site_of(alloc: Global, row: &OwnRow, kind: u8) -> Result<Site, NoMemory>
-    ensures { IfOk result (λ s. is_kind_of kind s row.now ≡ true) }
-{
-    match kind {
-        0 => database_site(alloc, row.table.db.bytes()),
-        1 => table_site(alloc, &row.table),
-        _ => row_site(alloc, &row.table, row.key),
-    }
 }

@@ -15,10 +15,9 @@ use crate::progress::{Progress, Snapshot, see_changed};
 use crate::settings::{
     NO_LIMIT, UTF8, cache_kind, character_set, found_or_wrong, quotes, select_limit, switch,
 };
-use crate::touching::any_touches;
 use crate::writes::{OwnRow, Writes};
 use qc_errors::unknown_variable;
-use qc_journal::Journal;
+use qc_journal::{Journal, any_touches};
 use qc_lex::is_same_word;
 use qc_sql::session::Flags;
 use qc_sql::statements::{SetValue, Setting};
