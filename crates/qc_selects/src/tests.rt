@@ -5,6 +5,7 @@ mod fits;
 mod large;
 mod show;
 mod table;
+mod versions;
 
 use database::{large, shop, small, three_rows};
 use qc_sql::session::Flags;
