@@ -1,6 +1,7 @@
 -- From a read of a session's input to its next command.
 use Rattle.std.proofs.Common.{◌≡◌, ℕ, ◌+◌, ◌-◌, ◌<◌, List, [], ◌∷◌, ◌++◌, length, refl, sym, ap, ◌∙◌, subst, arith, length-drop, Option, Some, None, Ok, Err}
 use Rattle.qc_types.specs.declared.memory.Or.TheVariants as or
+use Rattle.qc_types.specs.declared.options.Options.{Options}
 use Rattle.qc_sql.specs.declared.commands.Command.{Command}
 use Rattle.qc_sql.specs.declared.commands.Command.TheVariants as command
 use Rattle.qc_sql.specs.declared.commands.CommandEnd.{CommandEnd}
@@ -49,8 +50,10 @@ ends input left (end.BadSequence found wanted) read ne = cuts_none input (end.Ba
 ends input left end.Failed read ne = absurd (ne refl)
 
 -- one command more was taken
-pub goes_on : (input left rest : List ℕ) (c : Command) (old new : Session) → HasGone input left old → Takes left (c ∷ []) rest × (length rest < length left) → DoesOne c old new → HasGone input rest new
-goes_on input left rest c old new before next does = record {
+pub goes_on : (options : Options) (input left rest : List ℕ) (c : Command) (old new : Session) → HasGone options input left old → Takes left (c ∷ []) rest × (length rest < length left) → DoesOne c old new
+    → HasGone options input rest new
+goes_on options input left rest c old new before next does = record {
+  options_are = does.options ∙ before.options_are;
   commands = before.commands ++ c ∷ [];
   takes = takes_more input left rest before.commands (c ∷ []) before.takes next.0;
   taken = taken_more before.commands c old new before.taken does;

@@ -2,6 +2,8 @@
 use Rattle.std.proofs.Common.{◌≡◌, ℕ, zero, suc, ◌<◌, ◌≤◌, Bool, true, false, List, [], ◌∷◌, length, refl, sym, ap, subst, arith, slice_index_or, true≢false, Option, None}
 use Rattle.std.specs.Prelude.{◌&&◌, IfOk, Result, Ok, Err}
 use Rattle.std.specs.List.{list_all, All}
+use Rattle.std.proofs.lemmas.Bool.{and_parts}
+use Rattle.qc_types.specs.declared.options.Options.{Options}
 use Rattle.qc_sql.specs.declared.tables.Column.{Column}
 use Rattle.qc_sql.specs.declared.tables.RowOp.{RowOp}
 use Rattle.qc_sql.specs.declared.tables.RowOp.TheVariants as op
@@ -14,29 +16,25 @@ use Rattle.qc_model.specs.Journal.{Journal}
 use Rattle.qc_model.specs.Agrees.{Agrees}
 use Rattle.qc_script.specs.ShortNames.{HasShortNames, HasShortColumns, HasShortName, MakesShortColumns}
 use Rattle.qc_sessions.specs.Runs.{report_of}
-use Rattle.qc_single.specs.Stage.{first_machine, without_cache}
+use Rattle.qc_single.specs.Stage.{first_machine}
 use Rattle.qc_bounds.specs.Names.{is_short}
 use Rattle.qc_bounds.specs.Replies.{are_bounded_columns, is_bounded_column, is_bounded_kind, is_bounded_operation}
 use Rattle.qc_single.specs.Sound.{is_simple, is_small_operation, makes_short_name}
 use Rattle.qc_app.specs.Ran.{IsReportOf}
 use Rattle.qc_single.proofs.Ends.{one_session, no_session}
 
-both : (a b : Bool) → (a && b) ≡ true → (a ≡ true) × (b ≡ true)
-both true b h = (refl, h)
-both false b h = absurd (true≢false (sym h))
-
 -- ---- the names
 
 all_of : {X : Type 0} (p : X → Bool) (P : X → Type 0) → ((x : X) → p x ≡ true → P x) → (xs : List X) → list_all p xs ≡ true → All P xs
 all_of p P f [] h k d lt = absurd (omega (arith, lt))
-all_of p P f (x ∷ xs) h zero d lt = f x (both (p x) (list_all p xs) h).0
-all_of p P f (x ∷ xs) h (suc k) d lt = all_of p P f xs (both (p x) (list_all p xs) h).1 k d (omega (arith, lt))
+all_of p P f (x ∷ xs) h zero d lt = f x (and_parts (p x) (list_all p xs) h).0
+all_of p P f (x ∷ xs) h (suc k) d lt = all_of p P f xs (and_parts (p x) (list_all p xs) h).1 k d (omega (arith, lt))
 
 column_short : (c : Column) → is_bounded_column c ≡ true → HasShortName c
-column_short c h = let short = (both (is_short c.name) (is_bounded_kind c.kind) h).0 in grind (arith)
+column_short c h = let short = (and_parts (is_short c.name) (is_bounded_kind c.kind) h).0 in grind (arith)
 
 op_bounded : (o : RowOp) → is_bounded_operation o ≡ true → MakesShortColumns o
-op_bounded (op.CreateTable t columns) h = all_of is_bounded_column HasShortName column_short columns (both _ (list_all is_bounded_column columns) h).1
+op_bounded (op.CreateTable t columns) h = all_of is_bounded_column HasShortName column_short columns (and_parts _ (list_all is_bounded_column columns) h).1
 op_bounded (op.Put t row) h = tt
 op_bounded (op.Del t key) h = tt
 op_bounded (op.DropTable t) h = tt
@@ -44,10 +42,10 @@ op_bounded (op.CreateDb name) h = tt
 op_bounded (op.DropDb name) h = tt
 
 op_short : (o : RowOp) → is_small_operation o ≡ true → MakesShortColumns o
-op_short o h = op_bounded o (both (is_bounded_operation o) (makes_short_name o) h).0
+op_short o h = op_bounded o (and_parts (is_bounded_operation o) (makes_short_name o) h).0
 
 event_short : (e : Event) → is_simple e ≡ true → HasShortColumns e
-event_short (event.Commit who ops) h = all_of is_small_operation MakesShortColumns op_short ops (both _ (list_all is_small_operation ops) h).1
+event_short (event.Commit who ops) h = all_of is_small_operation MakesShortColumns op_short ops (and_parts _ (list_all is_small_operation ops) h).1
 event_short (event.Run who x) h = tt
 event_short (event.Done serial) h = tt
 event_short (event.Gone serial why) h = tt
@@ -55,7 +53,7 @@ event_short (event.Prune serial need largest) h = tt
 event_short (event.Reset who) h = tt
 event_short (event.Flush who) h = tt
 
-pub names_are_short : (options : Rattle.qc_types.specs.declared.options.Options.Options) (sessions : List SessionReport) (J : Journal) → list_all is_simple J ≡ true → HasShortNames (report_of options sessions J)
+pub names_are_short : (options : Options) (sessions : List SessionReport) (J : Journal) → list_all is_simple J ≡ true → HasShortNames (report_of options sessions J)
 names_are_short options sessions J h = all_of is_simple HasShortColumns event_short J h
 
 -- ---- the one session
@@ -71,24 +69,31 @@ the_script script input none h g e = by script.setup script.sessions none (only 
     by : (setup : Option (List ℕ)) (sessions : List (List ℕ)) → setup ≡ None → sessions ≡ input ∷ [] → ◌≡◌ {A = Script} (record { setup = setup; sessions = sessions }) (record { setup = None; sessions = input ∷ [] })
     by setup sessions p q = rw (p, q) refl
 
-pub run_agrees : (script : Script) (input : List ℕ) (report : Report) → script ≡ record { setup = None; sessions = input ∷ [] } → IsReportOf without_cache input report → Agrees first_machine script without_cache report
-run_agrees script input report same is =
+pub run_agrees : (script : Script) (options : Options) (input : List ℕ) (report : Report) → script ≡ record { setup = None; sessions = input ∷ [] } → IsReportOf options input report → Agrees first_machine script options report
+run_agrees script options input report same is =
     let s = is.session in
-    subst (λ (x : Script). Agrees first_machine x without_cache report) (sym same)
-    (subst (λ (r : Report). Agrees first_machine (record { setup = None; sessions = input ∷ [] }) without_cache r) (sym is.same)
-    (one_session input s.lines is.ending s.journal.events s.state.state s.database is.ran.taken.fit.sound is.ran.taken.runs is.ran.same_ending))
+    let ran = is.ran in
+    let taken = ran.taken in
+    let fit = taken.fit in
+    let one : Agrees first_machine (record { setup = None; sessions = input ∷ [] }) s.options (report_of s.options (record { session = 1; lines = s.lines; ending = is.ending } ∷ []) s.journal.events)
+    = one_session s.options input s.lines is.ending s.journal.events s.state.state s.place s.database fit.sound taken.runs ran.same_ending in
+    subst (λ (x : Script). Agrees first_machine x options report) (sym same)
+    (subst (λ (r : Report). Agrees first_machine (record { setup = None; sessions = input ∷ [] }) options r) (sym is.same)
+    (subst (λ (o : Options). Agrees first_machine (record { setup = None; sessions = input ∷ [] }) o (report_of o (record { session = 1; lines = s.lines; ending = is.ending } ∷ []) s.journal.events)) ran.options_are one))
 
-pub run_names : (input : List ℕ) (report : Report) → IsReportOf without_cache input report → HasShortNames report
-run_names input report is =
-    subst HasShortNames (sym is.same) (names_are_short without_cache (record { session = 1; lines = is.session.lines; ending = is.ending } ∷ []) is.session.journal.events is.ran.taken.fit.sound.simple)
+pub run_names : (options : Options) (input : List ℕ) (report : Report) → IsReportOf options input report → HasShortNames report
+run_names options input report is =
+    let fit = is.ran.taken.fit in
+    let sound = fit.sound in
+    subst HasShortNames (sym is.same) (names_are_short options (record { session = 1; lines = is.session.lines; ending = is.ending } ∷ []) is.session.journal.events sound.simple)
 
 -- ---- no session
 
-pub none_agrees : (script : Script) → script.setup ≡ None → length script.sessions ≤ 1 → ((1 ≤ length script.sessions) → ⊥) → Agrees first_machine script without_cache (report_of without_cache [] [])
-none_agrees script none few h = by script.setup script.sessions none few h
+pub none_agrees : (script : Script) (options : Options) → script.setup ≡ None → length script.sessions ≤ 1 → ((1 ≤ length script.sessions) → ⊥) → Agrees first_machine script options (report_of options [] [])
+none_agrees script options none few h = by script.setup script.sessions none few h
   where
-    by : (setup : Option (List ℕ)) (sessions : List (List ℕ)) → setup ≡ None → length sessions ≤ 1 → ((1 ≤ length sessions) → ⊥) → Agrees first_machine (record { setup = setup; sessions = sessions }) without_cache (report_of without_cache [] [])
-    by setup [] p f g = subst (λ (o : Option (List ℕ)). Agrees first_machine (record { setup = o; sessions = [] }) without_cache (report_of without_cache [] [])) (sym p) no_session
+    by : (setup : Option (List ℕ)) (sessions : List (List ℕ)) → setup ≡ None → length sessions ≤ 1 → ((1 ≤ length sessions) → ⊥) → Agrees first_machine (record { setup = setup; sessions = sessions }) options (report_of options [] [])
+    by setup [] p f g = subst (λ (o : Option (List ℕ)). Agrees first_machine (record { setup = o; sessions = [] }) options (report_of options [] [])) (sym p) (no_session options)
     by setup (x ∷ xs) p f g = absurd (g (omega arith))
 
 -- ---- in a result

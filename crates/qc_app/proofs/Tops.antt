@@ -13,7 +13,7 @@ use Rattle.qc_model.specs.declared.reports.ScriptRefusal.{ScriptRefusal}
 use Rattle.qc_model.specs.declared.reports.ScriptRefusal.TheVariants as refusal
 use Rattle.qc_model.specs.ScriptLines.{script_of, most_script, after_lines, lines_of, no_sessions}
 use Rattle.qc_model.specs.Agrees.{Agrees}
-use Rattle.qc_single.specs.Stage.{first_machine, without_cache}
+use Rattle.qc_single.specs.Stage.{first_machine, without_cache, HasWords}
 use Rattle.qc_app.specs.Words.{options_of}
 use Rattle.qc_app.specs.Reading.{ReadsEnough}
 use Rattle.qc_app.specs.Top.{ReadsAll, RefusesInput, TellsRefusal, IsRunOf}
@@ -33,6 +33,10 @@ words_are (a ∷ []) o e = none_is o e
 words_are (a ∷ b ∷ []) o e = none_is o e
 words_are (a ∷ b ∷ c ∷ []) o e = when_is (bytes_eq a (codes "run") && bytes_eq b (codes "--size") && bytes_eq c (codes "0")) without_cache o e
 words_are (a ∷ b ∷ c ∷ d ∷ ws) o e = none_is o e
+
+-- they give the cache no memory
+pub words_have : (words : List (List ℕ)) (o : Options) → options_of words ≡ Some o → HasWords o
+words_have words o e = subst HasWords (sym (words_are words o e)) (λ some. absurd (true≢false some))
 
 -- ---- a script that is too long
 
@@ -79,7 +83,7 @@ not_refused (Some left) now bytes s h e t =
 -- ---- the run
 
 pub run_is : (words : List (List ℕ)) (before now : Option (List ℕ)) (bytes : List ℕ) (s : Script) (o : Options) (report : Report)
-    → ReadsEnough before now bytes → script_of bytes ≡ Ok s → options_of words ≡ Some o → Agrees first_machine s without_cache report → IsRunOf words before now report
+    → ReadsEnough before now bytes → script_of bytes ≡ Ok s → options_of words ≡ Some o → Agrees first_machine s o report → IsRunOf words before now report
 run_is words before now bytes s o report h e chosen agrees =
     record {
       bytes = bytes;
@@ -88,7 +92,7 @@ run_is words before now bytes s o report h e chosen agrees =
       read = all_read before now bytes s h e;
       means = e;
       chosen = chosen;
-      agrees = subst (λ (x : Options). Agrees first_machine s x report) (sym (words_are words o chosen)) agrees;
+      agrees = agrees;
     }
 
 -- what a call gave

@@ -20,13 +20,15 @@ Advances (Err or.Memory) input left = Unit {0}
 Advances (Err (or.Other ending)) input left = commands_of input ≡ ([], ending)
 
 -- some commands of the input were taken, and this is left
-pub record HasGone (input left : List ℕ) (s : Session) : Type 0 where
+pub record HasGone (options : Options) (input left : List ℕ) (s : Session) : Type 0 where
+  pub options_are : s.options ≡ options
   pub commands : List Command
   pub takes : Takes input commands left
   pub taken : HasTaken commands s
 
 -- all commands of the input were taken, and it ends so
-pub record HasRun (input : List ℕ) (s : Session) (ending : Ending) : Type 0 where
+pub record HasRun (options : Options) (input : List ℕ) (s : Session) (ending : Ending) : Type 0 where
+  pub options_are : s.options ≡ options
   pub taken : HasTaken (commands_of input).0 s
   pub same_ending : ending ≡ (commands_of input).1
 
@@ -34,5 +36,5 @@ pub record HasRun (input : List ℕ) (s : Session) (ending : Ending) : Type 0 wh
 pub record IsReportOf (options : Options) (input : List ℕ) (report : Report) : Type 0 where
   pub session : Session
   pub ending : Ending
-  pub ran : HasRun input session ending
+  pub ran : HasRun options input session ending
   pub same : report ≡ report_of options (record { session = only_session; lines = session.lines; ending = ending } ∷ []) session.journal.events

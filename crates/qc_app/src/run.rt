@@ -1,7 +1,6 @@
 //! Runs a script.
 
-ghost use Rattle.std.specs.Prelude.{◌≡◌, ◌≢◌, ◌<◌, ◌≤◌, true, length, IfOk};
-ghost use Rattle.std.specs.List.{list_all};
+ghost use Rattle.std.specs.Prelude.{◌≡◌, ◌≢◌, ◌<◌, ◌≤◌, length, IfOk};
 ghost use Rattle.qc_sql.specs.declared.commands.CommandEnd.TheVariants as end;
 ghost use Rattle.qc_sql.specs.Commands.{command_payload};
 ghost use Rattle.qc_sql.specs.Packets.{most_payload};
@@ -11,8 +10,8 @@ ghost use Rattle.qc_script.specs.ShortNames.{HasShortNames};
 ghost use Rattle.qc_sessions.specs.Runs as meant;
 ghost use Rattle.qc_app.specs.Inputs.{IsSmall};
 ghost use Rattle.qc_app.specs.Ran.{Advances, HasRun, IsReportOf};
-ghost use Rattle.qc_single.specs.Sound.{is_simple};
-ghost use Rattle.qc_single.specs.Stage.{first_machine, without_cache};
+ghost use Rattle.qc_model.specs.Cache.{cache};
+ghost use Rattle.qc_single.specs.Stage.{first_machine, HasWords};
 
 use qc_journal::Journal;
 use qc_model::reports::{Ending, Report, Script, SessionReport, SessionReports};
@@ -27,42 +26,48 @@ use std::sync::ledger::{Blank, Ledger};
 /// The report of a script's run: its sessions, the journal of their events, and the counters. The cost is linear in the script and in the
 /// report, and besides each change costs what its table holds, and each SELECT the row combinations that it reads.
 pub fn run_script(alloc: Global, options: Options, script: &Script) -> Result<Report, NoMemory>
-    requires options { options ≡ without_cache }
+    requires words { HasWords options }
     requires small { IsSmall script.now }
-    ensures agrees { IfOk result (Agrees first_machine script.now without_cache) }
+    ensures agrees { IfOk result (Agrees first_machine script.now options) }
     ensures names { IfOk result HasShortNames }
 {
     match script.sessions.items() {
         [input] => run_one(alloc, options, input.bytes()),
-        _ => Ok(report_of(options, SessionReports::new(alloc), Journal::new(alloc))),
+        _ => Ok(report_of(options, SessionReports::new(alloc), Journal::new(alloc), 0)),
     }
 }
 
 fn run_one(alloc: Global, options: Options, input: &[u8]) -> Result<Report, NoMemory>
+    requires { HasWords options }
     ensures { IfOk result (λ report. IsReportOf options input.now report) }
 {
-    let (session, ending) = run_session::<Brand>(alloc, input, Blank::new(1))?;
+    let (session, ending) = run_session::<Brand>(alloc, options, input, Blank::new(1))?;
     let Session {
+        options: _,
         state: _,
         database: _,
         journal,
+        kept,
+        number: _,
+        place: _,
         lines,
     } = session;
+    let entries = kept.len() as u64;
     let mut sessions = SessionReports::new(alloc);
     sessions.push(SessionReport {
         session: ONLY_SESSION,
         lines,
         ending,
     })?;
-    Ok(report_of(options, sessions, journal))
+    Ok(report_of(options, sessions, journal, entries))
 }
 
-/// A report, with the counters of its journal, after which the cache is empty.
-fn report_of(options: Options, sessions: SessionReports, journal: Journal) -> Report
-    requires { list_all is_simple journal.events ≡ true }
+/// A report, with the counters of its journal, after which the cache has so many entries.
+fn report_of(options: Options, sessions: SessionReports, journal: Journal, entries: u64) -> Report
+    requires { entries ≡ length (cache journal.events) }
     ensures { result ≡ meant.report_of options sessions journal.events }
 {
-    let counters = journal.counters(0);
+    let counters = journal.counters(entries);
     Report {
         options,
         sessions,
@@ -76,16 +81,18 @@ fn report_of(options: Options, sessions: SessionReports, journal: Journal) -> Re
 #[tactic(auto, using(crate::proofs::Nexts::goes_on))]
 pub fn run_session<L: Ledger>(
     alloc: Global,
+    options: Options,
     input: &[u8],
     blank: Blank,
 ) -> Result<(Session, Ending), NoMemory>
+    requires words { HasWords options }
     requires name { blank.name ≡ L.name }
     requires parts { blank.parts ≡ L.parts }
     requires one { 0 < blank.parts }
-    ensures { IfOk result (λ ran. HasRun input.now ran.0 ran.1) }
+    ensures { IfOk result (λ ran. HasRun options input.now ran.0 ran.1) }
 {
     let mut steps = Steps::<L>::new(blank);
-    let mut session = Session::new(alloc)?;
+    let mut session = Session::new(alloc, options)?;
     let mut left = input;
     loop {
         let command = match next_command(alloc, &mut left) {

@@ -1,6 +1,7 @@
 -- USE, by whether the database is there.
 use Rattle.std.proofs.Common.{◌≡◌, true, false, refl, ◌∙◌, ap, Option, None, Some, true≢false}
 use Rattle.std.specs.Prelude.{is_some}
+use Rattle.qc_types.specs.declared.options.Options.{Options}
 use Rattle.qc_sql.specs.Database.{Name, Database, Tables, tables_of}
 use Rattle.qc_sql.specs.Errors.{unknown_database}
 use Rattle.qc_bounds.specs.Names.{is_short}
@@ -13,7 +14,7 @@ use Rattle.qc_single.proofs.Shorts.{short_there}
 use Rattle.qc_single.proofs.States.{base_is, orderly_base}
 
 -- what a session sees is what its next statement is judged on
-pub view_is : (J : Journal) (d : Database) (x : Standing) → IsSound J d → IsFitState J x → seen_on d x ≡ base x.state J
+pub view_is : {o : Options} (J : Journal) (d : Database) (x : Standing) → IsSound o J d → IsFitState J x → seen_on d x ≡ base x.state J
 view_is J d x s f = ap (λ (e : Database). seen_on e x) s.database ∙ base_is J x f
 
 pub not_there : {X : Type 0} (o : Option X) → is_some o ≡ false → o ≡ None
@@ -28,5 +29,5 @@ pub used_there : (J : Journal) (state : State) (name : Name) (ts : Tables) → t
 used_there J state name ts h = rw h refl
 
 -- a database that is seen has a short name
-pub seen_is_short : (J : Journal) (d : Database) (x : Standing) (name : Name) (ts : Tables) → IsSound J d → IsFitState J x → tables_of name (base x.state J) ≡ Some ts → is_short name ≡ true
+pub seen_is_short : {o : Options} (J : Journal) (d : Database) (x : Standing) (name : Name) (ts : Tables) → IsSound o J d → IsFitState J x → tables_of name (base x.state J) ≡ Some ts → is_short name ≡ true
 seen_is_short J d x name ts s f there = let o = orderly_base J d x s f in short_there name ts (base x.state J) there o.short

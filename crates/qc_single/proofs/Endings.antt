@@ -4,6 +4,7 @@ use Rattle.std.specs.Prelude.{◌&&◌, nat_le, nat_lt, unwrap_or}
 use Rattle.std.specs.List.{list_all}
 use Rattle.std.proofs.lemmas.Bool.{and_from}
 use Rattle.std.proofs.lemmas.Bool.Decides.{nat_tests}
+use Rattle.qc_types.specs.declared.options.Options.{Options}
 use Rattle.qc_types.specs.declared.names.TableName.{TableName}
 use Rattle.qc_types.specs.declared.sql_error.SqlError.{SqlError}
 use Rattle.qc_sql.specs.declared.tables.RowOp.{RowOp}
@@ -18,7 +19,6 @@ use Rattle.qc_model.specs.Session.{State, Transaction, own_operations, at_snapsh
 use Rattle.qc_model.specs.Conflicts.{Conflict, conflict_of}
 use Rattle.qc_model.specs.Licence.{is_within_rows, most_rows, ops_fit}
 use Rattle.qc_model.specs.Machine.{Given, conflict_in, full_in, full_table, ending, ended_with, changed_form, committed, ok_reply, refused}
-use Rattle.qc_single.specs.Stage.{without_cache}
 use Rattle.qc_single.specs.Sound.{next_who, IsSound, IsFitAt, IsFitIn, IsFitState, MayFollow, is_small_operation}
 use Rattle.qc_single.specs.Ends.{Ends}
 use Rattle.qc_single.specs.declared.ending.Ending.TheVariants as ended
@@ -51,36 +51,52 @@ pub forms_end : (J : Journal) (state : State) (s : Statement) (r : Result Effect
 forms_end J state s (Ok x) h f e = rw (h, f, e) refl
 forms_end J state s (Err x) h f e = rw (h, f, e) refl
 
+-- whatever ends it
+pub changed_ends : (J : Journal) (state : State) (s : Statement)
+    → ending (next_who J) state J (λ own. forms_given J state own (effect s (apply own (present J)) state.db state.session)) ≡ changed_form (next_who J) state J s
+changed_ends J state s = by (conflict_in state J) refl
+  where
+    go : List RowOp → Given
+    go own = forms_given J state own (effect s (apply own (present J)) state.db state.session)
+
+    room : conflict_in state J ≡ None → (f : Option TableName) → full_table (apply (own_operations state) (present J)) ≡ f → ending (next_who J) state J go ≡ changed_form (next_who J) state J s
+    room h (Some t) f = rw (h, f) refl
+    room h None f = let is : ending (next_who J) state J go ≡ go (own_operations state) = rw (h, f) refl in is ∙ forms_end J state s (effect s (apply (own_operations state) (present J)) state.db state.session) h f refl
+
+    by : (c : Option Conflict) → conflict_in state J ≡ c → ending (next_who J) state J go ≡ changed_form (next_who J) state J s
+    by (Some c) h = rw h refl
+    by None h = room h (full_table (apply (own_operations state) (present J))) refl
+
 -- ---- the operations of a transaction that no later commit met
 
-fit_by : (J : Journal) (p : Option ℕ) (ops : List RowOp) (origin : Option Database) → IsFitAt J origin p ops → IsSound J (present J)
+fit_by : {o : Options} (J : Journal) (p : Option ℕ) (ops : List RowOp) (origin : Option Database) → IsFitAt J origin p ops → IsSound o J (present J)
     → conflict_of (record { snapshot = p; operations = ops }) J ≡ None → (ops_fit ops (present J) ≡ true) × (list_all is_small_operation ops ≡ true)
 fit_by J None ops origin f s h = (subst (λ (os : List RowOp). ops_fit os (present J) ≡ true) (sym f.1) refl, subst (λ (os : List RowOp). list_all is_small_operation os ≡ true) (sym f.1) refl)
-fit_by J (Some place) ops origin f s h =
+fit_by {o} J (Some place) ops origin f s h =
     let own = f.own in
     let follow = own.follow in (
-      kept_snapshots_fit (record { snapshot = Some place; operations = ops }) place J (lawful_commits_fit without_cache J s.lawful) refl f.quiet own.rows follow.fit h,
+      kept_snapshots_fit (record { snapshot = Some place; operations = ops }) place J (lawful_commits_fit o J s.lawful) refl f.quiet own.rows follow.fit h,
       follow.small,
     )
 
-fit_with : (J : Journal) (s : State) (t : Option Transaction) (origin : Option Database) → IsFitIn J origin t → IsSound J (present J) → conflict_in (with_transaction s t) J ≡ None
+fit_with : {o : Options} (J : Journal) (s : State) (t : Option Transaction) (origin : Option Database) → IsFitIn J origin t → IsSound o J (present J) → conflict_in (with_transaction s t) J ≡ None
     → (ops_fit (own_operations (with_transaction s t)) (present J) ≡ true) × (list_all is_small_operation (own_operations (with_transaction s t)) ≡ true)
 fit_with J s None origin f sound h = (refl, refl)
 fit_with J s (Some t) origin f sound h = fit_by J t.snapshot t.operations origin f sound h
 
-sound_at : (J : Journal) (d : Database) → IsSound J d → IsSound J (present J)
-sound_at J d s = subst (λ (x : Database). IsSound J x) s.database s
+sound_at : {o : Options} (J : Journal) (d : Database) → IsSound o J d → IsSound o J (present J)
+sound_at {o} J d s = subst (λ (x : Database). IsSound o J x) s.database s
 
 -- they fit the database as it is now
-pub own_fits : (J : Journal) (d : Database) (x : Standing) → IsSound J d → IsFitState J x → conflict_in x.state J ≡ None → ops_fit (own_operations x.state) (present J) ≡ true
+pub own_fits : {o : Options} (J : Journal) (d : Database) (x : Standing) → IsSound o J d → IsFitState J x → conflict_in x.state J ≡ None → ops_fit (own_operations x.state) (present J) ≡ true
 own_fits J d x s f h = (fit_with J x.state x.state.transaction x.origin f.transaction (sound_at J d s) h).0
 
 -- and are small
-pub own_small : (J : Journal) (d : Database) (x : Standing) → IsSound J d → IsFitState J x → conflict_in x.state J ≡ None → list_all is_small_operation (own_operations x.state) ≡ true
+pub own_small : {o : Options} (J : Journal) (d : Database) (x : Standing) → IsSound o J d → IsFitState J x → conflict_in x.state J ≡ None → list_all is_small_operation (own_operations x.state) ≡ true
 own_small J d x s f h = (fit_with J x.state x.state.transaction x.origin f.transaction (sound_at J d s) h).1
 
 -- a table that would be too full with them can be told of
-pub full_fits : (J : Journal) (d : Database) (x : Standing) (t : TableName) → IsSound J d → IsFitState J x → conflict_in x.state J ≡ None → full_table (apply (own_operations x.state) (present J)) ≡ Some t → FitsError (table_full t)
+pub full_fits : {o : Options} (J : Journal) (d : Database) (x : Standing) (t : TableName) → IsSound o J d → IsFitState J x → conflict_in x.state J ≡ None → full_table (apply (own_operations x.state) (present J)) ≡ Some t → FitsError (table_full t)
 full_fits J d x t s f h full =
     let now = sound_at J d s in
     let orderly = now.orderly in
@@ -89,12 +105,12 @@ full_fits J d x t s f h full =
     table_full_fits t names.0 names.1
 
 -- and may be carried out on it, where no table would be too full
-pub own_follows : (J : Journal) (d : Database) (x : Standing) → IsSound J d → IsFitState J x → conflict_in x.state J ≡ None → full_table (apply (own_operations x.state) (present J)) ≡ None
+pub own_follows : {o : Options} (J : Journal) (d : Database) (x : Standing) → IsSound o J d → IsFitState J x → conflict_in x.state J ≡ None → full_table (apply (own_operations x.state) (present J)) ≡ None
     → MayFollow (own_operations x.state) d
 own_follows J d x s f h full =
     let p = fit_with J x.state x.state.transaction x.origin f.transaction (sound_at J d s) h in
     subst (λ (e : Database). MayFollow (own_operations x.state) e) (sym s.database) (record { small = p.1; fit = p.0; within = none_is_full (apply (own_operations x.state) (present J)) full })
 
 -- the same, as the session has them when its transaction has ended so
-pub ended_follows : (J : Journal) (d database : Database) (x : Standing) → IsSound J d → IsFitState J x → Ends x.state J (ended.Commits database) → MayFollow (own_operations x.state) d
+pub ended_follows : {o : Options} (J : Journal) (d database : Database) (x : Standing) → IsSound o J d → IsFitState J x → Ends x.state J (ended.Commits database) → MayFollow (own_operations x.state) d
 ended_follows J d database x s f e = own_follows J d x s f e.0 e.1

@@ -1,6 +1,7 @@
 -- What a statement on rows keeps.
 use Rattle.std.proofs.Common.{◌≡◌, true, List, [], refl, sym, ap, ◌∙◌, subst, Some, None, Ok, Err, Result, true≢false, ◌⊎◌, inl, inr}
 use Rattle.std.specs.Prelude.{IsSome, is_some}
+use Rattle.qc_types.specs.declared.options.Options.{Options}
 use Rattle.qc_types.specs.declared.names.TableName.{TableName}
 use Rattle.qc_types.specs.declared.sql_error.SqlError.{SqlError}
 use Rattle.qc_sql.specs.declared.tables.RowOp.{RowOp}
@@ -20,7 +21,6 @@ use Rattle.qc_fits.specs.Sound.{rows_changed_by}
 use Rattle.qc_fits.proofs.Changes.{changes_fit, changes_stay_within}
 use Rattle.qc_fits.proofs.Full.{within_is_not_full}
 use Rattle.qc_fits.proofs.RowChanges.{changes_are_rows}
-use Rattle.qc_journal.specs.Room.{Recorded}
 use Rattle.qc_trx.specs.Standings.{Standing, seen_on, added}
 use Rattle.qc_single.specs.declared.session.Session.{Session}
 use Rattle.qc_single.specs.Stage.{changes_rows}
@@ -60,12 +60,18 @@ added_room s ops f there own =
 
 -- and the session is fit with it
 pub added_fit : (s next : Session) (ops : List RowOp) → IsFit s → is_some s.state.origin ≡ true → AreOwn ops (base s.state.state s.journal.events)
-    → next.state ≡ added ops s.state → next.database ≡ s.database → next.journal ≡ s.journal → IsFit next
-added_fit s next ops f there own state database journal = record {
-  sound = subst (λ (d : Database). IsSound next.journal.events d) (sym database) (subst (λ (j : Recorded). IsSound j.events s.database) (sym journal) f.sound);
-  state = subst (λ (x : Standing). IsFitState next.journal.events x) (sym state)
-      (subst (λ (j : Recorded). IsFitState j.events (added ops s.state)) (sym journal) (fit_added s.journal.events s.state ops f.state there own));
-}
+    → next.state ≡ added ops s.state → next ≡ record s { state = next.state } → IsFit next
+added_fit s next ops f there own state same =
+    let J = s.journal.events in
+    let with : IsFit (record s { state = next.state }) = record {
+      sound = f.sound;
+      state = subst (λ (x : Standing). IsFitState J x) (sym state) (fit_added J s.state ops f.state there own);
+      cached = f.cached;
+      words = f.words;
+      numbered = f.numbered;
+      reached = f.reached;
+    } in
+    subst IsFit (sym same) with
 
 -- the database on which a session's statements are judged is orderly
 seen_orderly : (s : Session) → IsFit s → IsOrderly (base s.state.state s.journal.events)

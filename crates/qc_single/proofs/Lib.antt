@@ -2,6 +2,7 @@ pub mod Journals
 pub mod Shorts
 pub mod Trimmed
 pub mod Sounds
+pub mod Caches
 pub mod Smalls
 pub mod States
 pub mod Conflicts
@@ -10,10 +11,15 @@ pub mod Told
 pub mod Ends
 pub mod Methods
 pub mod Statements
+pub mod Looking
+pub mod Hitting
+pub mod Offers
+pub mod Starting
+pub mod Offered
 pub mod Fitting
 pub mod Keeping
 pub mod Endings
 pub mod Sizes
 pub mod Choices
 pub mod Switches
-pub mod Forms
+pub mod TableChanges

@@ -1,28 +1,26 @@
 -- What stays sound when an event is added.
 use Rattle.std.proofs.Common.{◌≡◌, ◌<◌, ◌+◌, true, List, [], ◌∷◌, ◌++◌, length, refl, sym, ap, ◌∙◌, subst}
-use Rattle.std.specs.Prelude.{◌&&◌}
+use Rattle.std.specs.Prelude.{◌&&◌, ◌||◌}
 use Rattle.std.specs.List.{list_all}
 use Rattle.std.proofs.lemmas.Bool.{and_parts, and_from}
+use Rattle.qc_types.specs.declared.options.Options.{Options}
 use Rattle.qc_sql.specs.declared.tables.RowOp.{RowOp}
 use Rattle.qc_sql.specs.Database.{Database, apply}
+use Rattle.qc_model.specs.declared.events.Event.{Event}
 use Rattle.qc_model.specs.declared.events.Event.TheVariants as event
 use Rattle.qc_model.specs.declared.events.How.{How}
-use Rattle.qc_model.specs.Journal.{Journal, present}
-use Rattle.qc_model.specs.Licence.{ops_fit, is_within_rows, IsLicensed, MayRun, MayDecide}
+use Rattle.qc_model.specs.Cache.{is_hit, is_start}
+use Rattle.qc_model.specs.Journal.{Journal, operations, present}
+use Rattle.qc_model.specs.Licence.{ops_fit, is_within_rows, IsLicensed}
+use Rattle.qc_history.proofs.Events.{lawful_push, present_push}
+use Rattle.qc_kept.specs.declared.answers.KeptAnswer.{KeptAnswer}
 use Rattle.qc_bounds.specs.Replies.{is_bounded_database, is_bounded_operation}
 use Rattle.qc_bounds.proofs.Applied.{databases_stay_bounded}
 use Rattle.qc_fits.specs.Sound.{IsSoundDatabase}
 use Rattle.qc_fits.proofs.Stays.{sound_stays}
-use Rattle.qc_single.specs.Stage.{without_cache}
-use Rattle.qc_single.specs.Sound.{next_who, is_simple, is_small_operation, makes_short_name, IsSound, IsOrderly}
-use Rattle.qc_single.proofs.Journals.{present_more, lawful_more, simple_more, event_count_is, cache_empty}
+use Rattle.qc_single.specs.Sound.{next_who, is_quiet, is_simple, is_small_operation, makes_short_name, IsSound, IsCached, IsOrderly}
+use Rattle.qc_single.proofs.Journals.{may_decide, simple_more}
 use Rattle.qc_single.proofs.Shorts.{stay_short}
-
-pub may_decide : (J : Journal) → list_all is_simple J ≡ true → MayDecide J (next_who J)
-may_decide J h = record {
-  next = ap (λ n. n + 1) (sym (event_count_is J h));
-  not_filling = rw (cache_empty J h) refl;
-}
 
 -- ---- operations
 
@@ -46,11 +44,11 @@ stays_orderly ops d o small fit within =
 
 -- ---- the journal
 
-pub sound_commit : (J : Journal) (d : Database) (ops : List RowOp) → IsSound J d → 0 < length ops → list_all is_small_operation ops ≡ true → ops_fit ops d ≡ true → is_within_rows (apply ops d) ≡ true
-    → IsSound (J ++ event.Commit (next_who J) ops ∷ []) (apply ops d)
-sound_commit J d ops s some small fit within =
-    let licence : IsLicensed without_cache J (event.Commit (next_who J) ops) = (
-      may_decide J s.simple,
+pub sound_commit : {o : Options} (J : Journal) (d : Database) (ops : List RowOp) (kept : List KeptAnswer) → IsSound o J d → IsCached J kept → 0 < length ops → list_all is_small_operation ops ≡ true → ops_fit ops d ≡ true → is_within_rows (apply ops d) ≡ true
+    → IsSound o (J ++ event.Commit (next_who J) ops ∷ []) (apply ops d)
+sound_commit {o} J d ops kept s c some small fit within =
+    let licence : IsLicensed o J (event.Commit (next_who J) ops) = (
+      may_decide J kept c,
       record {
         some = some;
         fit = subst (λ (x : Database). ops_fit ops x ≡ true) s.database fit;
@@ -59,16 +57,19 @@ sound_commit J d ops s some small fit within =
     ) in
     record {
       simple = simple_more J (event.Commit (next_who J) ops) s.simple small;
-      lawful = lawful_more without_cache J (event.Commit (next_who J) ops) s.lawful licence;
-      database = ap (apply ops) s.database ∙ sym (present_more J (event.Commit (next_who J) ops));
+      lawful = lawful_push o J (event.Commit (next_who J) ops) s.lawful licence;
+      database = ap (apply ops) s.database ∙ sym (present_push J (event.Commit (next_who J) ops));
       orderly = stays_orderly ops d s.orderly small fit within;
     }
 
--- a run changes nothing
-pub sound_run : (J : Journal) (d : Database) (h : How) → IsSound J d → is_simple (event.Run (next_who J) h) ≡ true → MayRun without_cache J (next_who J) h → IsSound (J ++ event.Run (next_who J) h ∷ []) d
-sound_run J d h s one may = record {
-  simple = simple_more J (event.Run (next_who J) h) s.simple one;
-  lawful = lawful_more without_cache J (event.Run (next_who J) h) s.lawful (may_decide J s.simple, may);
-  database = s.database ∙ sym (present_more J (event.Run (next_who J) h));
+-- an event without operations changes nothing
+pub sound_event : {o : Options} (J : Journal) (d : Database) (e : Event) → IsSound o J d → operations e ≡ [] → is_simple e ≡ true → IsLicensed o J e → IsSound o (J ++ e ∷ []) d
+sound_event {o} J d e s none one may = record {
+  simple = simple_more J e s.simple one;
+  lawful = lawful_push o J e s.lawful may;
+  database = s.database ∙ sym (present_push J e ∙ ap (λ (ops : List RowOp). apply ops (present J)) none);
   orderly = s.orderly;
 }
+
+pub quiet_simple : (J : Journal) (h : How) → is_quiet h ≡ true → is_simple (event.Run (next_who J) h) ≡ true
+quiet_simple J h q = ap (λ b. b || is_hit h || is_start h) q

@@ -10,67 +10,70 @@ use Rattle.qc_sql.specs.declared.statements.Statement.{Statement}
 use Rattle.qc_sql.specs.declared.statements.Statement.TheVariants as statement
 use Rattle.qc_sql.specs.Database.{Name}
 use Rattle.qc_sql.specs.Rows.{Rows, rows}
+use Rattle.qc_model.specs.declared.events.Event.TheVariants as event
+use Rattle.qc_model.specs.declared.events.How.{How}
 use Rattle.qc_model.specs.declared.events.How.TheVariants as how
 use Rattle.qc_model.specs.Journal.{Journal}
 use Rattle.qc_model.specs.Session.{State, arrived, base, flags_of, opened, snapshot_taken, with_transaction}
 use Rattle.qc_model.specs.Choice.{Allows}
 use Rattle.qc_model.specs.Settings.{set_to, is_autocommit}
-use Rattle.qc_model.specs.Machine.{Given, begun, changed_form, ended_with, ok_reply, other, refused, set_autocommit, used}
-use Rattle.qc_answer.specs.Answers.{error_code}
+use Rattle.qc_sql.specs.Grammar.{meaning, trimmed}
+use Rattle.qc_types.specs.declared.options.Options.{Options}
+use Rattle.qc_model.specs.Machine.{Given, Selects, begun, changed_form, ended_with, ok_reply, other, refused, set_autocommit, used}
+use Rattle.qc_journal.specs.Room.{Recorded}
 use Rattle.qc_fits.specs.Sound.{changes_tables}
 use Rattle.qc_trx.specs.Standings.{Standing}
 use Rattle.qc_single.specs.declared.session.Session.{Session}
-use Rattle.qc_single.specs.Stage.{changes_rows, without_cache}
-use Rattle.qc_single.specs.Sound.{next_who, reason_of}
-use Rattle.qc_single.specs.Going.{Arrives, IsFit, GivesOut, TellsOut, SetsOther, DoesOne, DoesStatement, select_given, rows_given}
-use Rattle.qc_single.proofs.Methods.{does_given, statement_given, statement_told}
+use Rattle.qc_single.specs.Stage.{changes_rows}
+use Rattle.qc_single.specs.Sound.{next_who}
+use Rattle.qc_single.specs.Going.{Arrives, IsFit, GivesOut, SelectsOut, TellsOut, SetsOther, DoesOne, DoesStatement, select_given, rows_given}
+use Rattle.qc_single.proofs.Methods.{SameBut, does_given, moved, statement_given, statement_told}
 
 -- ---- what has arrived
 
+pub same_but : (old mid : Session) → Arrives old mid → SameBut old mid
+same_but old mid a = record { journal = ap (λ (s : Session). s.journal) a.same; lines = ap (λ (s : Session). s.lines) a.same; options = ap (λ (s : Session). s.options) a.same }
+
 -- the same from where the session stood before
-behind : (old mid new : Session) (given : Journal → State → Given) (a : State) → mid.journal ≡ old.journal → mid.lines ≡ old.lines → mid.state.state ≡ a
+behind : (old mid new : Session) (given : Journal → State → Given) (a : State) → SameBut old mid → mid.state.state ≡ a
     → GivesOut mid new (given mid.journal.events mid.state.state) → GivesOut old new (given old.journal.events a)
-behind old mid new given a journal lines state out = record {
-  events = rw (← journal, ← state) out.events;
-  lines = rw (← journal, ← lines, ← state) out.lines;
-  state = rw (← journal, ← state) out.state;
-  fit = out.fit;
-}
+behind old mid new given a same state out =
+    let journal : mid.journal ≡ old.journal = same.journal in
+    let is : given mid.journal.events mid.state.state ≡ given old.journal.events a = λ i. let j : Recorded = journal i in given j.events (state i) in
+    moved old mid new (given old.journal.events a) same (subst (λ (g : Given). GivesOut mid new g) is out)
 
 -- ---- SELECT
 
-allowed : (J : Journal) (state : State) (text : List ℕ) (s : Select) (r : Result Rows SqlError) → rows s (base state J) state.db (flags_of state) state.session ≡ r
-    → Allows without_cache state text s J (how.Plain (reason_of (error_code r)))
-allowed J state text s (Ok x) e = rw e refl
-allowed J state text s (Err x) e = rw e refl
-
-pub select_does : (s : Select) (old mid new : Session) → IsFit old → mid.journal ≡ old.journal → mid.lines ≡ old.lines
-    → mid.state.state ≡ arrived (length old.journal.events + 1) (statement.Select s) old.state.state → GivesOut mid new (select_given mid.journal.events mid.state.state s) → DoesStatement (statement.Select s) old new
-select_does s old mid new fit journal lines state out =
+pub select_does : (s : Select) (text : List ℕ) (old mid new : Session) → IsFit old → SameBut old mid → mid.state.state ≡ arrived (length old.journal.events + 1) (statement.Select s) old.state.state
+    → meaning (trimmed text) old.state.state.ansi ≡ Ok (statement.Select s) → SelectsOut mid new text s → DoesOne (command.Query text) old new
+select_does s text old mid new fit same state means out =
     let J = old.journal.events in
     let a : State = arrived (length J + 1) (statement.Select s) old.state.state in
-    let r = rows s (base a J) a.db (flags_of a) a.session in
-    statement_given (statement.Select s) old new (select_given J a s) fit refl refl
-    (λ text. record { chosen = (how.Plain (reason_of (error_code r)), refl, allowed J a text s r refl); answered = refl; same = refl })
-    (behind old mid new (λ j x. select_given j x s) a journal lines state out)
+    let h : How = out.0 in
+    let journal : mid.journal ≡ old.journal = same.journal in
+    let options : mid.options ≡ old.options = same.options in
+    let allowed : Allows old.options a text s J h = subst (λ (o : Options). Allows o a text s J h) options (subst (λ (j : Recorded). Allows mid.options a text s j.events h) journal (subst (λ (x : State). Allows mid.options x text s mid.journal.events h) state out.1)) in
+    let selects : Selects old.options (next_who J) a text s J (event.Run (next_who J) h) (select_given J a s h).reply a = record { chosen = (h, refl, allowed); answered = refl; same = refl } in
+    does_given (command.Query text) old new (select_given J a s h) fit (rw means refl) (rw means refl) (rw means selects)
+    (behind old mid new (λ j x. select_given j x s h) a same state out.2)
 
 -- ---- INSERT, UPDATE and DELETE
 
-pub rows_does : (s : Statement) (old mid new : Session) → changes_rows s ≡ true → IsFit old → mid.journal ≡ old.journal → mid.lines ≡ old.lines
+pub rows_does : (s : Statement) (old mid new : Session) → changes_rows s ≡ true → IsFit old → SameBut old mid
     → mid.state.state ≡ arrived (length old.journal.events + 1) s old.state.state → GivesOut mid new (rows_given mid.journal.events mid.state.state s) → DoesStatement s old new
-rows_does (statement.Insert i) old mid new is fit journal lines state out =
+rows_does (statement.Insert i) old mid new is fit same state out =
     let s = statement.Insert i in
     let a : State = arrived (length old.journal.events + 1) s old.state.state in
-    statement_given s old new (rows_given old.journal.events a s) fit refl refl (λ text. (refl, refl, refl)) (behind old mid new (λ j x. rows_given j x s) a journal lines state out)
-rows_does (statement.Update u) old mid new is fit journal lines state out =
+    statement_given s old new (rows_given old.journal.events a s) fit refl refl (λ text. (refl, refl, refl)) (behind old mid new (λ j x. rows_given j x s) a same state out)
+rows_does (statement.Update u) old mid new is fit same state out =
     let s = statement.Update u in
     let a : State = arrived (length old.journal.events + 1) s old.state.state in
-    statement_given s old new (rows_given old.journal.events a s) fit refl refl (λ text. (refl, refl, refl)) (behind old mid new (λ j x. rows_given j x s) a journal lines state out)
-rows_does (statement.Delete d) old mid new is fit journal lines state out =
+    statement_given s old new (rows_given old.journal.events a s) fit refl refl (λ text. (refl, refl, refl)) (behind old mid new (λ j x. rows_given j x s) a same state out)
+rows_does (statement.Delete d) old mid new is fit same state out =
     let s = statement.Delete d in
     let a : State = arrived (length old.journal.events + 1) s old.state.state in
-    statement_given s old new (rows_given old.journal.events a s) fit refl refl (λ text. (refl, refl, refl)) (behind old mid new (λ j x. rows_given j x s) a journal lines state out)
-rows_does s old mid new is fit journal lines state out = absurd (true≢false (sym is))
+    statement_given s old new (rows_given old.journal.events a s) fit refl refl (λ text. (refl, refl, refl)) (behind old mid new (λ j x. rows_given j x s) a same state out)
+rows_does s old mid new is fit same state out = absurd (true≢false (sym is))
 
 -- ---- the others
 
@@ -114,24 +117,26 @@ set_does x old new is out = set_told x old new (set_to old.state.state x) is ref
 
 -- ---- a select that names tables arrives, and another doesn't
 
-pub arrived_select : (s : Select) (old mid new : Session) → IsFit old → nat_lt 0 (length s.from) ≡ true → Arrives old mid → GivesOut mid new (select_given mid.journal.events mid.state.state s) → DoesStatement (statement.Select s) old new
-arrived_select s old mid new fit some a out =
+pub arrived_select : (s : Select) (text : List ℕ) (old mid new : Session) → IsFit old → nat_lt 0 (length s.from) ≡ true → Arrives old mid → meaning (trimmed text) old.state.state.ansi ≡ Ok (statement.Select s)
+    → SelectsOut mid new text s → DoesOne (command.Query text) old new
+arrived_select s text old mid new fit some a means out =
     let place = length old.journal.events + 1 in
     let st = old.state.state in
     let is : arrived place (statement.Select s) st ≡ with_transaction st (option_map (snapshot_taken place) (opened st)) = rw some refl in
-    select_does s old mid new fit a.journal a.lines (ap (λ (x : Standing). x.state) a.state ∙ sym is) out
+    select_does s text old mid new fit (same_but old mid a) (ap (λ (x : Standing). x.state) a.state ∙ sym is) means out
 
-pub plain_select : (s : Select) (old new : Session) → IsFit old → nat_lt 0 (length s.from) ≡ false → GivesOut old new (select_given old.journal.events old.state.state s) → DoesStatement (statement.Select s) old new
-plain_select s old new fit none out =
+pub plain_select : (s : Select) (text : List ℕ) (old new : Session) → IsFit old → nat_lt 0 (length s.from) ≡ false → meaning (trimmed text) old.state.state.ansi ≡ Ok (statement.Select s)
+    → SelectsOut old new text s → DoesOne (command.Query text) old new
+plain_select s text old new fit none means out =
     let st = old.state.state in
     let is : arrived (length old.journal.events + 1) (statement.Select s) st ≡ st = rw none refl in
-    select_does s old old new fit refl refl (sym is) out
+    select_does s text old old new fit (record { journal = refl; lines = refl; options = refl }) (sym is) means out
 
 -- a statement that changes rows arrives
 pub arrived_rows : (s : Statement) (old mid new : Session) → IsFit old → changes_rows s ≡ true → Arrives old mid → GivesOut mid new (rows_given mid.journal.events mid.state.state s) → DoesStatement s old new
-arrived_rows (statement.Insert i) old mid new fit is a out = rows_does (statement.Insert i) old mid new is fit a.journal a.lines (ap (λ (x : Standing). x.state) a.state) out
-arrived_rows (statement.Update u) old mid new fit is a out = rows_does (statement.Update u) old mid new is fit a.journal a.lines (ap (λ (x : Standing). x.state) a.state) out
-arrived_rows (statement.Delete d) old mid new fit is a out = rows_does (statement.Delete d) old mid new is fit a.journal a.lines (ap (λ (x : Standing). x.state) a.state) out
+arrived_rows (statement.Insert i) old mid new fit is a out = rows_does (statement.Insert i) old mid new is fit (same_but old mid a) (ap (λ (x : Standing). x.state) a.state) out
+arrived_rows (statement.Update u) old mid new fit is a out = rows_does (statement.Update u) old mid new is fit (same_but old mid a) (ap (λ (x : Standing). x.state) a.state) out
+arrived_rows (statement.Delete d) old mid new fit is a out = rows_does (statement.Delete d) old mid new is fit (same_but old mid a) (ap (λ (x : Standing). x.state) a.state) out
 arrived_rows s old mid new fit is a out = absurd (true≢false (sym is))
 
 -- ---- a list is empty, or isn't

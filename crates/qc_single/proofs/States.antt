@@ -17,9 +17,8 @@ use Rattle.qc_bounds.specs.Names.{is_short}
 use Rattle.qc_fits.specs.Sound.{IsNoChangeAt, is_row_op}
 use Rattle.qc_trx.specs.Standings.{Standing, origin_taken, seen_on, after_begin, after_arrival, after_sight, after_end, with_operations, added, in_database}
 use Rattle.qc_trx.specs.Endings.{IsOriginIn, StandsIn}
-use Rattle.qc_single.specs.Stage.{without_cache}
 use Rattle.qc_single.specs.Sound.{is_simple, is_small_operation, IsSound, IsOrderly, MayFollow, AreOwn, HasSnapshot, IsFitAt, IsFitTransaction, IsFitIn, IsFitState, arrived_standing}
-use Rattle.qc_single.proofs.Journals.{present_more}
+use Rattle.qc_history.proofs.Events.{present_push}
 use Rattle.qc_single.proofs.Sounds.{stays_orderly}
 
 -- ---- the database at a place of the journal
@@ -42,23 +41,23 @@ front_simple (x ∷ xs) ys h =
     let p = and_parts (is_simple x) (list_all is_simple (xs ++ ys)) h in
     and_from (is_simple x) (list_all is_simple xs) p.0 (front_simple xs ys p.1)
 
-orderly_next : (J : Journal) (e : Event) → is_simple e ≡ true → IsLicensed without_cache J e → IsOrderly (present J) → IsOrderly (apply (operations e) (present J))
-orderly_next J (event.Commit who ops) h l o =
+orderly_next : (o : Options) (J : Journal) (e : Event) → is_simple e ≡ true → IsLicensed o J e → IsOrderly (present J) → IsOrderly (apply (operations e) (present J))
+orderly_next o J (event.Commit who ops) h l ok =
     let may = l.1 in
-    stays_orderly ops (present J) o (and_parts (who.session == 1) (list_all is_small_operation ops) h).1 may.fit may.not_full
-orderly_next J (event.Run who how) h l o = o
-orderly_next J (event.Done serial) h l o = o
-orderly_next J (event.Gone serial why) h l o = o
-orderly_next J (event.Prune serial need largest) h l o = o
-orderly_next J (event.Reset who) h l o = o
-orderly_next J (event.Flush who) h l o = o
+    stays_orderly ops (present J) ok (and_parts (who.session == 1) (list_all is_small_operation ops) h).1 may.fit may.not_full
+orderly_next o J (event.Run who how) h l ok = ok
+orderly_next o J (event.Done serial) h l ok = ok
+orderly_next o J (event.Gone serial why) h l ok = ok
+orderly_next o J (event.Prune serial need largest) h l ok = ok
+orderly_next o J (event.Reset who) h l ok = ok
+orderly_next o J (event.Flush who) h l ok = ok
 
-orderly_from : (earlier es : Journal) → list_all is_simple es ≡ true → IsLawfulAfter without_cache earlier es → IsOrderly (present earlier) → IsOrderly (present (earlier ++ es))
-orderly_from earlier [] h l o = subst (λ (j : Journal). IsOrderly (present j)) (sym (append_nil earlier)) o
-orderly_from earlier (e ∷ es) h l o =
+orderly_from : (o : Options) (earlier es : Journal) → list_all is_simple es ≡ true → IsLawfulAfter o earlier es → IsOrderly (present earlier) → IsOrderly (present (earlier ++ es))
+orderly_from o earlier [] h l ok = subst (λ (j : Journal). IsOrderly (present j)) (sym (append_nil earlier)) ok
+orderly_from o earlier (e ∷ es) h l ok =
     let p = and_parts (is_simple e) (list_all is_simple es) h in
-    let next : IsOrderly (present (earlier ++ e ∷ [])) = subst IsOrderly (sym (present_more earlier e)) (orderly_next earlier e p.0 l.0 o) in
-    subst (λ (j : Journal). IsOrderly (present j)) (append_more earlier e es) (orderly_from (earlier ++ e ∷ []) es p.1 l.1 next)
+    let next : IsOrderly (present (earlier ++ e ∷ [])) = subst IsOrderly (sym (present_push earlier e)) (orderly_next o earlier e p.0 l.0 ok) in
+    subst (λ (j : Journal). IsOrderly (present j)) (append_more earlier e es) (orderly_from o (earlier ++ e ∷ []) es p.1 l.1 next)
 
 pub orderly_start : IsOrderly empty_database
 orderly_start = record { sound = record { apart = tt; each = tt }; within = refl; bounded = refl; short = refl }
@@ -69,13 +68,13 @@ split_at (suc n) [] = refl
 split_at (suc n) (x ∷ xs) = ap (λ ys. x ∷ ys) (split_at n xs)
 
 -- the database is orderly at each place
-pub orderly_before : (J : Journal) (d : Database) (place : ℕ) → IsSound J d → IsOrderly (present (before place J))
-orderly_before J d place s =
+pub orderly_before : {o : Options} (J : Journal) (d : Database) (place : ℕ) → IsSound o J d → IsOrderly (present (before place J))
+orderly_before {o} J d place s =
     let n = place - 1 in
     let whole : take n J ++ drop n J ≡ J = split_at n J in
     let simple = front_simple (take n J) (drop n J) (subst (λ (j : Journal). list_all is_simple j ≡ true) (sym whole) s.simple) in
-    let lawful = lawful_front without_cache [] (take n J) (drop n J) (subst (λ (j : Journal). IsLawful without_cache j) (sym whole) s.lawful) in
-    orderly_from [] (take n J) simple lawful orderly_start
+    let lawful = lawful_front o [] (take n J) (drop n J) (subst (λ (j : Journal). IsLawful o j) (sym whole) s.lawful) in
+    orderly_from o [] (take n J) simple lawful orderly_start
 
 -- ---- what a statement sees
 
@@ -93,16 +92,16 @@ seen_with J s (Some t) origin h = seen_by J t.snapshot t.operations origin h
 pub base_is : (J : Journal) (x : Standing) → IsFitState J x → seen_on (present J) x ≡ base x.state J
 base_is J x f = seen_with J x.state x.state.transaction x.origin f.transaction
 
-orderly_by : (J : Journal) (d : Database) (p : Option ℕ) (ops : List RowOp) (origin : Option Database) → IsSound J d → IsFitAt J origin p ops
+orderly_by : {o : Options} (J : Journal) (d : Database) (p : Option ℕ) (ops : List RowOp) (origin : Option Database) → IsSound o J d → IsFitAt J origin p ops
     → IsOrderly (apply ops (at_snapshot p J))
 orderly_by J d None ops origin s h = subst (λ (os : List RowOp). IsOrderly (apply os (present J))) (sym h.1) (subst IsOrderly s.database s.orderly)
 orderly_by J d (Some place) ops origin s h = let own = h.own in let f = own.follow in stays_orderly ops (present (before place J)) (orderly_before J d place s) f.small f.fit f.within
 
-orderly_with : (J : Journal) (d : Database) (s : State) (t : Option Transaction) (origin : Option Database) → IsSound J d → IsFitIn J origin t → IsOrderly (base (with_transaction s t) J)
+orderly_with : {o : Options} (J : Journal) (d : Database) (s : State) (t : Option Transaction) (origin : Option Database) → IsSound o J d → IsFitIn J origin t → IsOrderly (base (with_transaction s t) J)
 orderly_with J d s None origin sound h = subst IsOrderly sound.database sound.orderly
 orderly_with J d s (Some t) origin sound h = orderly_by J d t.snapshot t.operations origin sound h
 
-pub orderly_base : (J : Journal) (d : Database) (x : Standing) → IsSound J d → IsFitState J x → IsOrderly (base x.state J)
+pub orderly_base : {o : Options} (J : Journal) (d : Database) (x : Standing) → IsSound o J d → IsFitState J x → IsOrderly (base x.state J)
 orderly_base J d x s f = orderly_with J d x.state x.state.transaction x.origin s f.transaction
 
 -- ---- an event more
@@ -135,18 +134,18 @@ fit_with J None origin e h f = f
 fit_with J (Some t) origin e h f = fit_by J t.snapshot t.operations origin e h f
 
 pub fit_more : (J : Journal) (e : Event) (x : Standing) → operations e ≡ [] → IsFitState J x → IsFitState (J ++ e ∷ []) x
-fit_more J e x h f = record { session = f.session; db = f.db; transaction = fit_with J x.state.transaction x.origin e h f.transaction }
+fit_more J e x h f = record { session = f.session; db = f.db; charset = f.charset; transaction = fit_with J x.state.transaction x.origin e h f.transaction }
 
 -- ---- what the calls make of it
 
 pub fit_ended : (J K : Journal) (x : Standing) → IsFitState J x → IsFitState K (after_end x)
-fit_ended J K x f = record { session = f.session; db = f.db; transaction = refl }
+fit_ended J K x f = record { session = f.session; db = f.db; charset = f.charset; transaction = refl }
 
 pub fit_begun : (J : Journal) (x : Standing) → IsFitState J x → x.origin ≡ None → IsFitState J (after_begin x)
-fit_begun J x f h = record { session = f.session; db = f.db; transaction = (h, refl) }
+fit_begun J x f h = record { session = f.session; db = f.db; charset = f.charset; transaction = (h, refl) }
 
 pub fit_in_database : (J : Journal) (name : Name) (x : Standing) → is_short name ≡ true → IsFitState J x → IsFitState J (in_database name x)
-fit_in_database J name x h f = record { session = f.session; db = h; transaction = f.transaction }
+fit_in_database J name x h f = record { session = f.session; db = h; charset = f.charset; transaction = f.transaction }
 
 -- ---- a statement on rows arrives
 
@@ -163,7 +162,7 @@ whole_before J = ap (λ n. take n J) (omega arith) ∙ take_all (length J) J (om
 no_own : (d : Database) → is_within_rows d ≡ true → AreOwn [] d
 no_own d h = record { rows = refl; follow = record { small = refl; fit = refl; within = h } }
 
-sight_by : (J : Journal) (d : Database) (p : Option ℕ) (ops : List RowOp) (origin : Option Database) → IsSound J d → IsFitAt J origin p ops
+sight_by : {o : Options} (J : Journal) (d : Database) (p : Option ℕ) (ops : List RowOp) (origin : Option Database) → IsSound o J d → IsFitAt J origin p ops
     → IsFitTransaction J (origin_taken (Some (record { snapshot = p; operations = ops })) d origin) (snapshot_taken (length J + 1) (record { snapshot = p; operations = ops }))
 sight_by J d None ops origin s h =
     let whole : d ≡ present (before (length J + 1) J) = s.database ∙ ap present (sym (whole_before J)) in
@@ -177,7 +176,7 @@ sight_by J d None ops origin s h =
     }
 sight_by J d (Some place) ops origin s h = h
 
-sight_with : (J : Journal) (d : Database) (t : Option Transaction) (origin : Option Database) → IsSound J d → IsFitIn J origin t
+sight_with : {o : Options} (J : Journal) (d : Database) (t : Option Transaction) (origin : Option Database) → IsSound o J d → IsFitIn J origin t
     → IsFitIn J (origin_taken t d origin) (option_map (snapshot_taken (length J + 1)) t)
 sight_with J d None origin s h = h
 sight_with J d (Some t) origin s h = sight_by J d t.snapshot t.operations origin s h
@@ -187,10 +186,11 @@ opened_with J autocommit s (Some t) origin h = h
 opened_with J true s None origin h = h
 opened_with J false s None origin h = (h, refl)
 
-pub fit_arrived : (J : Journal) (d : Database) (x : Standing) → IsSound J d → IsFitState J x → IsFitState J (arrived_standing (length J + 1) d x)
+pub fit_arrived : {o : Options} (J : Journal) (d : Database) (x : Standing) → IsSound o J d → IsFitState J x → IsFitState J (arrived_standing (length J + 1) d x)
 fit_arrived J d x s f = record {
   session = f.session;
   db = f.db;
+  charset = f.charset;
   transaction = sight_with J d (opened x.state) x.origin s (opened_with J x.state.autocommit x.state x.state.transaction x.origin f.transaction);
 }
 
@@ -230,7 +230,7 @@ added_with J s None ops origin there f a = f
 added_with J s (Some t) ops origin there f a = added_by J t.snapshot t.operations ops origin there f a
 
 pub fit_added : (J : Journal) (x : Standing) (ops : List RowOp) → IsFitState J x → is_some x.origin ≡ true → AreOwn ops (base x.state J) → IsFitState J (added ops x)
-fit_added J x ops f there a = record { session = f.session; db = f.db; transaction = added_with J x.state x.state.transaction ops x.origin there f.transaction a }
+fit_added J x ops f there a = record { session = f.session; db = f.db; charset = f.charset; transaction = added_with J x.state x.state.transaction ops x.origin there f.transaction a }
 
 -- ---- before it has a snapshot, all journals are alike
 
@@ -246,7 +246,7 @@ unseen_with J K None origin e f = f
 unseen_with J K (Some t) origin e f = unseen_by J K t.snapshot t.operations origin e f
 
 pub fit_unseen : (J K : Journal) (x : Standing) → x.origin ≡ None → IsFitState J x → IsFitState K x
-fit_unseen J K x e f = record { session = f.session; db = f.db; transaction = unseen_with J K x.state.transaction x.origin e f.transaction }
+fit_unseen J K x e f = record { session = f.session; db = f.db; charset = f.charset; transaction = unseen_with J K x.state.transaction x.origin e f.transaction }
 
 -- ---- the database at its snapshot is one of this journal
 

@@ -1,5 +1,6 @@
 -- What a session's methods do.
-use Rattle.std.specs.Prelude.{◌≡◌, ℕ, ◌+◌, codes, List, [], ◌∷◌, ◌++◌, length, None, Result, Ok, Err, MatchResult}
+use Rattle.std.specs.Prelude.{◌≡◌, ℕ, ◌+◌, ◌≤◌, true, codes, List, [], ◌∷◌, ◌++◌, length, None, Result, Ok, Err, MatchResult}
+use Rattle.qc_types.specs.declared.options.Options.{Options}
 use Rattle.qc_types.specs.declared.text.Text.{Text}
 use Rattle.qc_sql.specs.declared.commands.Command.{Command}
 use Rattle.qc_sql.specs.declared.commands.Command.TheVariants as command
@@ -13,84 +14,118 @@ use Rattle.qc_sql.specs.declared.statements.Select.{Select}
 use Rattle.qc_sql.specs.Rows.{rows}
 use Rattle.qc_sql.specs.Effects.{Effect, effect}
 use Rattle.qc_model.specs.declared.events.Event.TheVariants as event
+use Rattle.qc_model.specs.declared.events.How.{How}
 use Rattle.qc_model.specs.declared.events.How.TheVariants as how
-use Rattle.qc_model.specs.Journal.{Journal}
+use Rattle.qc_model.specs.Choice.{Allows}
+use Rattle.qc_model.specs.Journal.{Journal, event_count, events_of, is_by}
 use Rattle.qc_model.specs.Machine.{Given, changed_rows, refused, ok_reply}
 use Rattle.qc_model.specs.Settings.{set_to}
 use Rattle.qc_sql.specs.Errors.{not_supported}
 use Rattle.qc_sql.specs.declared.statements.Setting.{Setting}
 use Rattle.qc_sql.specs.declared.tables.RowOp.{RowOp}
 use Rattle.qc_types.specs.declared.sql_error.SqlError.{SqlError}
-use Rattle.qc_answer.specs.Answers.{error_code}
 use Rattle.qc_model.specs.Session.{State, starting, base, flags_of, select_reply, with_transaction}
-use Rattle.qc_model.specs.Agrees.{line, word_of}
+use Rattle.qc_model.specs.Agrees.{fill_ends, line, word_of}
 use Rattle.qc_sessions.specs.Runs.{Stand, stand, Answers, Runs}
 use Rattle.qc_single.specs.declared.session.Session.{Session}
-use Rattle.qc_single.specs.Stage.{first_machine, without_cache}
-use Rattle.qc_single.specs.Sound.{only_session, next_who, reason_of, IsSound, IsFitState, arrived_standing}
+use Rattle.qc_single.specs.Stage.{first_machine, HasWords}
+use Rattle.qc_single.specs.Sound.{only_session, next_who, IsSound, IsCached, IsFitState, arrived_standing}
 
 -- where the session stands
 abbrev pub stand_of : Session → Stand
-stand_of s = stand s.journal.events s.state.state (length s.journal.events)
+stand_of s = stand s.journal.events s.state.state s.place
 
 -- where it begins
-abbrev pub begun : Stand
-begun = stand [] (starting only_session 1) 0
+abbrev pub begun : Options → Stand
+begun options = stand [] (starting only_session options.kind) 0
 
 -- what holds between two commands
 pub record IsFit (s : Session) : Type 0 where
-  pub sound : IsSound s.journal.events s.database
+  pub sound : IsSound s.options s.journal.events s.database
   pub state : IsFitState s.journal.events s.state
+  pub cached : IsCached s.journal.events s.kept
+  pub words : HasWords s.options
+  pub numbered : s.number ≡ event_count s.journal.events only_session + 1
+  pub reached : s.place ≤ length s.journal.events
+
+-- the line of an event at a place
+abbrev pub line_at : ℕ → Event → Text → ReportLine
+line_at place e reply = record { place = place; how = word_of e; reply = reply }
 
 -- an event more, with a line at its place; nothing else changes
 pub record Adds (old new : Session) (e : Event) (reply : Text) : Type 0 where
   pub events : new.journal.events ≡ old.journal.events ++ e ∷ []
-  pub lines : new.lines ≡ old.lines ++ record { place = length old.journal.events + 1; how = word_of e; reply = reply } ∷ []
+  pub lines : new.lines ≡ old.lines ++ line_at (length old.journal.events + 1) e reply ∷ []
+  pub place : new.place ≡ length old.journal.events + 1
+  pub number : new.number ≡ old.number + 1
   pub database : new.database ≡ old.database
   pub state : new.state ≡ old.state
+  pub kept : new.kept ≡ old.kept
+  pub options : new.options ≡ old.options
 
--- the same, with what the event commits, and the session is fit for its next command
+-- the event of a command is of the session, and behind it stands what becomes of an entry that it began
+pub record IsRest (journal : Journal) (e : Event) (rest : Journal) : Type 0 where
+  pub mine : is_by only_session e ≡ true
+  pub silent : events_of only_session rest ≡ []
+  pub ended : fill_ends (journal ++ e ∷ rest) e ≡ true
+
+-- a command's event with its line, what it commits, and what becomes of an entry that it began; the session is fit for its next command
 pub record Logs (old new : Session) (e : Event) (reply : Text) : Type 0 where
-  pub events : new.journal.events ≡ old.journal.events ++ e ∷ []
-  pub lines : new.lines ≡ old.lines ++ record { place = length old.journal.events + 1; how = word_of e; reply = reply } ∷ []
+  pub rest : Journal
+  pub ends : IsRest old.journal.events e rest
+  pub events : new.journal.events ≡ old.journal.events ++ e ∷ rest
+  pub lines : new.lines ≡ old.lines ++ line_at (length old.journal.events + 1) e reply ∷ []
+  pub place : new.place ≡ length old.journal.events + 1
   pub state : new.state ≡ old.state
+  pub options : new.options ≡ old.options
   pub fit : IsFit new
 
--- a line more, at the place of the last event; nothing else changes
+-- a line more, at the place of the last one; nothing else changes
 pub record Tells (old new : Session) (reply : Text) : Type 0 where
-  pub events : new.journal.events ≡ old.journal.events
-  pub lines : new.lines ≡ old.lines ++ record { place = length old.journal.events; how = word.Local; reply = reply } ∷ []
-  pub database : new.database ≡ old.database
-  pub state : new.state ≡ old.state
+  pub lines : new.lines ≡ old.lines ++ record { place = old.place; how = word.Local; reply = reply } ∷ []
+  pub same : new ≡ record old { lines = new.lines }
 
 -- a statement on rows has arrived
 pub record Arrives (old new : Session) : Type 0 where
-  pub journal : new.journal ≡ old.journal
-  pub lines : new.lines ≡ old.lines
-  pub database : new.database ≡ old.database
   pub state : new.state ≡ arrived_standing (length old.journal.events + 1) old.database old.state
+  pub same : new ≡ record old { state = new.state }
 
 -- a command's event with its line, what it commits, and the session's next state
 pub record GivesOut (old new : Session) (g : Given) : Type 0 where
-  pub events : new.journal.events ≡ old.journal.events ++ g.event ∷ []
+  pub rest : Journal
+  pub ends : IsRest old.journal.events g.event rest
+  pub events : new.journal.events ≡ old.journal.events ++ g.event ∷ rest
   pub lines : new.lines ≡ old.lines ++ line (length old.journal.events + 1) (word_of g.event) g.reply ∷ []
+  pub place : new.place ≡ length old.journal.events + 1
   pub state : new.state.state ≡ g.next
+  pub options : new.options ≡ old.options
   pub fit : IsFit new
 
 -- a reply without an event, and the session's next state
 pub record TellsOut (old new : Session) (reply : Reply) (next : State) : Type 0 where
   pub events : new.journal.events ≡ old.journal.events
-  pub lines : new.lines ≡ old.lines ++ line (length old.journal.events) word.Local reply ∷ []
+  pub lines : new.lines ≡ old.lines ++ line old.place word.Local reply ∷ []
+  pub place : new.place ≡ old.place
   pub state : new.state.state ≡ next
+  pub options : new.options ≡ old.options
   pub fit : IsFit new
 
 -- ---- what commands give
 
--- a select in the state in which it is judged
-abbrev pub select_given : Journal → State → Select → Given
-select_given journal state s =
-    let r = rows s (base state journal) state.db (flags_of state) state.session in
-    record { event = event.Run (next_who journal) (how.Plain (reason_of (error_code r))); reply = select_reply (flags_of state) r; next = state }
+-- a select in the state in which it is judged, with an event of its own
+abbrev pub select_given : Journal → State → Select → How → Given
+select_given journal state s h = record {
+  event = event.Run (next_who journal) h;
+  reply = select_reply (flags_of state) (rows s (base state journal) state.db (flags_of state) state.session);
+  next = state;
+}
+
+-- with one that it may have
+abbrev pub SelectsOut : Session → Session → List ℕ → Select → Type 0
+SelectsOut old new text s =
+    let state = old.state.state in
+    let journal = old.journal.events in
+    (h : How) × Allows old.options state text s journal h × GivesOut old new (select_given journal state s h)
 
 -- a statement that changes rows, in the state in which it is judged
 abbrev pub rows_given : Journal → State → Statement → Given
@@ -115,8 +150,9 @@ SetsOther setting old new = MatchResult (set_to old.state.state setting) (λ nex
 -- one command was answered
 pub record DoesOne (c : Command) (old new : Session) : Type 0 where
   pub answered : ReportLine
-  pub answers : Answers first_machine without_cache only_session (stand_of old) c answered (stand_of new)
+  pub answers : Answers first_machine old.options only_session (stand_of old) c answered (stand_of new)
   pub lines : new.lines ≡ old.lines ++ answered ∷ []
+  pub options : new.options ≡ old.options
   pub fit : IsFit new
 
 -- a query of a text that means this statement was answered
@@ -125,5 +161,5 @@ DoesStatement s old new = (text : List ℕ) → meaning (trimmed text) old.state
 
 -- the session has taken these commands
 pub record HasTaken (cs : List Command) (s : Session) : Type 0 where
-  pub runs : Runs first_machine without_cache only_session begun cs s.lines (stand_of s)
+  pub runs : Runs first_machine s.options only_session (begun s.options) cs s.lines (stand_of s)
   pub fit : IsFit s

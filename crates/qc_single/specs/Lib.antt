@@ -2,4 +2,5 @@ pub mod Stage
 pub mod Sound
 pub mod Ends
 pub mod Going
+pub mod Choosing
 pub mod Told

@@ -1,24 +1,28 @@
 -- What stays true of a session that runs by itself, between two of its commands.
-use Rattle.std.specs.Prelude.{◌≡◌, ◌==◌, ◌≤◌, ◌+◌, ◌++◌, ℕ, Bool, true, false, ◌&&◌, List, [], ◌∷◌, length, Option, Some, None}
-use Rattle.std.specs.List.{list_all}
+use Rattle.std.specs.Prelude.{◌≡◌, ◌==◌, ◌≤◌, ◌+◌, ◌++◌, ℕ, Bool, true, false, ◌&&◌, ◌||◌, List, [], ◌∷◌, length, map, Option, Some, None}
+use Rattle.std.specs.List.{list_all, AllByRecursion}
+use Rattle.qc_types.specs.declared.options.Options.{Options}
 use Rattle.qc_sql.specs.declared.tables.RowOp.{RowOp}
 use Rattle.qc_sql.specs.declared.tables.RowOp.TheVariants as op
 use Rattle.qc_sql.specs.Database.{Name, MapOf, Table, Tables, Database, apply}
 use Rattle.qc_model.specs.declared.events.Event.{Event}
 use Rattle.qc_model.specs.declared.events.Event.TheVariants as event
+use Rattle.qc_model.specs.declared.events.GoneWhy.TheVariants as gone
+use Rattle.qc_model.specs.declared.events.How.{How}
 use Rattle.qc_model.specs.declared.events.How.TheVariants as how
 use Rattle.qc_model.specs.declared.events.Reason.{Reason}
 use Rattle.qc_model.specs.declared.events.Reason.TheVariants as reason
 use Rattle.qc_model.specs.declared.events.Who.{Who}
 use Rattle.qc_model.specs.Agrees.{who_of}
-use Rattle.qc_model.specs.Journal.{Journal, present, before}
-use Rattle.qc_model.specs.Session.{State, Transaction}
+use Rattle.qc_model.specs.Cache.{Entry, cache, is_hit, is_start}
+use Rattle.qc_model.specs.Journal.{Journal, present, before, event_count}
+use Rattle.qc_model.specs.Session.{State, Transaction, answer}
 use Rattle.qc_model.specs.Licence.{IsLawful, ops_fit, is_within_rows}
 use Rattle.qc_bounds.specs.Names.{is_short}
 use Rattle.qc_bounds.specs.Replies.{is_bounded_database, is_bounded_operation}
 use Rattle.qc_fits.specs.Sound.{IsSoundDatabase, IsNoChangeAt, is_row_op}
 use Rattle.qc_trx.specs.Standings.{Standing, after_arrival, after_sight}
-use Rattle.qc_single.specs.Stage.{without_cache}
+use Rattle.qc_kept.specs.declared.answers.KeptAnswer.{KeptAnswer}
 
 -- the number of the one session
 abbrev pub only_session : ℕ
@@ -26,7 +30,7 @@ only_session = 1
 
 -- the session, and the number of its next event
 abbrev pub next_who : Journal → Who
-next_who journal = who_of only_session (length journal + 1)
+next_who journal = who_of only_session (event_count journal only_session + 1)
 
 -- ---- its events
 
@@ -40,13 +44,25 @@ makes_short_name _ = true
 abbrev pub is_small_operation : RowOp → Bool
 is_small_operation o = is_bounded_operation o && makes_short_name o
 
--- a commit of such operations, or a run outside the cache, of this session
+-- the reasons that a session by itself has: no other fills an entry, and there is always room
+abbrev pub is_own_reason : Reason → Bool
+is_own_reason (reason.Rival serial) = false
+is_own_reason (reason.NoRoom need largest) = false
+is_own_reason _ = true
+
+-- a run that leaves the cache as it is
+abbrev pub is_quiet : How → Bool
+is_quiet (how.Plain why) = is_own_reason why
+is_quiet how.Other = true
+is_quiet (how.Conflict t key by) = true
+is_quiet _ = false
+
+-- a commit of such operations, a run of this session, or the end of an entry that it began
 abbrev pub is_simple : Event → Bool
 is_simple (event.Commit who ops) = (who.session == only_session) && list_all is_small_operation ops
-is_simple (event.Run who how.Other) = who.session == only_session
-is_simple (event.Run who (how.Plain reason.Off)) = who.session == only_session
-is_simple (event.Run who (how.Plain (reason.Error code))) = who.session == only_session
-is_simple (event.Run who (how.Conflict table key by)) = who.session == only_session
+is_simple (event.Run who h) = (who.session == only_session) && (is_quiet h || is_hit h || is_start h)
+is_simple (event.Done serial) = true
+is_simple (event.Gone serial (gone.TooLarge bytes limit)) = true
 is_simple _ = false
 
 -- ---- its database
@@ -69,11 +85,22 @@ pub record IsOrderly (d : Database) : Type 0 where
   pub short : are_short d ≡ true
 
 -- the journal is lawful, and the database is the one that it makes
-pub record IsSound (journal : Journal) (d : Database) : Type 0 where
+pub record IsSound (options : Options) (journal : Journal) (d : Database) : Type 0 where
   pub simple : list_all is_simple journal ≡ true
-  pub lawful : IsLawful without_cache journal
+  pub lawful : IsLawful options journal
   pub database : d ≡ present journal
   pub orderly : IsOrderly d
+
+-- ---- the answers that it keeps
+
+-- an answer that is kept is a complete entry
+abbrev pub entry_of : KeptAnswer → Entry
+entry_of a = record { serial = a.serial; key = a.key; tables = a.tables; complete = true }
+
+-- the answers are the entries of the cache, and each has the packets that its statement has now
+pub record IsCached (journal : Journal) (kept : List KeptAnswer) : Type 0 where
+  pub entries : cache journal ≡ map entry_of kept
+  pub answers : AllByRecursion (λ a. answer a.key (present journal) ≡ Some a.packets) kept
 
 -- ---- its transaction
 
@@ -111,14 +138,8 @@ IsFitIn journal origin (Some t) = IsFitTransaction journal origin t
 pub record IsFitState (journal : Journal) (x : Standing) : Type 0 where
   pub session : x.state.session ≡ only_session
   pub db : is_short x.state.db ≡ true
+  pub charset : (x.state.charset == 33 || x.state.charset == 45) ≡ true
   pub transaction : IsFitIn journal x.origin x.state.transaction
-
--- ---- what it writes
-
--- why a select has a plain run: the code of the error that refuses it, or there is no cache
-abbrev pub reason_of : Option ℕ → Reason
-reason_of None = reason.Off
-reason_of (Some code) = reason.Error code
 
 -- ---- what arrives
 

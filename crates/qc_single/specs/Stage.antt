@@ -1,11 +1,12 @@
 -- The machine of this stage: the commands that are taken so far. All others get the form refusal, and change nothing.
-use Rattle.std.specs.Prelude.{Bool, true, false, Result, Ok, Err}
+use Rattle.std.specs.Prelude.{◌≡◌, ◌<◌, ◌==◌, Bool, true, false, Result, Ok, Err}
 use Rattle.qc_sql.specs.declared.commands.Command.{Command}
 use Rattle.qc_sql.specs.declared.commands.Command.TheVariants as command
 use Rattle.qc_sql.specs.declared.statements.Statement.{Statement}
 use Rattle.qc_sql.specs.declared.statements.Statement.TheVariants as statement
 use Rattle.qc_sql.specs.Grammar.{ParseFault, meaning, trimmed}
 use Rattle.qc_model.specs.Journal.{Journal}
+use Rattle.qc_model.specs.Licence.{region_words}
 use Rattle.qc_model.specs.Session.{State}
 use Rattle.qc_types.specs.declared.options.Options.{Options}
 use Rattle.qc_model.specs.Agrees.{Machine, machine_taking}
@@ -17,6 +18,10 @@ takes_statement statement.FlushCache = false
 takes_statement statement.FlushTables = false
 takes_statement statement.ResetCache = false
 takes_statement _ = true
+
+abbrev pub is_select : Statement → Bool
+is_select (statement.Select s) = true
+is_select _ = false
 
 -- INSERT, UPDATE and DELETE
 abbrev pub changes_rows : Statement → Bool
@@ -42,3 +47,7 @@ first_machine = machine_taking takes
 -- with no memory for the cache, and else as by default
 abbrev pub without_cache : Options
 without_cache = record { size = 0; limit = 1048576; unit = 4096; kind = 1 }
+
+-- the memory of the cache has a word, where there is any
+abbrev pub HasWords : Options → Type 0
+HasWords options = (options.size == 0) ≡ false → 0 < region_words options

@@ -2,11 +2,18 @@
 #![tactic(auto)]
 
 mod applied;
+mod databases;
 mod ending;
+mod events;
+mod forms;
+mod hits;
 mod replies;
+mod rows;
+mod selects;
 mod session;
 mod settings;
 #[cfg(test)]
 mod tests;
+mod transactions;
 
 pub use session::{ONLY_SESSION, Session};

@@ -22,7 +22,10 @@
 //! ```text
 //! -                                  none
 //! other                              a command that is no SELECT and changed no data
-//! plain off                          a SELECT, and there is no cache
+//! hit 1                              a SELECT, answered by the entry with this serial
+//! start 1 done                       a SELECT that begins an entry, which is completed
+//! start 1 gone 62 over 61            the same, where a front of its reply is longer than what is kept
+//! plain off                          a SELECT outside the cache, and why: off, notasked, locking, notables, systemtable, function, written
 //! plain error 1146                   a SELECT that was refused
 //! commit put d.t 7,abc; del d.t 8    operations, in their order
 //! ```
@@ -31,6 +34,7 @@
 //! A line of the session that has another place or word than its event says is an error too, and so is an event of another session or number.
 
 mod autocommit;
+mod cached;
 mod definitions;
 mod deletes;
 mod inserts;
@@ -44,10 +48,11 @@ ghost use Rattle.std.specs.Prelude.{◌≡◌, ◌<◌, ◌≤◌, length, IfOk,
 ghost use Rattle.qc_sql.specs.Commands.{command_payload};
 ghost use Rattle.qc_sql.specs.Packets.{most_payload};
 ghost use Rattle.qc_single.specs.Going.{IsFit};
+ghost use Rattle.qc_single.specs.Stage.{HasWords};
 
 use crate::Session;
 use qc_sql::commands::Command;
-use qc_types::{NoMemory, Steps, Text};
+use qc_types::{NoMemory, Options, Steps, Text};
 use show::{Before, put_answer, put_event};
 use std::alloc::Global;
 use std::marker::Brand;
@@ -70,12 +75,13 @@ struct Run {
 }
 
 impl Run {
-    fn new(alloc: Global) -> Result<Run, NoMemory>
+    fn new(alloc: Global, options: Options) -> Result<Run, NoMemory>
+        requires { HasWords options }
         ensures { IfOk result (λ run. IsFit run.session) }
     {
         Ok(Run {
             alloc,
-            session: Session::new(alloc)?,
+            session: Session::new(alloc, options)?,
             lines: String::new(alloc),
         })
     }
@@ -155,23 +161,53 @@ fn front(alloc: Global, text: &[u8]) -> Result<String, NoMemory> {
     Ok(String::from_utf8_lossy(alloc, front)?)
 }
 
+/// The options with which a cache of this size keeps replies of so many bytes.
+fn options(size: u32, limit: u32) -> Options
+    ensures { result ≡ record { size = size; limit = limit; unit = 4096; kind = 1 } }
+{
+    Options {
+        size,
+        limit,
+        unit: 4096,
+        kind: 1,
+    }
+}
+
 /// What a session on an empty database answers and leaves otherwise than a script says.
-fn differences(alloc: Global, script: &[Step]) -> Result<String, Fail> {
-    differences_by::<Brand>(alloc, script, Blank::new(1))
+fn differences_with(alloc: Global, options: Options, script: &[Step]) -> Result<String, Fail>
+    requires words { HasWords options }
+{
+    differences_by::<Brand>(alloc, options, script, Blank::new(1))
 }
 
 /// The same, with the steps counted on this ledger.
-fn differences_by<L: Ledger>(alloc: Global, script: &[Step], blank: Blank) -> Result<String, Fail>
+fn differences_by<L: Ledger>(
+    alloc: Global,
+    options: Options,
+    script: &[Step],
+    blank: Blank,
+) -> Result<String, Fail>
+    requires words { HasWords options }
     requires name { blank.name ≡ L.name }
     requires parts { blank.parts ≡ L.parts }
     requires one { 0 < blank.parts }
 {
     let mut steps = Steps::<L>::new(blank);
-    let mut run = Run::new(alloc)?;
+    let mut run = Run::new(alloc, options)?;
     for step in script {
         run.take(step, &mut steps)?;
     }
     Ok(run.lines)
+}
+
+/// What one without a cache answers and leaves otherwise.
+fn differences(alloc: Global, script: &[Step]) -> Result<String, Fail> {
+    differences_with(alloc, options(0, 1_048_576), script)
+}
+
+/// What one with a cache does, where it keeps replies of so many bytes.
+fn cached_differences(alloc: Global, limit: u32, script: &[Step]) -> Result<String, Fail> {
+    differences_with(alloc, options(1_048_576, limit), script)
 }
 
 /// The differences of several scripts, each on a session of its own.
@@ -272,6 +308,34 @@ fn refused_texts_and_the_cache(rt: HostRuntime) -> Result<(), Fail> {
         texts::WITHOUT_A_CACHE,
     ];
     let lines = differences_of_all(rt.alloc(), &scripts)?;
+    assert!(rt; lines.is_empty(), "{lines}");
+    Ok(())
+}
+
+#[test]
+fn the_cache_answers(rt: HostRuntime) -> Result<(), Fail> {
+    let mut lines = String::new(rt.alloc());
+    for script in [
+        cached::HITS,
+        cached::WRITES,
+        cached::KEYS,
+        cached::REASONS,
+        cached::TRANSACTIONS,
+    ] {
+        let more = cached_differences(rt.alloc(), 1_048_576, script)?;
+        lines.push_str(&more)?;
+    }
+    assert!(rt; lines.is_empty(), "{lines}");
+    Ok(())
+}
+
+#[test]
+fn replies_that_are_too_large(rt: HostRuntime) -> Result<(), Fail> {
+    let mut lines = cached_differences(rt.alloc(), 62, cached::OF_62_BYTES)?;
+    let of_61 = cached_differences(rt.alloc(), 61, cached::TOO_LARGE)?;
+    let of_46 = cached_differences(rt.alloc(), 46, cached::FRONT_TOO_LARGE)?;
+    lines.push_str(&of_61)?;
+    lines.push_str(&of_46)?;
     assert!(rt; lines.is_empty(), "{lines}");
     Ok(())
 }

@@ -1,19 +1,21 @@
 //! What a command was answered and what event it left, as a line.
 
 use crate::Session;
-use qc_model::events::{Event, How, Reason, Who};
+use qc_model::events::{Event, GoneWhy, How, Reason, Who};
 use qc_model::reports::{ReportLine, Word};
 use qc_sql::replies::{Reply, TextRow};
 use qc_sql::tables::{Column, Kind, RowOp};
-use qc_types::{NoMemory, Or, TableName, Value};
+use qc_types::{NoMemory, Or, TableName, Value, Why};
 use qc_wire::read_reply;
 use std::alloc::Global;
 
-/// How many lines and events a session has.
+/// How many lines and events a session has, the number of its next event, and the place of its last line.
 #[derive(Clone, Copy)]
 pub struct Before {
     lines: usize,
     events: u64,
+    number: u64,
+    place: u64,
 }
 
 impl Before {
@@ -21,6 +23,8 @@ impl Before {
         Before {
             lines: session.lines.items().len(),
             events: session.journal.len(),
+            number: session.number,
+            place: session.place,
         }
     }
 }
@@ -50,7 +54,7 @@ pub fn put_answer(
     }
 }
 
-/// The event of the command since then, and what is wrong with its line or its number.
+/// The event of the command since then with what became of an entry that it began, and what is wrong with its line or its number.
 pub fn put_event(
     alloc: Global,
     session: &Session,
@@ -60,20 +64,25 @@ pub fn put_event(
     let last = session.journal.len();
     if last <= before.events {
         put(b"-", out)?;
-        return put_faults(session, before, Word::Local, out);
+        return put_faults(session, before, before.place, Word::Local, out);
     }
-    let event = session.journal.event(last);
+    let place = before.events + 1;
+    let event = session.journal.event(place);
     put_one_event(alloc, event, out)?;
-    if last - before.events > 1 {
+    if last > place {
+        put(b" ", out)?;
+        put_one_event(alloc, session.journal.event(last), out)?;
+    }
+    if last - place > 1 {
         put(b" behind another event", out)?;
     }
-    if !is_numbered(event, last) {
+    if !is_numbered(event, before.number) {
         put(b" of another number", out)?;
     }
-    put_faults(session, before, word_of(event), out)
+    put_faults(session, before, place, word_of(event), out)
 }
 
-/// Whether an event is that of session 1 with this number, as each event is where there is one session and no cache.
+/// Whether an event is that of session 1 with this number.
 fn is_numbered(event: &Event, wanted: u64) -> bool {
     match event {
         Event::Run { who, .. } | Event::Commit { who, .. } => is_who(*who, wanted),
@@ -98,17 +107,18 @@ fn word_of(event: &Event) -> Word {
     }
 }
 
-/// What is wrong with the new line: its place is the number of the last event.
+/// What is wrong with the new line, which has this place and word.
 fn put_faults(
     session: &Session,
     before: Before,
+    place: u64,
     word: Word,
     out: &mut Vec<u8>,
 ) -> Result<(), NoMemory> {
     let Some(line) = new_line(session, before) else {
         return Ok(());
     };
-    if line.place != session.journal.len() {
+    if line.place != place {
         put(b" at another place", out)?;
     }
     if line.how != word {
@@ -181,21 +191,70 @@ fn put_one_event(alloc: Global, event: &Event, out: &mut Vec<u8>) -> Result<(), 
     match event {
         Event::Run { how, .. } => put_how(alloc, how, out),
         Event::Commit { ops, .. } => put_ops(alloc, ops.items(), out),
-        _ => put(b"an event of the cache", out),
+        Event::Done { .. } => put(b"done", out),
+        Event::Gone { why, .. } => put_gone(alloc, why, out),
+        _ => put(b"another event", out),
     }
 }
 
 fn put_how(alloc: Global, how: &How, out: &mut Vec<u8>) -> Result<(), NoMemory> {
     match how {
-        How::Plain(Reason::Off) => put(b"plain off", out),
-        How::Plain(Reason::Error(code)) => {
-            put(b"plain error ", out)?;
-            put_number(alloc, u64::from(*code), out)
+        How::Hit(serial) => {
+            put(b"hit ", out)?;
+            put_number(alloc, *serial, out)
         }
-        How::Plain(_) => put(b"plain for another reason", out),
+        How::Start { serial, .. } => {
+            put(b"start ", out)?;
+            put_number(alloc, *serial, out)
+        }
+        How::Plain(reason) => {
+            put(b"plain ", out)?;
+            put_reason(alloc, reason, out)
+        }
         How::Other => put(b"other", out),
         How::Conflict { .. } => put(b"conflict", out),
-        _ => put(b"a run by the cache", out),
+        How::Status(_) => put(b"status", out),
+    }
+}
+
+fn put_reason(alloc: Global, reason: &Reason, out: &mut Vec<u8>) -> Result<(), NoMemory> {
+    match reason {
+        Reason::Error(code) => {
+            put(b"error ", out)?;
+            put_number(alloc, u64::from(*code), out)
+        }
+        Reason::Off => put(b"off", out),
+        Reason::NotAsked => put(b"notasked", out),
+        Reason::Rule(why) => put_why(why, out),
+        Reason::Written(table) => put_table(b"written ", table, out),
+        Reason::NotVisible { table, .. } => put_table(b"notvisible ", table, out),
+        Reason::Rival(_) => put(b"rival", out),
+        Reason::NoRoom { .. } => put(b"noroom", out),
+    }
+}
+
+fn put_why(why: &Why, out: &mut Vec<u8>) -> Result<(), NoMemory> {
+    match why {
+        Why::Locking => put(b"locking", out),
+        Why::NoTables => put(b"notables", out),
+        Why::SystemTable(table) => put_table(b"systemtable ", table, out),
+        Why::Function(name) => {
+            put(b"function ", out)?;
+            put(name.bytes(), out)
+        }
+    }
+}
+
+fn put_gone(alloc: Global, why: &GoneWhy, out: &mut Vec<u8>) -> Result<(), NoMemory> {
+    match why {
+        GoneWhy::TooLarge { length, limit } => {
+            put(b"gone ", out)?;
+            put_number(alloc, *length, out)?;
+            put(b" over ", out)?;
+            put_number(alloc, u64::from(*limit), out)
+        }
+        GoneWhy::NoRoom { .. } => put(b"gone for want of room", out),
+        GoneWhy::Ended => put(b"gone with its session", out),
     }
 }
 

@@ -5,7 +5,7 @@ use Rattle.qc_model.specs.ScriptLines.{script_of}
 use Rattle.qc_app.specs.declared.top.Ended.{Ended}
 use Rattle.qc_app.specs.Top.{RefusesInput, IsRunOf}
 use Rattle.qc_app.proofs.Inputs.{script_is_small}
-use Rattle.qc_app.proofs.Tops.{refusal_is, not_taken, not_refused, run_is, if_some, given, given_refusal}
+use Rattle.qc_app.proofs.Tops.{refusal_is, not_taken, not_refused, run_is, if_some, given, given_refusal, words_have}
 use Rattle.qc_app.proofs.top.qcache_main.Goals as goal
 
 pub returns-in-Err-Other-clause-refusal : goal.returns-in-Err-Other-clause-refusal
@@ -24,6 +24,9 @@ returns-in-Err-Other-clause-completes g c = λ chosen tells quiet still.
     let refusal = c.in-Err-Other.refusal in
     let means = given_refusal c.read_script.result c.in-Err-Other.field-0 refusal (script_of c.deref.result.now) c.in-Err-Other.is c.in-Err-Other.field-0-is c.read_script.ensures in
     not_taken (left c.args.input.now) (left c.read_input.new.input) c.in-Ok.bytes.items refusal c.in-Ok.ensures.bytes (ap script_of (sym c.deref.ensures.value) ∙ means) tells
+
+pub run_script-requires-clause-words : goal.run_script-requires-clause-words
+run_script-requires-clause-words g c = words_have (map (string_bytes {Z = Global}) c.args.words.now) c.in-Some.options (sym c.read_words.ensures ∙ c.in-Some.is)
 
 pub run_script-requires-clause-small : goal.run_script-requires-clause-small
 run_script-requires-clause-small g c =

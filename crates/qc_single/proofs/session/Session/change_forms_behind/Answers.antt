@@ -6,7 +6,7 @@ use Rattle.qc_fits.proofs.RowChanges.{forms_change}
 use Rattle.qc_model.specs.Session.{own_operations}
 use Rattle.qc_model.specs.Machine.{Given}
 use Rattle.qc_single.specs.Going.{GivesOut, forms_given}
-use Rattle.qc_single.proofs.Forms.{orderly_behind, change_follows, forms_refused}
+use Rattle.qc_single.proofs.TableChanges.{orderly_behind, change_follows, forms_refused}
 use Rattle.qc_single.proofs.Methods.{on_ok}
 use Rattle.qc_single.proofs.session.Session.change_forms_behind.Goals as goal
 

@@ -6,7 +6,7 @@ use Rattle.qc_model.specs.Session.{own_operations}
 use Rattle.qc_model.specs.Machine.{ok_reply}
 use Rattle.qc_single.specs.declared.session.Session.{Session}
 use Rattle.qc_single.specs.Sound.{MayFollow}
-use Rattle.qc_single.proofs.Forms.{follow_behind, made_behind, forms_out}
+use Rattle.qc_single.proofs.TableChanges.{follow_behind, made_behind, forms_out}
 use Rattle.qc_single.proofs.Methods.{on_ok}
 use Rattle.qc_single.proofs.session.Session.commit_forms.Goals as goal
 
@@ -29,8 +29,8 @@ pub returns : goal.returns
 returns c =
     let old = c.args.self.now in
     let forms = c.effect.inside.ops in
-    let mid : Session = record { state = c.end-ops.new.self; database = old.database; journal = old.journal; lines = old.lines } in
+    let mid : Session = record old { state = c.end-ops.new.self } in
     on_ok c.commit_ops.result (forms_out old mid c.commit_ops.new.self (Ok c.args.effect) c.args.effect _ _ refl c.requires.some
     (c.in_ok-append.ensures.ok ∙ ap (λ (os : List RowOp). os ++ forms) c.end-ops.ensures.own ∙ ap (λ (x : Effect). own_operations old.state.state ++ x.operations) c.effect.view_is)
-    refl refl c.end-ops.ensures.ended
+    (record { journal = refl; lines = refl; options = refl }) c.end-ops.ensures.ended
     (rw c.status.ensures at c.in_ok-reply.ensures ∙ ap (λ (x : Effect). packets (ok_reply mid.state.state x.affected)) c.effect.view_is)) c.commit_ops.ensures

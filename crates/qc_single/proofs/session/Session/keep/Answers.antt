@@ -19,4 +19,4 @@ run-requires-clause-fit c =
     let old = c.args.self.now in
     let there : is_some old.state.origin ≡ true = snapshot_there old.state c.requires.seen (sym (ap (λ (f : Flags). f.in_trans) c.flags.ensures) ∙ c.if-flags.true) in
     let own : AreOwn c.effect.inside.ops (base old.state.state old.journal.events) = subst (λ (x : Effect). AreOwn x.operations (base old.state.state old.journal.events)) (sym c.effect.view_is) c.requires.own in
-    added_fit old c.add.new.self c.effect.inside.ops c.requires.fit there own c.in_ok-add.ensures.state c.in_ok-add.ensures.database c.in_ok-add.ensures.journal
+    added_fit old c.add.new.self c.effect.inside.ops c.requires.fit there own c.in_ok-add.ensures.state c.add.ensures.same

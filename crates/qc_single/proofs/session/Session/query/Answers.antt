@@ -1,15 +1,10 @@
-use Rattle.std.proofs.Common.{arith}
-use Rattle.qc_parse.specs.Refusals.{as_meant}
-use Rattle.qc_bounds.proofs.Parsed.{parsed_names_are_short}
-use Rattle.qc_single.proofs.Trimmed.{trimmed_below}
-use Rattle.qc_single.proofs.Told.{is_told}
+use Rattle.std.proofs.Common.{◌∙◌}
+use Rattle.qc_single.proofs.Looking.{not_both}
+use Rattle.qc_single.proofs.Methods.{on_ok}
 use Rattle.qc_single.proofs.session.Session.query.Goals as goal
 
-pub parse-requires : goal.parse-requires
-parse-requires g c = rw c.trimmed.ensures (omega (arith, trimmed_below c.args.text.now, c.requires.within))
+pub returns-in-Some-clause-does : goal.returns-in-Some-clause-does
+returns-in-Some-clause-does g c = c.hit.ensures c.args.text.now (rw c.in-Some.is at c.in_ok-found.ensures)
 
-pub execute_statement-requires-clause-short : goal.execute_statement-requires-clause-short
-execute_statement-requires-clause-short g c = parsed_names_are_short c.trimmed.result.now c.flags.result.ansi c.in-Ok.statement c.in-Ok.ensures
-
-pub fault_error-requires : goal.fault_error-requires
-fault_error-requires g c = is_told c.trimmed.result.now c.flags.result.ansi (as_meant c.in-Err-Other.refusal) (rw c.in-Err-Other.field-0-is at c.in-Err-Other.ensures)
+pub returns-in-None-clause-steps : goal.returns-in-None-clause-steps
+returns-in-None-clause-steps g c = on_ok c.parse_and_execute.result (λ does answered. not_both c.args.self.now c.args.text.now (rw c.in-None.is at c.in_ok-found.ensures) answered) c.parse_and_execute.ensures

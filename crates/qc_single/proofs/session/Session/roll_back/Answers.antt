@@ -29,4 +29,4 @@ returns-in_ok-table_full-in-Full c = λ go.
     let ends = rw c.in-Full.is at c.requires.ends in
     on_ok c.refuse.result (λ out. subst (λ (g : Given). GivesOut old new g) (full_ends old.journal.events old.state.state c.in-Full.table go ends.0 ends.1)
     (subst (λ (e : SqlError). GivesOut old new (other who (with_transaction old.state.state None) (refused e))) c.in_ok-table_full-in-Full.ensures
-    (subst (λ (x : Standing). GivesOut old new (other who x.state (refused c.in_ok-table_full-in-Full.field-0))) c.clear.ensures (moved old _ new _ refl refl out)))) c.refuse.ensures
+    (subst (λ (x : Standing). GivesOut old new (other who x.state (refused c.in_ok-table_full-in-Full.field-0))) c.clear.ensures (moved old _ new _ (record { journal = refl; lines = refl; options = refl }) out)))) c.refuse.ensures

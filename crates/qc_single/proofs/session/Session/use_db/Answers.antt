@@ -38,6 +38,10 @@ agree-requires c =
     let short = seen_is_short J old.database old.state name there.0 fit.sound fit.state there.1 in
     record {
       sound = fit.sound;
+      cached = fit.cached;
+      words = fit.words;
+      numbered = fit.numbered;
+      reached = fit.reached;
       state = subst (λ (x : Standing). IsFitState J x) (sym c.use_db.ensures) (rw c.in_ok-copy.ensures (fit_in_database J name old.state short fit.state));
     }
 
@@ -50,7 +54,7 @@ returns c =
     let seen = c.in_ok-view.ensures.seen ∙ view_is J old.database old.state fit.sound fit.state in
     let known : is_some (tables_of name (base old.state.state J)) ≡ true = subst (λ (d : Database). is_some (tables_of name d) ≡ true) seen (sym (rw c.bytes.ensures at c.has_db.ensures) ∙ c.if-not-has_db.false) in
     let there = some_there (tables_of name (base old.state.state J)) known in
-    let mid : Session = record { state = in_database name old.state; database = old.database; journal = old.journal; lines = old.lines } in
+    let mid : Session = record old { state = in_database name old.state } in
     let given : Given = (let next = record old.state.state { db = name } in other (next_who J) next (ok_reply next 0)) in
     on_ok c.agree.result (λ out. subst (λ (g : Given). GivesOut old c.agree.new.self g) (used_there J old.state.state name there.0 there.1)
-    (moved old mid c.agree.new.self given refl refl (rw (c.use_db.ensures, c.in_ok-copy.ensures) at out))) c.agree.ensures
+    (moved old mid c.agree.new.self given (record { journal = refl; lines = refl; options = refl }) (rw (c.use_db.ensures, c.in_ok-copy.ensures) at out))) c.agree.ensures

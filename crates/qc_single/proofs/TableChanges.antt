@@ -1,5 +1,6 @@
 -- A statement that changes tables or databases, behind the operations of the transaction that it ends.
 use Rattle.std.proofs.Common.{◌≡◌, ℕ, ◌<◌, true, List, [], ◌∷◌, ◌++◌, length, refl, sym, ap, ◌∙◌, subst, arith, None, Ok, Err, Result, length-append}
+use Rattle.qc_types.specs.declared.options.Options.{Options}
 use Rattle.qc_types.specs.declared.sql_error.SqlError.{SqlError}
 use Rattle.qc_types.specs.declared.text.Text.{Text}
 use Rattle.qc_sql.specs.declared.tables.RowOp.{RowOp}
@@ -27,13 +28,13 @@ use Rattle.qc_journal.specs.Room.{Recorded}
 use Rattle.qc_single.specs.declared.session.Session.{Session}
 use Rattle.qc_single.specs.Sound.{next_who, IsSound, IsOrderly, MayFollow}
 use Rattle.qc_single.specs.Going.{GivesOut, Logs, forms_given}
-use Rattle.qc_single.proofs.Methods.{given_out, moved}
+use Rattle.qc_single.proofs.Methods.{SameBut, given_out, moved}
 use Rattle.qc_single.proofs.Smalls.{change_small}
 use Rattle.qc_single.proofs.Sounds.{stays_orderly}
 use Rattle.qc_single.proofs.States.{apply_more, follow_more}
 
 -- the database behind the operations
-pub orderly_behind : (J : Journal) (d made : Database) (own : List RowOp) → IsSound J d → MayFollow own d → made ≡ apply own d → IsOrderly made
+pub orderly_behind : {o : Options} (J : Journal) (d made : Database) (own : List RowOp) → IsSound o J d → MayFollow own d → made ≡ apply own d → IsOrderly made
 orderly_behind J d made own s f is = subst IsOrderly (sym is) (stays_orderly own d s.orderly f.small f.fit f.within)
 
 -- what a statement does to it may be carried out
@@ -64,21 +65,21 @@ committed_some who (o ∷ os) h = refl
 -- its event, where it was given as a commit
 pub forms_out : (old mid new : Session) (r : Result Effect SqlError) (x : Effect) (ops : List RowOp) (bytes : Text)
     → r ≡ Ok x → 0 < length x.operations → ops ≡ own_operations old.state.state ++ x.operations
-    → mid.journal ≡ old.journal → mid.lines ≡ old.lines → mid.state ≡ after_end old.state → bytes ≡ packets (ok_reply mid.state.state x.affected)
+    → SameBut old mid → mid.state ≡ after_end old.state → bytes ≡ packets (ok_reply mid.state.state x.affected)
     → Logs mid new (committed (next_who mid.journal.events) ops) bytes → GivesOut old new (forms_given old.journal.events old.state.state (own_operations old.state.state) r)
-forms_out old mid new r x ops bytes is some all journal lines state same l =
+forms_out old mid new r x ops bytes is some all but state same l =
     let J = old.journal.events in
     let st = old.state.state in
     let own = own_operations st in
     let after = with_transaction st None in
     let g : Given = record { event = event.Commit (next_who J) (own ++ x.operations); reply = ok_reply after x.affected; next = after } in
     let long : 0 < length (own ++ x.operations) = omega (arith, length-append own x.operations, some) in
-    let who : next_who mid.journal.events ≡ next_who J = ap (λ (j : Recorded). next_who j.events) journal in
+    let who : next_who mid.journal.events ≡ next_who J = ap (λ (j : Recorded). next_who j.events) but.journal in
     let its : committed (next_who mid.journal.events) ops ≡ g.event = ap (λ (w : Who). committed w ops) who ∙ ap (committed (next_who J)) all ∙ committed_some (next_who J) (own ++ x.operations) long in
     let next : mid.state.state ≡ after = ap (λ (s : Standing). s.state) state in
     let answered : bytes ≡ packets g.reply = same ∙ ap (λ (s : State). packets (ok_reply s x.affected)) next in
     let given : g ≡ forms_given J st own r = given_is J st own r x is in
-    subst (λ (k : Given). GivesOut old new k) given (moved old mid new g journal lines (given_out mid new g bytes answered next (subst (λ (e : Event). Logs mid new e bytes) its l)))
+    subst (λ (k : Given). GivesOut old new k) given (moved old mid new g but (given_out mid new g bytes answered next (subst (λ (e : Event). Logs mid new e bytes) its l)))
   where
     given_is : (J : Journal) (state : State) (own : List RowOp) (r : Result Effect SqlError) (x : Effect) → r ≡ Ok x
         → record { event = event.Commit (next_who J) (own ++ x.operations); reply = ok_reply (with_transaction state None) x.affected; next = with_transaction state None } ≡ forms_given J state own r

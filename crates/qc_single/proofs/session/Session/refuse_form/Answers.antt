@@ -1,0 +1,8 @@
+use Rattle.std.proofs.Common.{subst, OnOk}
+use Rattle.qc_types.specs.declared.sql_error.SqlError.{SqlError}
+use Rattle.qc_model.specs.Machine.{refused}
+use Rattle.qc_single.specs.Going.{TellsOut}
+use Rattle.qc_single.proofs.session.Session.refuse_form.Goals as goal
+
+pub returns : goal.returns
+returns c = subst (λ (e : SqlError). OnOk c.deny.result (TellsOut c.args.self.now c.deny.new.self (refused e) c.args.self.now.state.state)) c.in_ok-error.ensures c.deny.ensures
