@@ -19,7 +19,7 @@ fn number(value: &Value) -> i64
 }
 
 /// The number of a row in its table's primary column. Linear in the number of columns.
-pub(crate) fn key_of_row(columns: &Columns, row: &StoredRow) -> i64
+pub fn key_of_row(columns: &Columns, row: &StoredRow) -> i64
     ensures { result ≡ key_of columns.now row.now }
 {
     let values = row.items();
@@ -51,7 +51,7 @@ fn copy_of_column(alloc: Global, column: &Column) -> Result<Column, NoMemory>
 }
 
 /// The same columns, in memory of their own. Linear in what they hold.
-pub(crate) fn copy_of_columns(alloc: Global, columns: &Columns) -> Result<Columns, NoMemory>
+pub fn copy_of_columns(alloc: Global, columns: &Columns) -> Result<Columns, NoMemory>
     ensures { IfOk result (λ c. c ≡ columns.now) }
 {
     let mut copies = Columns::new(alloc);

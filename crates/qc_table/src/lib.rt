@@ -17,5 +17,6 @@ mod texts;
 mod views;
 
 pub use database::{Database, TableFull};
+pub use keys::{copy_of_columns, key_of_row};
 pub use table_version::TableVersion;
 pub use views::{ColumnView, RowView};

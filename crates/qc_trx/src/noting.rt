@@ -1,14 +1,13 @@
 //! What operations write, as they are added.
 
 ghost use Rattle.std.specs.Prelude.{◌≡◌, ◌+◌, ◌<◌, ◌^◌, [], IfOk, option_copied, if◌then◌else◌};
-ghost use Rattle.qc_sql.specs.Database.{key_of, key_value};
 ghost use Rattle.qc_trx.specs.Writes.{columns_left, columns_of, key_by, makes_table, row_left, rows_left};
 
 use crate::writes::OwnRow;
 use qc_journal::same_table;
 use qc_sql::tables::{Columns, RowOp, StoredRow};
-use qc_table::Database;
-use qc_types::{Duplicate, NoMemory, TableName, Value};
+use qc_table::{Database, key_of_row};
+use qc_types::{Duplicate, NoMemory, TableName};
 use std::alloc::Global;
 
 /// The row that each of the operations writes, or none. They are carried out one after another on this database.
@@ -101,27 +100,4 @@ pub(crate) fn key_in(columns: Option<&Columns>, row: &StoredRow) -> i64
         None => 0,
         Some(columns) => key_of_row(columns, row),
     }
-}
-
-/// The number that a value is, and 0 where it is none.
-fn number(value: &Value) -> i64
-    ensures { result ≡ key_value value.now }
-{
-    match value {
-        Value::Int(n) => *n,
-        Value::Null | Value::Str(_) => 0,
-    }
-}
-
-/// The number of a row in its table's primary column. Linear in the number of columns.
-fn key_of_row(columns: &Columns, row: &StoredRow) -> i64
-    ensures { result ≡ key_of columns.now row.now }
-{
-    let values = row.items();
-    for (i, column) in columns.items().iter().enumerate() {
-        if column.primary {
-            return values.get(i).map_or(0, number);
-        }
-    }
-    0
 }
