@@ -65,7 +65,7 @@ fn bind(
 }
 
 /// The whole name of a table, of the current database where none is written.
-fn full_name(alloc: Global, db: &[u8], table: &TableRef) -> Result<TableName, NoMemory>
+pub fn full_name(alloc: Global, db: &[u8], table: &TableRef) -> Result<TableName, NoMemory>
     ensures { IfOk result (λ t. t ≡ rules.full_name db.now table.now) }
 {
     let db = match &table.db {
