@@ -1,5 +1,5 @@
 -- Keys that are taken.
-use Rattle.std.proofs.Common.{◌≡◌, ℕ, ℤ, ◌+◌, ◌<◌, Bool, true, false, List, [], ◌∷◌, length, get_or, drop, zero, suc, refl, ap, sym, ◌∙◌, arith, pos, add-one, subst, Some, None, true≢false}
+use Rattle.std.proofs.Common.{◌≡◌, ℕ, ℤ, ◌<◌, true, false, List, [], ◌∷◌, length, zero, suc, refl, ap, sym, ◌∙◌, subst, Some, None}
 use Rattle.std.specs.Prelude.{◌||◌, Option, is_some, MatchOption, cond}
 use Rattle.std.specs.Cmp.{int_cmp_is}
 use Rattle.std.specs.declared.cmp.Ordering.TheVariants.{Equal}
@@ -8,9 +8,7 @@ use Rattle.std.specs.List.{list_any, slice_get}
 use Rattle.std.specs.BTreeMap.{is_at}
 use Rattle.std.specs.BTreeSet.{BTreeSet, contains}
 use Rattle.std.specs.Map.{keys_of, lookup}
-use Rattle.qc_types.specs.declared.names.Value.{Value}
-use Rattle.qc_sql.specs.declared.tables.Column.{Column}
-use Rattle.qc_sql.specs.Database.{key_of, MapOf}
+use Rattle.qc_sql.specs.Database.{MapOf}
 
 -- a set of the keys of a list
 abbrev pub HasKeys : BTreeSet ℤ → List ℤ → Type 0
@@ -19,27 +17,6 @@ HasKeys s keys = (q : ℤ) → contains int_cmp s q ≡ list_any (λ k. is_eq (i
 -- the same with one key more
 pub one_taken : (s n : BTreeSet ℤ) (keys : List ℤ) (key : ℤ) → HasKeys s keys → ((q : ℤ) → contains int_cmp n q ≡ (is_eq (int_cmp key q) || contains int_cmp s q)) → HasKeys n (key ∷ keys)
 one_taken s n keys key has more q = more q ∙ ap (λ b. is_eq (int_cmp key q) || b) (has q)
-
--- ---- the key of a row, column by column
-
-key_of_none : (cs : List Column) → key_of cs [] ≡ pos 0
-key_of_none [] = refl
-key_of_none (c ∷ cs) = refl
-
-drop_none : (i : ℕ) → drop {A = Value} i [] ≡ []
-drop_none zero = refl
-drop_none (suc i) = refl
-
-next : (cs : List Column) (vs : List Value) (i : ℕ) (c : Column) → i < length cs → c ≡ get_or cs i c → c.primary ≡ false → key_of (drop i cs) (drop i vs) ≡ key_of (drop (suc i) cs) (drop (suc i) vs)
-next [] vs i c within is plain = absurd (omega arith)
-next (d ∷ cs) [] zero c within is plain = rw (key_of_none cs) refl
-next (d ∷ cs) (v ∷ vs) zero c within is plain = rw (← is, plain) refl
-next (d ∷ cs) [] (suc i) c within is plain = rw drop_none at (next cs [] i c (omega arith) is plain)
-next (d ∷ cs) (v ∷ vs) (suc i) c within is plain = next cs vs i c (omega arith) is plain
-
--- a column that isn't the key is passed
-pub next_key : (cs : List Column) (vs : List Value) (i : ℕ) (c : Column) → i < length cs → c ≡ get_or cs i c → c.primary ≡ false → key_of (drop i cs) (drop i vs) ≡ key_of (drop (i + 1) cs) (drop (i + 1) vs)
-next_key cs vs i c within is plain = rw add-one (next cs vs i c within is plain)
 
 -- ---- the key of a stored row
 

@@ -1,6 +1,5 @@
 pub mod Counts
 pub mod Dels
-pub mod Founds
 pub mod Inserts
 pub mod KeptEntries
 pub mod KeyColumns

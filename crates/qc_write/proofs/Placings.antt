@@ -32,7 +32,7 @@ found_same name i (c ∷ cs) = by (bytes_eq c.name name) (found_same name (i + 1
     by true rest = refl
     by false rest = rest
 
-called_same : (name : Name) (cs : List Column) → column_called name cs ≡ (place_called name 0 cs >>= λ f. Ok f.1)
+pub called_same : (name : Name) (cs : List Column) → column_called name cs ≡ (place_called name 0 cs >>= λ f. Ok f.1)
 called_same name cs = found_same name 0 cs
 
 -- it stands at its index, counted from another one, and has the name

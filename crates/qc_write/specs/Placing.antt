@@ -18,10 +18,10 @@ use Rattle.qc_table.specs.Views.{value_at}
 use Rattle.qc_resolve.specs.Kept.{kept_rows}
 use Rattle.qc_resolve.specs.Steps.{run}
 use Rattle.qc_eval.specs.Entries.{entry_at}
-use Rattle.qc_write.specs.declared.assignments.Found.{Found}
 use Rattle.qc_write.specs.declared.assignments.Placed.{Placed}
 use Rattle.qc_write.specs.declared.assignments.Source.{Source}
 use Rattle.qc_write.specs.declared.assignments.Source.TheVariants as source
+use Rattle.qc_write.specs.declared.columns.Found.{Found}
 
 -- ---- assignments
 

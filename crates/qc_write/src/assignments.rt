@@ -5,10 +5,11 @@ ghost use Rattle.qc_types.specs.Answers.{Gives};
 ghost use Rattle.qc_sql.specs.declared.statements.Right.TheVariants as right;
 ghost use Rattle.qc_sql.specs.Rows as rows;
 ghost use Rattle.qc_sql.specs.Rows.{each};
-ghost use Rattle.qc_write.specs.Placing.{assignment_placed, found_of, origin_of, origin_placed, place_called, placing_of};
+ghost use Rattle.qc_write.specs.Placing.{assignment_placed, origin_of, origin_placed, placing_of};
 
+use crate::columns::find_column;
 use crate::values::is_other_sort;
-use qc_errors::{not_supported, unknown_column};
+use qc_errors::not_supported;
 use qc_sql::statements::{Assignment, Right};
 use qc_sql::tables::{Column, Kind};
 use qc_types::{Or, SqlError, Text, Value};
@@ -28,13 +29,6 @@ pub(crate) struct Placed<'a> {
     pub(crate) place: usize,
     pub(crate) column: &'a Column,
     pub(crate) source: Source<'a>,
-}
-
-/// A column, and its index from 0.
-#[derive(Clone, Copy)]
-struct Found<'a> {
-    index: usize,
-    column: &'a Column,
 }
 
 /// The assignments, each with its columns; or the first refusal: 1054 for the column that is set, 1235 where it is the key, 1054 for the column on the
@@ -119,20 +113,4 @@ fn mixes(a: Kind, b: Kind) -> bool
         (a, b),
         (Kind::Int, Kind::Str(_)) | (Kind::Str(_), Kind::Int)
     )
-}
-
-/// The column of a name, refused with 1054 where there is none.
-fn find_column<'a>(
-    alloc: Global,
-    columns: &'a [Column],
-    name: &Text,
-) -> Result<Found<'a>, Or<SqlError>>
-    ensures { Gives found_of (λ e. e) result (place_called name.now 0 columns.now) }
-{
-    for (index, column) in columns.iter().enumerate() {
-        if column.name.bytes() == name.bytes() {
-            return Ok(Found { index, column });
-        }
-    }
-    Err(Or::Other(unknown_column(alloc, name.bytes())?))
 }

@@ -10,8 +10,9 @@ ghost use Rattle.qc_write.specs.Targets.{absent};
 ghost use Rattle.qc_write.specs.Parts.{column_of, columns_of, names_of, kind_of, is_bad, is_bad_column, missing, columns_checked, columns_judged};
 
 use crate::outcome::Effect;
-use crate::target::{check_database, full_name};
+use crate::target::check_database;
 use qc_errors::{duplicate_column, no_key_column, not_supported, table_exists, too_many_columns};
+use qc_resolve::full_name;
 use qc_sql::statements::{Part, PartKind, TableRef};
 use qc_sql::tables::{Column, Columns, Kind, RowOp};
 use qc_table::Database;

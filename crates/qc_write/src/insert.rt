@@ -4,7 +4,7 @@ ghost use Rattle.std.specs.Prelude.{◌≡◌, ◌+◌, ◌||◌, length, nat_lt
 ghost use Rattle.std.specs.Ordering.{int_cmp, is_eq};
 ghost use Rattle.std.specs.BTreeSet.{contains};
 ghost use Rattle.qc_types.specs.Answers.{Gives};
-ghost use Rattle.qc_sql.specs.Database.{key_of, key_value};
+ghost use Rattle.qc_sql.specs.Database.{key_of};
 ghost use Rattle.qc_sql.specs.Effects as meant;
 ghost use Rattle.qc_sql.specs.Errors as errors;
 ghost use Rattle.qc_sql.specs.Rows.{refuse_if};
@@ -19,7 +19,7 @@ use crate::values::{check_stored, is_other_sort};
 use qc_errors::{duplicate_entry, not_supported, table_full, wrong_value_count};
 use qc_sql::statements::{Insert, Tuple};
 use qc_sql::tables::{Column, Ops, RowOp, StoredRow};
-use qc_table::{Database, TableVersion};
+use qc_table::{Database, TableVersion, key_of_row};
 use qc_types::{Duplicate, NoMemory, Or, SqlError, Steps, Value};
 use std::alloc::Global;
 use std::collections::BTreeSet;
@@ -96,7 +96,7 @@ fn put_row<L: Ledger>(
     ensures taken { IfOk result (λ row. (q : _) → contains int_cmp taken.new q ≡ (is_eq (int_cmp (key_of target.now.version.now.columns row) q) || contains int_cmp taken.old q)) }
 {
     let row = row_of_tuple(alloc, target, shape, number, tuple)?;
-    let key = key_of(target.version.columns().items(), row.items());
+    let key = key_of_row(target.version.columns(), &row);
     take_key(alloc, target, taken, number, key, steps)?;
     Ok(row)
 }
@@ -177,28 +177,6 @@ fn value_from(alloc: Global, tuple: &[Value], place: Option<usize>) -> Result<Va
     match tuple.get(place) {
         Some(value) => value.duplicate(alloc),
         None => Ok(Value::Null),
-    }
-}
-
-/// The number of a row in its table's primary column.
-fn key_of(columns: &[Column], row: &[Value]) -> i64
-    ensures { result ≡ key_of columns.now row.now }
-{
-    for (i, column) in columns.iter().enumerate() {
-        if column.primary {
-            return row.get(i).map_or(0, number);
-        }
-    }
-    0
-}
-
-/// The number that a value is, and 0 where it is none.
-fn number(value: &Value) -> i64
-    ensures { result ≡ key_value value.now }
-{
-    match value {
-        Value::Int(n) => *n,
-        Value::Null | Value::Str(_) => 0,
     }
 }
 

@@ -3,13 +3,13 @@
 ghost use Rattle.qc_types.specs.Answers.{Gives};
 ghost use Rattle.qc_sql.specs.Effects as meant;
 
-use crate::columns::copy_of_columns;
 use crate::outcome::Effect;
-use crate::target::{bind_target, check_database, full_name};
+use crate::target::{bind_target, check_database};
 use qc_errors::unknown_table;
+use qc_resolve::full_name;
 use qc_sql::statements::TableRef;
 use qc_sql::tables::{Ops, RowOp};
-use qc_table::Database;
+use qc_table::{Database, copy_of_columns};
 use qc_types::{Duplicate, Or, SqlError};
 use std::alloc::Global;
 

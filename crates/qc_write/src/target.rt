@@ -8,9 +8,10 @@ ghost use Rattle.qc_table.specs.Tables.{IsSound};
 ghost use Rattle.qc_write.specs.Targets.{bound_of, target_in};
 
 use qc_errors::{no_database_selected, no_such_table, unknown_database};
+use qc_resolve::full_name;
 use qc_sql::statements::TableRef;
 use qc_table::{Database, TableVersion};
-use qc_types::{NoMemory, Or, SqlError, TableName, Text};
+use qc_types::{Or, SqlError, TableName};
 use std::alloc::Global;
 
 /// A table that a statement changes: its whole name, and the table as it stands.
@@ -57,18 +58,4 @@ pub(crate) fn check_database(
         return Err(Or::Other(unknown_database(alloc, name.db.bytes())?));
     }
     Ok(())
-}
-
-/// The whole name of a table, of the current database where none is written.
-pub(crate) fn full_name(alloc: Global, db: &[u8], table: &TableRef) -> Result<TableName, NoMemory>
-    ensures { IfOk result (λ t. t ≡ rules.full_name db.now table.now) }
-{
-    let db = match &table.db {
-        Some(db) => db.copy(alloc)?,
-        None => Text::of(alloc, db)?,
-    };
-    Ok(TableName {
-        db,
-        name: table.name.copy(alloc)?,
-    })
 }

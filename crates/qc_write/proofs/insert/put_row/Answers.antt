@@ -6,6 +6,7 @@ use Rattle.std.proofs.lemmas.Int.{to_z-of_z}
 use Rattle.qc_types.specs.Answers.{Gives}
 use Rattle.qc_types.specs.declared.names.Value.{Value}
 use Rattle.qc_types.specs.declared.sql_error.SqlError.{SqlError}
+use Rattle.qc_sql.specs.declared.tables.Column.{Column}
 use Rattle.qc_sql.specs.Database.{key_of}
 use Rattle.qc_write.specs.Inserts.{named_in, tuple_judged, key_judged, row_judged}
 use Rattle.qc_write.specs.Targets.{bound_of}
@@ -22,10 +23,10 @@ returns-in_err-take_key-clause-gives g c =
     let n = c.args.number in
     let tuple = c.args.tuple.now in
     let row = c.in_ok-row.row in
-    let key = c.key_of-key.result in
-    let same = to_z-of_z w64 key (record { sfits = c.key_of-key.type_inv }) in
+    let key = c.key_of_row-key.result in
+    let same = to_z-of_z w64 key (record { sfits = c.key_of_row-key.type_inv }) in
     let made : tuple_judged named b.table.columns n tuple ≡ Ok row = c.in_ok-row.ensures in
-    let of_row : key ≡ key_of b.table.columns row = c.key_of-key.ensures ∙ (λ j. key_of ((c.items.ensures ∙ c.columns.ensures.value) j) (c.items-2.ensures j)) in
+    let of_row : key ≡ key_of b.table.columns row = c.key_of_row-key.ensures ∙ ap (λ (cs : List Column). key_of cs row) c.columns.ensures.value in
     let told : Gives (λ (u : Unit {0}). tt {0}) (λ (e : SqlError). e) (Err c.in_err-take_key.field-0.0) (key_judged b seen n (to_z w64 (of_z w64 key))) = c.in_err-take_key.ensures.gives in
     rw (p.1, p.2)
     (refused_too (λ (u : Unit {0}). tt {0}) (λ (vs : List Value). vs) c.in_err-take_key.field-0.0 (key_judged b seen n (to_z w64 (of_z w64 key))) (row_judged b named seen n tuple)
@@ -38,10 +39,10 @@ returns-clause-gives g c =
     let seen = contains int_cmp c.args.taken.now in
     let n = c.args.number in
     let row = c.in_ok-row.row in
-    let key = c.key_of-key.result in
-    let same = to_z-of_z w64 key (record { sfits = c.key_of-key.type_inv }) in
+    let key = c.key_of_row-key.result in
+    let same = to_z-of_z w64 key (record { sfits = c.key_of_row-key.type_inv }) in
     let made : tuple_judged named b.table.columns n c.args.tuple.now ≡ Ok row = c.in_ok-row.ensures in
-    let of_row : key ≡ key_of b.table.columns row = c.key_of-key.ensures ∙ (λ j. key_of ((c.items.ensures ∙ c.columns.ensures.value) j) (c.items-2.ensures j)) in
+    let of_row : key ≡ key_of b.table.columns row = c.key_of_row-key.ensures ∙ ap (λ (cs : List Column). key_of cs row) c.columns.ensures.value in
     let taken : key_judged b seen n (to_z w64 (of_z w64 key)) ≡ Ok (tt {0}) = c.in_ok-take_key.ensures.gives in
     row_good b named seen n c.args.tuple.now row key made of_row (ap (key_judged b seen n) (sym same) ∙ taken)
 
@@ -49,8 +50,8 @@ pub returns-clause-taken : goal.returns-clause-taken
 returns-clause-taken g c =
     let columns = c.args.target.now.version.now.columns in
     let row = c.in_ok-row.row in
-    let key = c.key_of-key.result in
-    let same = to_z-of_z w64 key (record { sfits = c.key_of-key.type_inv }) in
-    let of_row : key ≡ key_of columns row = c.key_of-key.ensures ∙ (λ j. key_of ((c.items.ensures ∙ c.columns.ensures.value) j) (c.items-2.ensures j)) in
+    let key = c.key_of_row-key.result in
+    let same = to_z-of_z w64 key (record { sfits = c.key_of_row-key.type_inv }) in
+    let of_row : key ≡ key_of columns row = c.key_of_row-key.ensures ∙ ap (λ (cs : List Column). key_of cs row) c.columns.ensures.value in
     let more : (q : ℤ) → contains int_cmp c.take_key.new.taken q ≡ (is_eq (int_cmp (to_z w64 (of_z w64 key)) q) || contains int_cmp c.args.taken.now q) = c.in_ok-take_key.ensures.taken in
     λ q. more q ∙ ap (λ (k : ℤ). is_eq (int_cmp k q) || contains int_cmp c.args.taken.now q) (same ∙ of_row)

@@ -2,7 +2,7 @@ use Rattle.std.proofs.Common.{◌≡◌, ◌∙◌, sym, ap, Err}
 use Rattle.std.specs.Prelude.{bytes_eq}
 use Rattle.qc_sql.specs.Errors.{unknown_column}
 use Rattle.qc_write.proofs.Turns.{place_met, place_passed, place_missed}
-use Rattle.qc_write.proofs.assignments.find_column.Goals as goal
+use Rattle.qc_write.proofs.columns.find_column.Goals as goal
 
 pub returns-then-eq : goal.returns-then-eq
 returns-then-eq c =
