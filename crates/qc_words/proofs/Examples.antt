@@ -1,7 +1,6 @@
 -- The options of some words.
-use Rattle.std.proofs.Common.{◌≡◌, List, ℕ, [], ◌∷◌, Option, Some, None, codes, refl}
+use Rattle.std.proofs.Common.{◌≡◌, [], ◌∷◌, Some, None, codes, refl}
 use Rattle.clap.proofs.OnLiterals.{clap_on_literals}
-use Rattle.qc_types.specs.declared.options.Options.{Options}
 use Rattle.qc_words.specs.Words.{options_of, run_options}
 
 run_alone : options_of (codes "run" ∷ []) ≡ Some (record { size = 1048576; limit = 1048576; unit = 4096; kind = 1 })

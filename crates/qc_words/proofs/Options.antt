@@ -1,6 +1,6 @@
 -- From the matches to the options.
-use Rattle.std.proofs.Common.{◌≡◌, ◌∙◌, ℕ, Bool, true, false, cond, List, [], Option, Some, None, sym, ap, subst, refl}
-use Rattle.clap.specs.Words.{App, HasMatchesOf, Text, app_of, fault_of, first_of, first_value, found_of, is_simple, is_simple_and_free, kind_of, matches_of, rows_of, takes}
+use Rattle.std.proofs.Common.{◌≡◌, ◌∙◌, ℕ, Bool, true, false, cond, List, [], Option, None, sym, ap, subst, refl}
+use Rattle.clap.specs.Words.{App, HasMatchesOf, Text, fault_of, first_value, found_of, is_simple_and_free, kind_of, matches_of, rows_of, takes}
 use Rattle.clap.specs.declared.error.Error.{Error}
 use Rattle.clap.specs.declared.error.kind.ErrorKind.TheVariants.{OutOfMemory}
 use Rattle.clap.specs.declared.parser.matches.ArgMatches.{ArgMatches}

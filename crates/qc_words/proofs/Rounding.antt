@@ -1,12 +1,12 @@
 -- The options of words are rounded and in their ranges.
-use Rattle.std.proofs.Common.{◌≡◌, ◌⊎◌, ℕ, zero, suc, ◌+◌, ◌*◌, ◌/◌, ◌%◌, ◌≤◌, ◌&&◌, nat_le, Bool, true, false, cond, List, [], ◌∷◌, Option, Some, None, subst, inl, inr, arith, refl, option_and_then, option_map, ap, sym}
+use Rattle.std.proofs.Common.{◌≡◌, ◌⊎◌, ℕ, zero, suc, ◌*◌, ◌/◌, ◌≤◌, ◌&&◌, nat_le, Bool, true, false, cond, List, [], ◌∷◌, Option, Some, None, subst, inl, inr, arith, refl, option_and_then, option_map}
 use Rattle.std.specs.Prelude.{codes, bytes_eq}
 use Rattle.std.specs.Str.Parse.{digits_value}
 use Rattle.std.proofs.lemmas.Bool.{and_parts, leb-true}
 use Rattle.std.proofs.lemmas.Option.{cond_some, none-some, same_Some}
 use Rattle.clap.specs.Words.{Row, Text, first_of, matches_of, takes}
 use Rattle.qc_types.specs.declared.options.Options.{Options}
-use Rattle.qc_words.specs.Words.{is_number, number_in, number_or, option_in, options_in, options_of, rounded, run_command, run_options}
+use Rattle.qc_words.specs.Words.{is_number, number_or, option_in, options_in, rounded, run_command, run_options}
 use Rattle.qc_words.specs.Laws.{AreRounded, AreRoundedOptions}
 
 -- each number lies in its range

@@ -181,7 +181,7 @@ fn spaces_in_words(rt: HostRuntime) -> Result<(), Fail> {
     Ok(())
 }
 
-/// Words as long, and as many, as a system may hand over.
+/// Long words, and many of them.
 #[test]
 fn long_words_and_many_words(rt: HostRuntime) -> Result<(), Fail> {
     let alloc = rt.alloc();

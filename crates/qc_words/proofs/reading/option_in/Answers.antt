@@ -1,4 +1,4 @@
-use Rattle.std.proofs.Common.{◌≡◌, ap, sym, refl, rules}
+use Rattle.std.proofs.Common.{refl}
 use Rattle.clap.specs.Words.{found_of}
 use Rattle.qc_words.proofs.Options.{option_read}
 use Rattle.qc_words.proofs.reading.option_in.Goals as goal

@@ -1,4 +1,4 @@
-use Rattle.std.proofs.Common.{◌≡◌, refl, rules}
+use Rattle.std.proofs.Common.{rules}
 use Rattle.qc_words.proofs.Options.{refused_words, taken_words}
 use Rattle.qc_words.proofs.reading.read_run.Goals as goal
 
