@@ -8,6 +8,7 @@ pub mod Scans
 pub mod Levels
 pub mod Folds
 pub mod SortKeys
+pub mod Spans
 pub mod Gathers
 pub mod KeptRows
 pub mod Stages

@@ -11,6 +11,7 @@ pub mod Shown
 pub mod Entries
 pub mod Folds
 pub mod Ahead
+pub mod Spans
 pub mod SortKeys
 pub mod Stages
 pub mod Buffers

@@ -4,6 +4,7 @@
 mod buffer;
 mod comparison;
 mod filters;
+mod gathered;
 mod gathering;
 mod item;
 mod joined;

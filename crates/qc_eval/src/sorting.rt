@@ -6,19 +6,12 @@ ghost use Rattle.qc_resolve.specs.Meaning.{keys_cmp};
 ghost use Rattle.qc_eval.specs.Ahead.{AllRows};
 ghost use Rattle.qc_eval.specs.Chosen.{chosen};
 
-use crate::comparison::order;
-use crate::scene::at;
+use crate::gathered::Gathered;
 use qc_resolve::OrderKey;
-use qc_sql::tables::Kind;
 use qc_table::{ColumnView, TableVersion};
-use qc_types::{NoMemory, OwnedList, Steps};
-use qc_wire::Cell;
+use qc_types::{NoMemory, Steps};
 use std::alloc::Global;
-use std::cmp::Ordering;
 use std::sync::ledger::Ledger;
-
-/// The position of a row in each table.
-pub type Positions = OwnedList<u32>;
 
 /// A column as it is read.
 #[derive(Drop)]
@@ -28,7 +21,7 @@ pub struct Shown<'a> {
     pub number: bool,
 }
 
-/// A column by which positions are sorted.
+/// A column by which combinations are sorted.
 #[derive(Drop)]
 pub struct SortKey<'a> {
     pub desc: bool,
@@ -41,19 +34,18 @@ mod keys;
 
 pub use keys::SortKeys;
 
-/// Sorts positions stably by the columns' values. Costs n log n comparisons of n positions.
+/// Sorts combinations stably by the columns' values. Costs n log n comparisons of n combinations.
 pub fn sort<L: Ledger>(
     alloc: Global,
-    found: &mut Vec<Positions>,
+    found: &mut Gathered,
     tables: &[TableVersion],
     order: &[OrderKey],
     steps: &mut Steps<L>,
 ) -> Result<(), NoMemory>
-    ensures sorted { OnOk result (map (chosen tables.now) found.new.items ≡ sorted (keys_cmp order.now) (map (chosen tables.now) found.old.items)) }
-    ensures rows { AllRows tables.now found.old.items → AllRows tables.now found.new.items }
-    ensures err { OnErr result (found.new.items ≡ found.old.items) }
+    ensures sorted { OnOk result (map (chosen tables.now) found.new ≡ sorted (keys_cmp order.now) (map (chosen tables.now) found.old)) }
+    ensures rows { AllRows tables.now found.old → AllRows tables.now found.new }
+    ensures err { OnErr result (found.new ≡ found.old) }
 {
     let keys = SortKeys::new(alloc, tables, order, steps)?;
-    found.sort_by(|a, b| keys.compare(a.items(), b.items()))?;
-    Ok(())
+    found.sort(&keys)
 }
