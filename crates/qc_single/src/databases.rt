@@ -14,7 +14,7 @@ impl Session {
     ghost use Rattle.qc_single.specs.Going.{DoesOne, GivesOut, IsFit};
 
     /// COM_INIT_DB.
-    pub(crate) fn choose(&mut self, alloc: Global, name: &Text) -> Result<(), NoMemory>
+    pub(crate) fn init_db(&mut self, alloc: Global, name: &Text) -> Result<(), NoMemory>
         requires { IsFit self.old }
         ensures { OnOk result (DoesOne (command.InitDb name.now) self.old self.new) }
     {
@@ -29,9 +29,9 @@ impl Session {
         let view = self.state.view(&self.database)?;
         if !view.has_db(name.bytes()) {
             let error = unknown_database(alloc, name.bytes())?;
-            return self.refuse(alloc, &error);
+            return self.log_error(alloc, &error);
         }
         self.state.use_db(name.copy(alloc)?);
-        self.agree(alloc)
+        self.log_ok(alloc)
     }
 }

@@ -59,7 +59,7 @@ impl Session {
     }
 
     /// Rolls the open transaction back, for a conflict or a full table.
-    pub(crate) fn roll_back(&mut self, alloc: Global, ending: Ending) -> Result<(), NoMemory>
+    pub(crate) fn abort(&mut self, alloc: Global, ending: Ending) -> Result<(), NoMemory>
         requires fit { IsFit self.old }
         requires ends { Ends self.old.state.state self.old.journal.events ending }
         requires refused { is_commit ending ≡ false }
@@ -71,7 +71,7 @@ impl Session {
                 let reply = error_reply(alloc, &write_conflict(alloc)?)?;
                 self.run(How::Conflict { table, key, by }, reply)
             }
-            Ending::Full(table) => self.refuse(alloc, &table_full(alloc, &table)?),
+            Ending::Full(table) => self.log_error(alloc, &table_full(alloc, &table)?),
             Ending::Commits(_) => unreachable!(),
         }
     }

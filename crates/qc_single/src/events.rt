@@ -24,7 +24,7 @@ impl Session {
     ghost use Rattle.qc_single.specs.Going.{Adds, GivesOut, IsFit, Logs, Tells, TellsOut, form_refusal};
 
     /// OK, of a command that changes no data.
-    pub(crate) fn agree(&mut self, alloc: Global) -> Result<(), NoMemory>
+    pub(crate) fn log_ok(&mut self, alloc: Global) -> Result<(), NoMemory>
         requires { IsFit self.old }
         ensures { OnOk result (GivesOut self.old self.new (other (next_who self.old.journal.events) self.old.state.state (machine.ok_reply self.old.state.state 0))) }
     {
@@ -33,7 +33,7 @@ impl Session {
     }
 
     /// An error, of a command that then changes nothing.
-    pub(crate) fn refuse(&mut self, alloc: Global, error: &SqlError) -> Result<(), NoMemory>
+    pub(crate) fn log_error(&mut self, alloc: Global, error: &SqlError) -> Result<(), NoMemory>
         requires fit { IsFit self.old }
         requires fits { FitsError error.now }
         ensures { OnOk result (GivesOut self.old self.new (other (next_who self.old.journal.events) self.old.state.state (machine.refused error.now))) }
@@ -89,7 +89,7 @@ impl Session {
     }
 
     /// OK, of a command without an event.
-    pub(crate) fn answer(&mut self, alloc: Global) -> Result<(), NoMemory>
+    pub(crate) fn tell_ok(&mut self, alloc: Global) -> Result<(), NoMemory>
         requires { IsFit self.old }
         ensures { OnOk result (TellsOut self.old self.new (machine.ok_reply self.old.state.state 0) self.old.state.state) }
     {
@@ -98,7 +98,7 @@ impl Session {
     }
 
     /// An error, of a command without an event.
-    pub(crate) fn deny(&mut self, alloc: Global, error: &SqlError) -> Result<(), NoMemory>
+    pub(crate) fn tell_error(&mut self, alloc: Global, error: &SqlError) -> Result<(), NoMemory>
         requires fit { IsFit self.old }
         requires fits { FitsError error.now }
         ensures { OnOk result (TellsOut self.old self.new (machine.refused error.now) self.old.state.state) }
@@ -113,7 +113,7 @@ impl Session {
         ensures { OnOk result (TellsOut self.old self.new form_refusal self.old.state.state) }
     {
         let error = not_supported(alloc, b"form")?;
-        self.deny(alloc, &error)
+        self.tell_error(alloc, &error)
     }
 
     /// A line without an event; nothing else changes.

@@ -40,7 +40,7 @@ impl Session {
             Ending::Commits(database) => {
                 self.change_forms_behind(alloc, statement, &database, steps)
             }
-            refused => self.roll_back(alloc, refused),
+            refused => self.abort(alloc, refused),
         }
     }
 
@@ -68,7 +68,7 @@ impl Session {
             steps,
         ) {
             Ok(effect) => self.commit_forms(alloc, effect, database),
-            Err(Or::Other(error)) => self.refuse(alloc, &error),
+            Err(Or::Other(error)) => self.log_error(alloc, &error),
             Err(Or::Memory) => Err(NoMemory),
         }
     }

@@ -12,8 +12,10 @@ mod rows;
 mod selects;
 mod session;
 mod settings;
+mod single;
 #[cfg(test)]
 mod tests;
 mod transactions;
 
-pub use session::{ONLY_SESSION, Session};
+pub use session::ONLY_SESSION;
+pub use single::{Finished, SingleSession};

@@ -63,7 +63,7 @@ impl Session {
             steps,
         ) {
             Ok(effect) => self.keep(alloc, effect),
-            Err(Or::Other(error)) => self.refuse(alloc, &error),
+            Err(Or::Other(error)) => self.log_error(alloc, &error),
             Err(Or::Memory) => Err(NoMemory),
         }
     }

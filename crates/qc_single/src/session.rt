@@ -29,17 +29,17 @@ pub const ONLY_SESSION: u8 = 1;
 /// A session on a database of its own: its state, the database as the journal makes it, the journal, the answers that its cache keeps, and what it has
 /// answered so far.
 #[derive(Drop)]
-pub struct Session {
-    pub options: Options,
-    pub state: SessionState,
-    pub database: Database,
-    pub journal: Journal,
-    pub kept: KeptAnswers,
+pub(crate) struct Session {
+    pub(crate) options: Options,
+    pub(crate) state: SessionState,
+    pub(crate) database: Database,
+    pub(crate) journal: Journal,
+    pub(crate) kept: KeptAnswers,
     /// The number of its next event, from 1.
-    pub number: u64,
+    pub(crate) number: u64,
     /// The place of its last line, or 0.
-    pub place: u64,
-    pub lines: ReportLines,
+    pub(crate) place: u64,
+    pub(crate) lines: ReportLines,
 }
 
 impl Session {
@@ -47,7 +47,7 @@ impl Session {
     ghost use Rattle.qc_single.specs.Going.{DoesOne, DoesStatement, HasTaken, IsFit};
 
     /// A session on an empty database, with these options of the server. The size of the cache's memory is 0, or a word and more.
-    pub fn new(alloc: Global, options: Options) -> Result<Session, NoMemory>
+    pub(crate) fn new(alloc: Global, options: Options) -> Result<Session, NoMemory>
         requires { HasWords options }
         ensures taken { IfOk result (HasTaken []) }
         ensures options { IfOk result (λ s. s.options ≡ options) }
@@ -67,7 +67,7 @@ impl Session {
     /// Answers one command, of a payload that one packet carries: what it does to the database and to the session, its event and its line. A SELECT that
     /// the cache holds is answered from its packets; else each stored row that is read counts a step. Costs what the command's statement costs. The one
     /// error is want of memory, after which the session is of no use.
-    pub fn execute<L: Ledger>(
+    pub(crate) fn execute<L: Ledger>(
         &mut self,
         alloc: Global,
         command: &Command,
@@ -80,9 +80,12 @@ impl Session {
     {
         match command {
             Command::Query(text) => self.query(alloc, text.bytes(), steps),
-            Command::InitDb(name) => self.choose(alloc, name),
-            Command::Ping => self.answer(alloc),
-            Command::Unknown(_) | Command::Empty => self.deny(alloc, &unknown_command(alloc)?),
+            Command::InitDb(name) => self.init_db(alloc, name),
+            Command::Ping => self.tell_ok(alloc),
+            Command::Unknown(_) | Command::Empty => self.tell_error(
+                alloc,
+                &unknown_command(alloc)?,
+            ),
             // It ends a session, and isn't answered.
             Command::Quit => self.refuse_form(alloc),
         }
@@ -121,7 +124,7 @@ impl Session {
     {
         match parse(alloc, trimmed(text), self.state.flags().ansi) {
             Ok(statement) => self.execute_statement(alloc, text, statement, steps),
-            Err(Or::Other(refusal)) => self.deny(alloc, &fault_error(alloc, &refusal)?),
+            Err(Or::Other(refusal)) => self.tell_error(alloc, &fault_error(alloc, &refusal)?),
             Err(Or::Memory) => Err(NoMemory),
         }
     }

@@ -49,8 +49,8 @@ impl Session {
             return self.turn_on(alloc, setting);
         }
         match self.state.set(alloc, setting) {
-            Ok(()) => self.agree(alloc),
-            Err(Or::Other(error)) => self.refuse(alloc, &error),
+            Ok(()) => self.log_ok(alloc),
+            Err(Or::Other(error)) => self.log_error(alloc, &error),
             Err(Or::Memory) => Err(NoMemory),
         }
     }
@@ -67,7 +67,7 @@ impl Session {
                 let ops = self.state.end();
                 self.commit_ended(alloc, ops, database)
             }
-            refused => self.roll_back(alloc, refused),
+            refused => self.abort(alloc, refused),
         }
     }
 
@@ -93,8 +93,8 @@ impl Session {
         ensures { OnOk result (SetsOther setting.now self.old self.new) }
     {
         match self.state.set(alloc, setting) {
-            Ok(()) => self.answer(alloc),
-            Err(Or::Other(error)) => self.deny(alloc, &error),
+            Ok(()) => self.tell_ok(alloc),
+            Err(Or::Other(error)) => self.tell_error(alloc, &error),
             Err(Or::Memory) => Err(NoMemory),
         }
     }

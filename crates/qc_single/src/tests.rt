@@ -50,7 +50,7 @@ ghost use Rattle.qc_sql.specs.Packets.{most_payload};
 ghost use Rattle.qc_single.specs.Going.{IsFit};
 ghost use Rattle.qc_single.specs.Stage.{HasWords};
 
-use crate::Session;
+use crate::session::Session;
 use qc_sql::commands::Command;
 use qc_types::{NoMemory, Options, Steps, Text};
 use show::{Before, put_answer, put_event};

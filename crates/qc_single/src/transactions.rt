@@ -25,7 +25,7 @@ impl Session {
                 self.state.begin();
                 self.commit_ended(alloc, ops, database)
             }
-            refused => self.roll_back(alloc, refused),
+            refused => self.abort(alloc, refused),
         }
     }
 
@@ -39,7 +39,7 @@ impl Session {
                 let ops = self.state.end();
                 self.commit_ended(alloc, ops, database)
             }
-            refused => self.roll_back(alloc, refused),
+            refused => self.abort(alloc, refused),
         }
     }
 
@@ -49,6 +49,6 @@ impl Session {
         ensures { OnOk result (GivesOut self.old self.new (other (next_who self.old.journal.events) (with_transaction self.old.state.state None) (machine.ok_reply (with_transaction self.old.state.state None) 0))) }
     {
         self.state.clear();
-        self.agree(alloc)
+        self.log_ok(alloc)
     }
 }

@@ -1,6 +1,6 @@
 //! What a command was answered and what event it left, as a line.
 
-use crate::Session;
+use crate::session::Session;
 use qc_model::events::{Event, GoneWhy, How, Reason, Who};
 use qc_model::reports::{ReportLine, Word};
 use qc_sql::replies::{Reply, TextRow};

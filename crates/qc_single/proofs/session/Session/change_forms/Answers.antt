@@ -19,5 +19,5 @@ returns-in_default g c =
     let st = old.state.state in
     let J = old.journal.events in
     let s = c.args.statement.now in
-    on_ok c.roll_back.result (λ out. subst (λ (k : Given). GivesOut old c.roll_back.new.self k) (changed_ends J st s) out)
-    (c.roll_back.ensures (λ own. forms_given J st own (effect s (apply own (present J)) st.db st.session)))
+    on_ok c.abort.result (λ out. subst (λ (k : Given). GivesOut old c.abort.new.self k) (changed_ends J st s) out)
+    (c.abort.ensures (λ own. forms_given J st own (effect s (apply own (present J)) st.db st.session)))

@@ -26,8 +26,8 @@ commit_forms-requires-clause-some g c =
     let is : effect c.args.statement.now c.args.database.now st.db 1 ≡ Ok c.in-Ok.effect = rw c.db.ensures at c.in-Ok.ensures in
     forms_change c.args.statement.now c.args.database.now st.db 1 c.in-Ok.effect c.requires.forms is
 
-pub refuse-requires-clause-fits : goal.refuse-requires-clause-fits
-refuse-requires-clause-fits g c =
+pub log_error-requires-clause-fits : goal.log_error-requires-clause-fits
+log_error-requires-clause-fits g c =
     let old = c.args.self.now in
     let st = old.state.state in
     let fit = c.requires.fit in
@@ -54,4 +54,4 @@ returns-in-Err-Other g c =
     let state = fit.state in
     let is : effect c.args.statement.now c.args.database.now st.db 1 ≡ Err c.in-Err-Other.error = rw (c.in-Err-Other.field-0-is, c.db.ensures) at c.in-Err-Other.ensures in
     let its : effect c.args.statement.now c.args.database.now st.db st.session ≡ Err c.in-Err-Other.error = rw state.session is in
-    on_ok c.refuse.result (λ out. subst (λ (k : Given). GivesOut old c.refuse.new.self k) (forms_refused old.journal.events st (own_operations st) _ c.in-Err-Other.error its) out) c.refuse.ensures
+    on_ok c.log_error.result (λ out. subst (λ (k : Given). GivesOut old c.log_error.new.self k) (forms_refused old.journal.events st (own_operations st) _ c.in-Err-Other.error its) out) c.log_error.ensures

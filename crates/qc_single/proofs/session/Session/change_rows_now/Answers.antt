@@ -9,8 +9,8 @@ keep-requires-clause-own g c =
     let x = c.in-Ok.effect in
     rows_own s old x c.requires.fit c.requires.rows c.requires.short (effect_seen s old c.in_ok-view.view c.db.result.now (Ok x) c.requires.fit c.in_ok-view.ensures.seen c.db.ensures c.in-Ok.ensures)
 
-pub refuse-requires-clause-fits : goal.refuse-requires-clause-fits
-refuse-requires-clause-fits g c =
+pub log_error-requires-clause-fits : goal.log_error-requires-clause-fits
+log_error-requires-clause-fits g c =
     let old = c.args.self.now in
     let s = c.args.statement.now in
     let e = c.in-Err-Other.error in

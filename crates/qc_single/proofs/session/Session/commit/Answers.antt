@@ -17,4 +17,4 @@ returns-in_default c =
     let old = c.args.self.now in
     let st = old.state.state in
     let next : State = with_transaction st None in
-    c.roll_back.ensures (λ own. record { event = committed (next_who old.journal.events) own; reply = ok_reply next 0; next = next })
+    c.abort.ensures (λ own. record { event = committed (next_who old.journal.events) own; reply = ok_reply next 0; next = next })

@@ -22,4 +22,4 @@ pub returns-in_default : goal.returns-in_default
 returns-in_default c =
     let old = c.args.self.now in
     let next : State = with_transaction (record old.state.state { autocommit = true }) None in
-    c.roll_back.ensures (λ own. record { event = committed (next_who old.journal.events) own; reply = ok_reply next 0; next = next })
+    c.abort.ensures (λ own. record { event = committed (next_who old.journal.events) own; reply = ok_reply next 0; next = next })

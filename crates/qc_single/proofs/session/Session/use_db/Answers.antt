@@ -14,8 +14,8 @@ use Rattle.qc_single.proofs.Methods.{on_ok, moved}
 use Rattle.qc_single.proofs.States.{fit_in_database}
 use Rattle.qc_single.proofs.session.Session.use_db.Goals as goal
 
-pub refuse-requires-clause-fits : goal.refuse-requires-clause-fits
-refuse-requires-clause-fits c = rw (c.in_ok-error.ensures, c.bytes-then-not-has_db.ensures) (unknown_database_fits c.args.name.now)
+pub log_error-requires-clause-fits : goal.log_error-requires-clause-fits
+log_error-requires-clause-fits c = rw (c.in_ok-error.ensures, c.bytes-then-not-has_db.ensures) (unknown_database_fits c.args.name.now)
 
 pub returns-then-not-has_db : goal.returns-then-not-has_db
 returns-then-not-has_db c =
@@ -24,10 +24,10 @@ returns-then-not-has_db c =
     let J = old.journal.events in
     let seen = c.in_ok-view.ensures.seen ∙ view_is J old.database old.state c.requires.sound c.requires.state in
     let none : tables_of name (base old.state.state J) ≡ None = subst (λ (d : Database). tables_of name d ≡ None) seen (not_there (tables_of name c.in_ok-view.view) (sym (rw c.bytes.ensures at c.has_db.ensures) ∙ c.if-not-has_db.true)) in
-    on_ok c.refuse.result (λ out. subst (λ (g : Given). GivesOut old c.refuse.new.self g) (used_none J old.state.state name none) (rw (c.in_ok-error.ensures, c.bytes-then-not-has_db.ensures) at out)) c.refuse.ensures
+    on_ok c.log_error.result (λ out. subst (λ (g : Given). GivesOut old c.log_error.new.self g) (used_none J old.state.state name none) (rw (c.in_ok-error.ensures, c.bytes-then-not-has_db.ensures) at out)) c.log_error.ensures
 
-pub agree-requires : goal.agree-requires
-agree-requires c =
+pub log_ok-requires : goal.log_ok-requires
+log_ok-requires c =
     let old = c.args.self.now in
     let name = c.args.name.now in
     let J = old.journal.events in
@@ -56,5 +56,5 @@ returns c =
     let there = some_there (tables_of name (base old.state.state J)) known in
     let mid : Session = record old { state = in_database name old.state } in
     let given : Given = (let next = record old.state.state { db = name } in other (next_who J) next (ok_reply next 0)) in
-    on_ok c.agree.result (λ out. subst (λ (g : Given). GivesOut old c.agree.new.self g) (used_there J old.state.state name there.0 there.1)
-    (moved old mid c.agree.new.self given (record { journal = refl; lines = refl; options = refl }) (rw (c.use_db.ensures, c.in_ok-copy.ensures) at out))) c.agree.ensures
+    on_ok c.log_ok.result (λ out. subst (λ (g : Given). GivesOut old c.log_ok.new.self g) (used_there J old.state.state name there.0 there.1)
+    (moved old mid c.log_ok.new.self given (record { journal = refl; lines = refl; options = refl }) (rw (c.use_db.ensures, c.in_ok-copy.ensures) at out))) c.log_ok.ensures
