@@ -27,7 +27,7 @@ use Rattle.qc_model.specs.Journal.{Journal, operations, touches_table, present}
 use Rattle.qc_model.specs.Cache.{Entry, cache, entry_of, is_entry, without, completed, moved, uses_touched, after_run, after_event}
 use Rattle.qc_model.specs.Session.{is_key_of, KeyParts, parts_of, packets_unless, kept_packets, answer_packets, answer}
 use Rattle.qc_model.specs.Licence.{IsLicensed, IsLawful, IsLawfulAfter, tables_of_statement, tables_of_key}
-use Rattle.qc_history.specs.Runs.{IsKept, ends_fill, is_ended, AnswersStay, HitsAreWhole}
+use Rattle.qc_history.specs.Runs.{IsKept, completes, is_completed, AnswersStay, HitsAreWhole}
 use Rattle.qc_history.proofs.Events.{present_push, cache_push, lawful_front, lawful_back, any_append, any_here, all_append, all_on, all_filter, found_all}
 
 -- ---- a select's tables
@@ -116,7 +116,7 @@ kept_on j e x k now = record {
   bytes = k.bytes;
   at_start = k.at_start;
   now = now;
-  ended = λ c. any_append (ends_fill x.serial) j (e ∷ []) (k.ended c);
+  ended = λ c. any_append (completes x.serial) j (e ∷ []) (k.ended c);
 }
 
 -- an event that isn't a commit
@@ -148,7 +148,7 @@ kept_completed j n x is k =
       bytes = stays.bytes;
       at_start = stays.at_start;
       now = stays.now;
-      ended = λ c. any_here (ends_fill x.serial) j (event.Done n) [] (eq-eqb n x.serial (sym is));
+      ended = λ c. any_here (completes x.serial) j (event.Done n) [] (eq-eqb n x.serial (sym is));
     }
 
 pub is_serial : (n : ℕ) (x : Entry) → is_entry n x ≡ true → x.serial ≡ n
@@ -212,15 +212,15 @@ answers_stay o j h = after_keeps o [] j tt h
 
 -- ---- hits
 
-hit_done : (earlier : Journal) (n : ℕ) (o : Option Entry) → entry_of n (cache earlier) ≡ o → IsSomeAnd o (λ x. x.complete ≡ true) → AllByRecursion (IsKept earlier) (cache earlier) → is_ended n earlier ≡ true
+hit_done : (earlier : Journal) (n : ℕ) (o : Option Entry) → entry_of n (cache earlier) ≡ o → IsSomeAnd o (λ x. x.complete ≡ true) → AllByRecursion (IsKept earlier) (cache earlier) → is_completed n earlier ≡ true
 hit_done earlier n None is h all = absurd h
 hit_done earlier n (Some x) is h all =
     let found = found_all (IsKept earlier) (is_entry n) (cache earlier) x all is in
-    subst (λ z. is_ended z earlier ≡ true) (is_serial n x found.1) (found.0.ended h)
+    subst (λ z. is_completed z earlier ≡ true) (is_serial n x found.1) (found.0.ended h)
 
 pub hits_are_whole : HitsAreWhole
 hits_are_whole o j who n earlier later h split =
     let lawful = subst (IsLawful o) split h in
     let back : IsLawfulAfter o earlier (event.Run who (how.Hit n) ∷ later) = lawful_back o [] earlier _ lawful in
     let front : IsLawful o earlier = lawful_front o [] earlier _ lawful in
-    subst (λ z. is_ended n z ≡ true) (sym split) (any_append (ends_fill n) earlier _ (hit_done earlier n (entry_of n (cache earlier)) refl back.0.1 (answers_stay o earlier front)))
+    hit_done earlier n (entry_of n (cache earlier)) refl back.0.1 (answers_stay o earlier front)

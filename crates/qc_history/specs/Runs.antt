@@ -29,14 +29,13 @@ pub record Stands (j : Journal) (session : ℕ) (e : Event) : Type 0 where
   pub split : j ≡ earlier ++ e ∷ later
   pub own : is_by session e ≡ true
 
--- the end of a fill
-abbrev pub ends_fill : ℕ → Event → Bool
-ends_fill n (event.Done k) = k == n
-ends_fill n (event.Gone k why) = k == n
-ends_fill n _ = false
+-- an entry was completed
+abbrev pub completes : ℕ → Event → Bool
+completes n (event.Done k) = k == n
+completes n _ = false
 
-abbrev pub is_ended : ℕ → Journal → Bool
-is_ended n j = list_any (ends_fill n) j
+abbrev pub is_completed : ℕ → Journal → Bool
+is_completed n j = list_any (completes n) j
 
 -- an entry of the cache: its start, and its answer, which is that of its start
 pub record IsKept (j : Journal) (entry : Entry) : Type 0 where
@@ -47,7 +46,7 @@ pub record IsKept (j : Journal) (entry : Entry) : Type 0 where
   pub bytes : List ℕ
   pub at_start : answer entry.key (present start.earlier) ≡ Some bytes
   pub now : answer entry.key (present j) ≡ Some bytes
-  pub ended : entry.complete ≡ true → is_ended entry.serial j ≡ true
+  pub ended : entry.complete ≡ true → is_completed entry.serial j ≡ true
 
 abbrev pub StartsOnce : Type 0
 StartsOnce = (options : Options) (j : Journal) (n : ℕ) (s t : IsStarted j n) → IsLawful options j
@@ -56,9 +55,10 @@ StartsOnce = (options : Options) (j : Journal) (n : ℕ) (s t : IsStarted j n) �
 abbrev pub AnswersStay : Type 0
 AnswersStay = (options : Options) (j : Journal) → IsLawful options j → AllByRecursion (IsKept j) (cache j)
 
+-- what is hit was completed before
 abbrev pub HitsAreWhole : Type 0
 HitsAreWhole = (options : Options) (j : Journal) (who : Who) (n : ℕ) (earlier later : Journal) → IsLawful options j
-    → j ≡ earlier ++ event.Run who (how.Hit n) ∷ later → is_ended n j ≡ true
+    → j ≡ earlier ++ event.Run who (how.Hit n) ∷ later → is_completed n earlier ≡ true
 
 -- no number stands twice
 abbrev pub are_distinct : List ℕ → Bool

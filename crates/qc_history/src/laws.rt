@@ -1,4 +1,4 @@
-//! Laws of lawful journals, as functions that do nothing.
+//! Laws of lawful journals: functions with no code, of which the contract is the law.
 
 ghost use Rattle.qc_history.specs.Answers.{HitsAnswer, StartsAnswer};
 ghost use Rattle.qc_history.specs.Runs.{AnswersStay, EntriesAreApart, HitsAreWhole, KeysAreApart, StartsOnce};
@@ -14,7 +14,7 @@ pub fn answers_stay()
     ensures { AnswersStay }
 {}
 
-/// What was hit was whole.
+/// What is hit was completed before.
 pub fn hits_are_whole()
     ensures { HitsAreWhole }
 {}

@@ -3,8 +3,6 @@
 
 mod answers;
 mod fronts;
-#[cfg(test)]
-mod tests;
 
 pub use answers::{KeptAnswer, KeptAnswers};
 pub use fronts::front_above;
