@@ -1,42 +1,36 @@
 -- From what was read to what is said of the whole input.
-use Rattle.std.proofs.Common.{◌≡◌, ℕ, ◌<◌, ◌≤◌, Bool, true, false, List, [], ◌∷◌, length, refl, sym, ap, ◌∙◌, subst, arith, true≢false, Option, Some, None, Result, Ok, Err, length-append, inl, inr}
-use Rattle.std.specs.Prelude.{is_ok, IfSome, nat_lt, if◌then◌else◌, bytes_eq, codes, ◌&&◌}
+use Rattle.std.proofs.Common.{◌≡◌, ℕ, ◌<◌, ◌≤◌, Bool, true, false, List, [], ◌∷◌, length, refl, sym, ap, ◌∙◌, subst, arith, true≢false, Option, Some, None, Result, Ok, Err, length-append, inl, inr, ◌⊎◌, ◌==◌}
+use Rattle.std.specs.Prelude.{is_ok, IfOk, IfSome, nat_lt, if◌then◌else◌}
 use Rattle.qc_types.specs.declared.options.Options.{Options}
 use Rattle.qc_types.specs.declared.memory.Or.{Or}
 use Rattle.qc_types.specs.declared.memory.Or.TheVariants as or
 use Rattle.qc_types.specs.Answers.{Gives}
 use Rattle.qc_types.specs.Streams.{BeginsWith}
-use Rattle.qc_sql.specs.Words.{when}
 use Rattle.qc_model.specs.declared.reports.Report.{Report}
 use Rattle.qc_model.specs.declared.reports.Script.{Script}
 use Rattle.qc_model.specs.declared.reports.ScriptRefusal.{ScriptRefusal}
 use Rattle.qc_model.specs.declared.reports.ScriptRefusal.TheVariants as refusal
 use Rattle.qc_model.specs.ScriptLines.{script_of, most_script, after_lines, lines_of, no_sessions}
 use Rattle.qc_model.specs.Agrees.{Agrees}
-use Rattle.qc_single.specs.Stage.{first_machine, without_cache, HasWords}
-use Rattle.qc_app.specs.Words.{options_of}
+use Rattle.qc_words.specs.Words.{options_of}
+use Rattle.qc_words.proofs.Rounding.{options_are_rounded}
+use Rattle.qc_single.specs.Stage.{first_machine, HasWords}
 use Rattle.qc_app.specs.Reading.{ReadsEnough}
 use Rattle.qc_app.specs.Top.{ReadsAll, RefusesInput, TellsRefusal, IsRunOf}
 
 -- ---- the words
 
-when_is : (b : Bool) (x o : Options) → when b x ≡ Some o → o ≡ x
-when_is true x o e = let same : ◌≡◌ {A = Option Options} (Some x) (Some o) = e in cc
-when_is false x o e = let none : ◌≡◌ {A = Option Options} None (Some o) = e in absurd cc
+pub words_given : {E : Type 0} (r : Result (Option Options) E) (given : Option Options) (o : Options) (meant : Option Options) → r ≡ Ok given → given ≡ Some o
+    → IfOk r (λ x. x ≡ meant) → meant ≡ Some o
+words_given {E} r given o meant is some h = sym (subst (λ (q : Result (Option Options) E). IfOk q (λ x. x ≡ meant)) is h) ∙ some
 
-none_is : {P : Type 0} (o : Options) → ◌≡◌ {A = Option Options} None (Some o) → P
-none_is o e = absurd cc
-
-pub words_are : (words : List (List ℕ)) (o : Options) → options_of words ≡ Some o → o ≡ without_cache
-words_are [] o e = none_is o e
-words_are (a ∷ []) o e = none_is o e
-words_are (a ∷ b ∷ []) o e = none_is o e
-words_are (a ∷ b ∷ c ∷ []) o e = when_is (bytes_eq a (codes "run") && bytes_eq b (codes "--size") && bytes_eq c (codes "0")) without_cache o e
-words_are (a ∷ b ∷ c ∷ d ∷ ws) o e = none_is o e
-
--- they give the cache no memory
+-- the cache's memory has a word, where it has any
 pub words_have : (words : List (List ℕ)) (o : Options) → options_of words ≡ Some o → HasWords o
-words_have words o e = subst HasWords (sym (words_are words o e)) (λ some. absurd (true≢false some))
+words_have words o e = by (options_are_rounded words o e).room
+  where
+    by : (o.size ≡ 0) ⊎ (1024 ≤ o.size) → HasWords o
+    by (inl none) = λ some. absurd (true≢false (sym (ap (λ n. n == 0) none) ∙ some))
+    by (inr least) = λ some. omega (arith, least)
 
 -- ---- a script that is too long
 

@@ -1,4 +1,3 @@
-pub mod Words
 pub mod Top
 pub mod Reading
 pub mod Inputs

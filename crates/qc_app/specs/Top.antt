@@ -7,7 +7,7 @@ use Rattle.qc_model.specs.declared.reports.Script.{Script}
 use Rattle.qc_model.specs.declared.reports.ScriptRefusal.{ScriptRefusal}
 use Rattle.qc_model.specs.ScriptLines.{script_of}
 use Rattle.qc_model.specs.Agrees.{Agrees}
-use Rattle.qc_app.specs.Words.{options_of}
+use Rattle.qc_words.specs.Words.{options_of}
 use Rattle.qc_single.specs.Stage.{first_machine}
 
 -- a source was read to its end, and gave these bytes

@@ -7,7 +7,6 @@ mod standard;
 #[cfg(test)]
 mod tests;
 mod top;
-mod words;
 
 pub use qc_journal::{Counters, Event, Events, GoneWhy, How, Reason, Who};
 pub use qc_model::reports::{

@@ -1,9 +1,11 @@
 //! The top call on sources and sinks in memory. The expected replies are written out by hand.
 
+mod cached;
+
 ghost use Rattle.std.specs.Prelude.{◌<◌, ◌≤◌, IfOk, vec_len};
 
 use crate::{Ended, Ending, StdSink, StdSource, Word, qcache_main};
-use qc_types::{BytesSink, BytesSource, PutStep, ReadStep, Sink, Source};
+use qc_types::{BytesSink, BytesSource, Options, PutStep, ReadStep, Sink, Source};
 use std::alloc::{AllocError, Global};
 use std::io::{self, ErrorKind, Read, Write};
 use std::test::Fail;
@@ -271,8 +273,13 @@ fn sink(alloc: Global, failing: &[u64]) -> Result<BytesSink, AllocError> {
 
 /// How a run without a cache ends on a whole script, and what it writes.
 fn run(rt: &HostRuntime, script: &[u8]) -> Result<(Ended, BytesSink), AllocError> {
+    run_with(rt, "run --size 0", script)
+}
+
+/// The same with these words.
+fn run_with(rt: &HostRuntime, line: &str, script: &[u8]) -> Result<(Ended, BytesSink), AllocError> {
     let alloc = rt.alloc();
-    let words = words(alloc, "run --size 0")?;
+    let words = words(alloc, line)?;
     let mut input = source(alloc, script, usize::MAX, &[])?;
     let mut out = sink(alloc, &[])?;
     let ended = qcache_main(rt, alloc, &words, &mut input, &mut out);
@@ -290,6 +297,27 @@ fn whole_reports(rt: HostRuntime) -> Result<(), Fail> {
     ];
     for (script, report) in rows {
         let (ended, out) = run(&rt, script.as_bytes())?;
+        assert_eq!(rt; ended.status, 0u8);
+        assert_eq!(rt; out.bytes(), report.as_bytes());
+    }
+    Ok(())
+}
+
+#[test]
+fn whole_reports_with_a_cache(rt: HostRuntime) -> Result<(), Fail> {
+    let rows: [(&str, &str, &str); 9] = [
+        ("run", FIRST_ROW, cached::KEPT_REPORT),
+        ("run --limit 62", FIRST_ROW, cached::JUST_KEPT_REPORT),
+        ("run --limit 61", FIRST_ROW, cached::TOO_LARGE_REPORT),
+        ("run", "", cached::EMPTY_REPORT),
+        ("run", cached::SPELLINGS, cached::SPELLINGS_REPORT),
+        ("run", cached::NO_ROWS, cached::NO_ROWS_REPORT),
+        ("run", cached::WRITTEN, cached::WRITTEN_REPORT),
+        ("run", cached::REASONS, cached::REASONS_REPORT),
+        ("run", cached::ORDERS, cached::ORDERS_REPORT),
+    ];
+    for (line, script, report) in rows {
+        let (ended, out) = run_with(&rt, line, script.as_bytes())?;
         assert_eq!(rt; ended.status, 0u8);
         assert_eq!(rt; out.bytes(), report.as_bytes());
     }
@@ -319,25 +347,81 @@ fn a_query_of_an_unknown_table(rt: HostRuntime) -> Result<(), Fail> {
     Ok(())
 }
 
+/// Words, each with the size, limit, unit and type that they ask for.
 #[test]
 fn words_of_the_command_line(rt: HostRuntime) -> Result<(), Fail> {
-    let alloc = rt.alloc();
-    let rows: [(&str, u8); 8] = [
-        ("run --size 0", 0),
-        ("", 1),
-        ("run", 1),
-        ("run --size", 1),
-        ("run --size x", 1),
-        ("run --size 00", 1),
-        ("Run --size 0", 1),
-        ("run --size 0 0", 1),
+    let rows: [(&str, u32, u32, u32, u8); 16] = [
+        ("run", 1_048_576, 1_048_576, 4_096, 1),
+        ("run --size 0", 0, 1_048_576, 4_096, 1),
+        ("run --size 00", 0, 1_048_576, 4_096, 1),
+        ("run --size 1023", 0, 1_048_576, 4_096, 1),
+        ("run --size 1024", 1_024, 1_048_576, 4_096, 1),
+        ("run --size 67108864", 67_108_864, 1_048_576, 4_096, 1),
+        ("run --limit 0", 1_048_576, 0, 4_096, 1),
+        ("run --limit 67108864", 1_048_576, 67_108_864, 4_096, 1),
+        ("run --unit 512", 1_048_576, 1_048_576, 512, 1),
+        ("run --unit 513", 1_048_576, 1_048_576, 520, 1),
+        ("run --unit 1048576", 1_048_576, 1_048_576, 1_048_576, 1),
+        ("run --type 0", 1_048_576, 1_048_576, 4_096, 0),
+        ("run --type 1", 1_048_576, 1_048_576, 4_096, 1),
+        ("run --type 2", 1_048_576, 1_048_576, 4_096, 2),
+        ("run --size=3072 --unit=512", 3_072, 1_048_576, 512, 1),
+        (
+            "run --type 2 --unit 1048569 --limit 62 --size 2047 --",
+            1_024,
+            62,
+            1_048_576,
+            2,
+        ),
     ];
-    for (line, status) in rows {
-        let mut input = source(alloc, FIRST_ROW.as_bytes(), 100, &[])?;
+    for (line, size, limit, unit, kind) in rows {
+        let (ended, _out) = run_with(&rt, line, FIRST_ROW.as_bytes())?;
+        assert_eq!(rt; ended.status, 0u8, "at {line}");
+        let Some(report) = ended.report else {
+            return Err(Fail::new("no report"));
+        };
+        let wanted = Options {
+            size,
+            limit,
+            unit,
+            kind,
+        };
+        assert_eq!(rt; report.options, wanted, "at {line}");
+    }
+    Ok(())
+}
+
+/// Words that aren't in the form: the input, which would fail, isn't read, and nothing is written.
+#[test]
+fn words_in_no_form(rt: HostRuntime) -> Result<(), Fail> {
+    let alloc = rt.alloc();
+    let rows: [&str; 19] = [
+        "",
+        "Run --size 0",
+        "--size 0",
+        "run --size",
+        "run --size x",
+        "run --size +0",
+        "run --size 0 0",
+        "run --size 00000000000",
+        "run --size 67108865",
+        "run --limit 67108865",
+        "run --unit 511",
+        "run --unit 1048577",
+        "run --type 3",
+        "run --size 0 --size 0",
+        "run --form 1",
+        "run --help",
+        "run --version",
+        "--help",
+        "--version",
+    ];
+    for line in rows {
+        let mut input = source(alloc, FIRST_ROW.as_bytes(), 100, &[1])?;
         let mut out = sink(alloc, &[])?;
         let ended = qcache_main(&rt, alloc, &words(alloc, line)?, &mut input, &mut out);
-        assert_eq!(rt; ended.status, status, "at {line}");
-        assert_eq!(rt; out.bytes().is_empty(), status == 1, "at {line}");
+        assert_eq!(rt; ended.status, 1u8, "at {line}");
+        assert_eq!(rt; out.bytes().is_empty(), true, "at {line}");
     }
     Ok(())
 }

@@ -1,18 +1,18 @@
 //! The top call: everything that the program does.
 
-ghost use Rattle.std.specs.Prelude.{◌≡◌, ◌≤◌, ◌↔◌, ◌⊎◌, ◌==◌, true, false, map, string_bytes, None, is_some, is_none, IfSome};
+ghost use Rattle.std.specs.Prelude.{◌≡◌, ◌≤◌, ◌⊎◌, ◌==◌, true, false, map, string_bytes, None, is_some, is_none, IfSome};
 ghost use Rattle.qc_types.specs.Streams.{Rose};
 ghost use Rattle.qc_model.specs.ReportText.{text_of_report};
 ghost use Rattle.qc_script.specs.ShortNames.{HasShortNames};
-ghost use Rattle.qc_app.specs.Words.{options_of};
+ghost use Rattle.qc_words.specs.Words.{options_of};
 ghost use Rattle.qc_app.specs.Top.{RefusesInput, TellsRefusal, IsRunOf, HoldsMore, HoldsFront};
 
 use crate::reading::{Unread, read_input};
 use crate::run::run_script;
-use crate::words::read_words;
 use qc_model::reports::{Report, ScriptRefusal};
 use qc_script::{read_script, report_text};
 use qc_types::{Or, PutStep, Sink, Source};
+use qc_words::read_words;
 use std::alloc::Global;
 
 const DONE: u8 = 0;
@@ -39,8 +39,10 @@ pub struct Ended {
     pub bad: Option<ScriptRefusal>,
 }
 
-/// Does what the words behind the program's name ask for. `run --size 0` reads a script from the input to its end, or until it is too long
-/// for a script, runs its session without a cache, and puts the text of the report to the output.
+/// Does what the words behind the program's name ask for. `run` reads a script from the input to its end, or until it is too long for a
+/// script, runs its session, and puts the text of the report to the output. With `--size 0` there is no cache, `--limit` is the most
+/// bytes of a reply that is kept, and `--type` the cache type with which the session begins. Of `--unit`, the bytes of a block of the
+/// cache's memory, only the report tells so far.
 ///
 /// The words are judged first, then the input is read, then the script is judged, then it is run. Nothing is put before the run has ended.
 /// A source or a sink that doesn't tell what it has left or holds is promised less: the clauses then speak of some input of which the
@@ -54,8 +56,9 @@ pub fn qcache_main<R, S: Source, K: Sink>(
     out: &mut K,
 ) -> Ended
     ensures statuses { result.status ≤ 5 }
-    ensures usage { (result.status ≡ 1) ↔ (options_of (map string_bytes words.now) ≡ None) }
-    ensures untouched { result.status ≡ 1 → input.new ≡ input.old }
+    ensures usage { result.status ≡ 1 → options_of (map string_bytes words.now) ≡ None }
+    ensures refuses_words { options_of (map string_bytes words.now) ≡ None → (result.status ≡ 1) ⊎ (result.status ≡ 5) }
+    ensures untouched { options_of (map string_bytes words.now) ≡ None → input.new ≡ input.old }
     ensures refusal_there { is_some result.bad ≡ (result.status == 2) }
     ensures refusal { IfSome result.bad (RefusesInput (S.left input.old)) }
     ensures report_there { (result.status ≡ 0) ⊎ (result.status ≡ 4) → is_some result.report ≡ true }
@@ -71,8 +74,10 @@ pub fn qcache_main<R, S: Source, K: Sink>(
     ensures completes { is_some (options_of (map string_bytes words.now)) ≡ true → TellsRefusal (S.left input.old) false
         → (Rose (S.faults input.old) (S.faults input.new) → ⊥) → (Rose (K.faults out.old) (K.faults out.new) → ⊥) → (result.status ≡ 0) ⊎ (result.status ≡ 5) }
 {
-    let Some(options) = read_words(words) else {
-        return Ended::without_report(USAGE);
+    let options = match read_words(alloc, words) {
+        Ok(Some(options)) => options,
+        Ok(None) => return Ended::without_report(USAGE),
+        Err(_) => return Ended::without_report(NO_MEMORY),
     };
     let bytes = match read_input(alloc, input) {
         Ok(bytes) => bytes,

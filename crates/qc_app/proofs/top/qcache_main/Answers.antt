@@ -2,10 +2,11 @@ use Rattle.std.proofs.Common.{◌≡◌, sym, ap, ◌∙◌, subst, map, string_
 use Rattle.std.specs.Option.{IfSome}
 use Rattle.qc_model.specs.declared.reports.Report.{Report}
 use Rattle.qc_model.specs.ScriptLines.{script_of}
+use Rattle.qc_words.specs.Words.{options_of}
 use Rattle.qc_app.specs.declared.top.Ended.{Ended}
 use Rattle.qc_app.specs.Top.{RefusesInput, IsRunOf}
 use Rattle.qc_app.proofs.Inputs.{script_is_small}
-use Rattle.qc_app.proofs.Tops.{refusal_is, not_taken, not_refused, run_is, if_some, given, given_refusal, words_have}
+use Rattle.qc_app.proofs.Tops.{refusal_is, not_taken, not_refused, run_is, if_some, given, given_refusal, words_given, words_have}
 use Rattle.qc_app.proofs.top.qcache_main.Goals as goal
 
 pub returns-in-Err-Other-clause-refusal : goal.returns-in-Err-Other-clause-refusal
@@ -26,7 +27,10 @@ returns-in-Err-Other-clause-completes g c = λ chosen tells quiet still.
     not_taken (left c.args.input.now) (left c.read_input.new.input) c.in-Ok.bytes.items refusal c.in-Ok.ensures.bytes (ap script_of (sym c.deref.ensures.value) ∙ means) tells
 
 pub run_script-requires-clause-words : goal.run_script-requires-clause-words
-run_script-requires-clause-words g c = words_have (map (string_bytes {Z = Global}) c.args.words.now) c.in-Some.options (sym c.read_words.ensures ∙ c.in-Some.is)
+run_script-requires-clause-words g c =
+    let words = map (string_bytes {Z = Global}) c.args.words.now in
+    words_have words c.in-Ok-Some.options
+    (words_given c.read_words.result c.in-Ok-Some.field-0 c.in-Ok-Some.options (options_of words) c.in-Ok-Some.is c.in-Ok-Some.field-0-is c.read_words.ensures)
 
 pub run_script-requires-clause-small : goal.run_script-requires-clause-small
 run_script-requires-clause-small g c =
@@ -42,8 +46,10 @@ returns-in-Ok-run_script-clause-agrees g c =
     let means = given c.read_script.result script (script_of c.deref.result.now) c.in-Ok-read_script.is c.read_script.ensures in
     if_some (λ (r : Report). r ≡ report) (IsRunOf words (left c.args.input.now) (left c.read_input.new.input))
     (λ r same. subst (IsRunOf words (left c.args.input.now) (left c.read_input.new.input)) (sym same)
-    (run_is words (left c.args.input.now) (left c.read_input.new.input) c.in-Ok.bytes.items script c.in-Some.options report c.in-Ok.ensures.bytes
-    (ap script_of (sym c.deref.ensures.value) ∙ means) (sym c.read_words.ensures ∙ c.in-Some.is) c.in-Ok-run_script.ensures.agrees))
+    (run_is words (left c.args.input.now) (left c.read_input.new.input) c.in-Ok.bytes.items script c.in-Ok-Some.options report c.in-Ok.ensures.bytes
+    (ap script_of (sym c.deref.ensures.value) ∙ means)
+    (words_given c.read_words.result c.in-Ok-Some.field-0 c.in-Ok-Some.options (options_of words) c.in-Ok-Some.is c.in-Ok-Some.field-0-is c.read_words.ensures)
+    c.in-Ok-run_script.ensures.agrees))
     c.write_report.result.report c.write_report.ensures.same
 
 pub returns-in-Ok-run_script-clause-refuses : goal.returns-in-Ok-run_script-clause-refuses
