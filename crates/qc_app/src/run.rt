@@ -15,7 +15,7 @@ ghost use Rattle.qc_single.specs.Stage.{first_machine, HasWords};
 
 use qc_journal::Journal;
 use qc_model::reports::{Ending, Report, Script, SessionReport, SessionReports};
-use qc_single::{ONLY_SESSION, Session};
+use qc_single::{Finished, ONLY_SESSION, SingleSession};
 use qc_sql::commands::{Command, CommandEnd};
 use qc_types::{NoMemory, Options, Or, Steps};
 use qc_wire::read_command;
@@ -42,17 +42,11 @@ fn run_one(alloc: Global, options: Options, input: &[u8]) -> Result<Report, NoMe
     ensures { IfOk result (λ report. IsReportOf options input.now report) }
 {
     let (session, ending) = run_session::<Brand>(alloc, options, input, Blank::new(1))?;
-    let Session {
-        options: _,
-        state: _,
-        database: _,
+    let Finished {
         journal,
-        kept,
-        number: _,
-        place: _,
+        entries,
         lines,
-    } = session;
-    let entries = kept.len() as u64;
+    } = session.finish();
     let mut sessions = SessionReports::new(alloc);
     sessions.push(SessionReport {
         session: ONLY_SESSION,
@@ -84,7 +78,7 @@ pub fn run_session<L: Ledger>(
     options: Options,
     input: &[u8],
     blank: Blank,
-) -> Result<(Session, Ending), NoMemory>
+) -> Result<(SingleSession, Ending), NoMemory>
     requires words { HasWords options }
     requires name { blank.name ≡ L.name }
     requires parts { blank.parts ≡ L.parts }
@@ -92,7 +86,7 @@ pub fn run_session<L: Ledger>(
     ensures { IfOk result (λ ran. HasRun options input.now ran.0 ran.1) }
 {
     let mut steps = Steps::<L>::new(blank);
-    let mut session = Session::new(alloc, options)?;
+    let mut session = SingleSession::new(alloc, options)?;
     let mut left = input;
     loop {
         let command = match next_command(alloc, &mut left) {
@@ -100,7 +94,7 @@ pub fn run_session<L: Ledger>(
             Err(Or::Other(ending)) => return Ok((session, ending)),
             Err(Or::Memory) => return Err(NoMemory),
         };
-        session.execute(alloc, &command, &mut steps)?;
+        session = session.execute(alloc, &command, &mut steps)?;
     }
 }
 

@@ -6,17 +6,28 @@ ghost use Rattle.qc_types.specs.Streams.{Rose, FillsWithin, ReadGives, PutGives}
 
 use qc_types::{PutStep, ReadStep, Sink, Source};
 use std::io::{ErrorKind, Read, Write};
+use std::marker::Model;
 
-/// A source that reads from a reader, and counts the errors of its reads. The count stays at 2^64 - 1 once it is there.
+/// A source that reads from a reader, and counts the errors of its reads. The count stays at 2^64 - 1 once it is there. Contracts see the count.
 #[derive(Drop)]
 pub struct StdSource<R> {
     reader: R,
     faults: u64,
 }
 
+impl<R> Model for StdSource<R> {
+    ghost use Rattle.std.specs.Prelude.{ℕ};
+
+    ghost Value = { ℕ };
+
+    ghost view = { λ s. s.faults };
+}
+
 impl<R: Read> StdSource<R> {
     /// A source without faults so far.
-    pub fn new(reader: R) -> StdSource<R> {
+    pub fn new(reader: R) -> StdSource<R>
+        ensures { result ≡ 0 }
+    {
         StdSource { reader, faults: 0 }
     }
 }
@@ -24,7 +35,7 @@ impl<R: Read> StdSource<R> {
 impl<R: Read> Source for StdSource<R> {
     ghost left = { λ _. Option.None };
 
-    ghost faults = { λ s. s.faults };
+    ghost faults = { λ s. s };
 
     /// One read, again where a signal interrupts it. Each error counts.
     fn read(&mut self, out: &mut [u8]) -> ReadStep {
@@ -53,9 +64,19 @@ pub struct StdSink<W> {
     faults: u64,
 }
 
+impl<W> Model for StdSink<W> {
+    ghost use Rattle.std.specs.Prelude.{ℕ};
+
+    ghost Value = { ℕ };
+
+    ghost view = { λ s. s.faults };
+}
+
 impl<W: Write> StdSink<W> {
     /// A sink without faults so far.
-    pub fn new(writer: W) -> StdSink<W> {
+    pub fn new(writer: W) -> StdSink<W>
+        ensures { result ≡ 0 }
+    {
         StdSink { writer, faults: 0 }
     }
 }
@@ -63,7 +84,7 @@ impl<W: Write> StdSink<W> {
 impl<W: Write> Sink for StdSink<W> {
     ghost held = { λ _. Option.None };
 
-    ghost faults = { λ s. s.faults };
+    ghost faults = { λ s. s };
 
     /// Writes until the whole piece is taken. A write that a signal interrupts is made again.
     fn put(&mut self, piece: &[u8]) -> PutStep {
