@@ -1,6 +1,7 @@
 //! Runs a script.
 
 ghost use Rattle.std.specs.Prelude.{◌≡◌, ◌≢◌, ◌<◌, ◌≤◌, length, IfOk};
+ghost use Rattle.qc_sql.specs.declared.commands.Command.TheVariants as sent;
 ghost use Rattle.qc_sql.specs.declared.commands.CommandEnd.TheVariants as end;
 ghost use Rattle.qc_sql.specs.Commands.{command_payload};
 ghost use Rattle.qc_sql.specs.Packets.{most_payload};
@@ -102,6 +103,7 @@ pub fn run_session<L: Ledger>(
 fn next_command(alloc: Global, left: &mut &[u8]) -> Result<Command, Or<Ending>>
     ensures next { Advances result left.old.now left.new.now }
     ensures within { IfOk result (λ c. length (command_payload c) ≤ most_payload) }
+    ensures answered { IfOk result (λ c. c ≢ sent.Quit) }
 {
     let command = match read_command(alloc, left) {
         Ok(command) => command,

@@ -1,6 +1,6 @@
 //! Replies, as packets.
 
-ghost use Rattle.std.specs.Prelude.{◌≡◌, ◌≤◌, length, IfOk};
+ghost use Rattle.std.specs.Prelude.{◌≡◌, ◌≤◌, IfOk};
 ghost use Rattle.qc_sql.specs.declared.replies.Reply.TheVariants as reply;
 ghost use Rattle.qc_sql.specs.Packets.{packets};
 ghost use Rattle.qc_bounds.specs.Replies.{FitsError};

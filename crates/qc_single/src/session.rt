@@ -1,6 +1,6 @@
 //! A session that runs by itself, command by command.
 
-ghost use Rattle.std.specs.Prelude.{◌≡◌, ◌≤◌, ◌<◌, [], true, false, length, IfOk, Ok, OnOk};
+ghost use Rattle.std.specs.Prelude.{◌≡◌, ◌≢◌, ◌≤◌, ◌<◌, [], true, false, length, IfOk, Ok, OnOk};
 ghost use Rattle.qc_sql.specs.declared.commands.Command.TheVariants as sent;
 ghost use Rattle.qc_sql.specs.Commands.{command_payload};
 ghost use Rattle.qc_sql.specs.Grammar as grammar;
@@ -64,9 +64,9 @@ impl Session {
         })
     }
 
-    /// Answers one command, of a payload that one packet carries: what it does to the database and to the session, its event and its line. A SELECT that
-    /// the cache holds is answered from its packets; else each stored row that is read counts a step. Costs what the command's statement costs. The one
-    /// error is want of memory, after which the session is of no use.
+    /// Answers one command, of a payload that one packet carries, but for COM_QUIT, which ends a session without an answer: what it does to the database and
+    /// to the session, its event and its line. A SELECT that the cache holds is answered from its packets; else each stored row that is read counts a step.
+    /// Costs what the command's statement costs. The one error is want of memory, after which the session is of no use.
     pub(crate) fn execute<L: Ledger>(
         &mut self,
         alloc: Global,
@@ -75,6 +75,7 @@ impl Session {
     ) -> Result<(), NoMemory>
         requires fit { IsFit self.old }
         requires within { length (command_payload command.now) ≤ most_payload }
+        requires answered { command.now ≢ sent.Quit }
         ensures does { OnOk result (DoesOne command.now self.old self.new) }
         ensures steps { OnOk result ((text : _) → command.now ≡ sent.Query text → IsAnswered self.old text → steps.new ≡ steps.old) }
     {
@@ -86,8 +87,7 @@ impl Session {
                 alloc,
                 &unknown_command(alloc)?,
             ),
-            // It ends a session, and isn't answered.
-            Command::Quit => self.refuse_form(alloc),
+            Command::Quit => unreachable!(),
         }
     }
 

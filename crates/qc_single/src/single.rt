@@ -1,6 +1,6 @@
 //! A session that runs by itself, as its callers have it.
 
-ghost use Rattle.std.specs.Prelude.{◌≡◌, ◌≤◌, [], length, IfOk};
+ghost use Rattle.std.specs.Prelude.{◌≡◌, ◌≢◌, ◌≤◌, [], length, IfOk};
 ghost use Rattle.qc_sql.specs.declared.commands.Command.TheVariants as sent;
 ghost use Rattle.qc_sql.specs.Commands.{command_payload};
 ghost use Rattle.qc_sql.specs.Packets.{most_payload};
@@ -59,16 +59,17 @@ impl SingleSession {
         Ok(SingleSession { session })
     }
 
-    /// Answers one command, of a payload that one packet carries: what it does to the database and to the session, its event and its line. A SELECT that
-    /// the cache holds is answered from its packets; else each stored row that is read counts a step. Costs what the command's statement costs. The one
-    /// error is want of memory, which ends the session.
+    /// Answers one command, of a payload that one packet carries, but for COM_QUIT, which ends a session without an answer: what it does to the database and
+    /// to the session, its event and its line. A SELECT that the cache holds is answered from its packets; else each stored row that is read counts a step.
+    /// Costs what the command's statement costs. The one error is want of memory, which ends the session.
     pub fn execute<L: Ledger>(
         self,
         alloc: Global,
         command: &Command,
         steps: &mut Steps<L>,
     ) -> Result<SingleSession, NoMemory>
-        requires { length (command_payload command.now) ≤ most_payload }
+        requires within { length (command_payload command.now) ≤ most_payload }
+        requires answered { command.now ≢ sent.Quit }
         ensures does { IfOk result (DoesOne command.now self) }
         ensures steps { IfOk result (λ s. (text : _) → command.now ≡ sent.Query text → IsAnswered self text → steps.new ≡ steps.old) }
     {

@@ -44,7 +44,8 @@ mod texts;
 mod transactions;
 mod updates;
 
-ghost use Rattle.std.specs.Prelude.{◌≡◌, ◌<◌, ◌≤◌, length, IfOk, OnOk};
+ghost use Rattle.std.specs.Prelude.{◌≡◌, ◌≢◌, ◌<◌, ◌≤◌, length, IfOk, OnOk};
+ghost use Rattle.qc_sql.specs.declared.commands.Command.TheVariants as sent;
 ghost use Rattle.qc_sql.specs.Commands.{command_payload};
 ghost use Rattle.qc_sql.specs.Packets.{most_payload};
 ghost use Rattle.qc_single.specs.Going.{IsFit};
@@ -106,7 +107,8 @@ impl Run {
 
 /// The command that a text means.
 fn command_of(alloc: Global, text: &str) -> Result<Command, Fail>
-    ensures { IfOk result (λ command. length (command_payload command) ≤ most_payload) }
+    ensures within { IfOk result (λ command. length (command_payload command) ≤ most_payload) }
+    ensures answered { IfOk result (λ command. command ≢ sent.Quit) }
 {
     if text == "ping" {
         return Ok(Command::Ping);
