@@ -1,5 +1,5 @@
 -- From what was read to what is said of the whole input.
-use Rattle.std.proofs.Common.{◌≡◌, ℕ, ◌<◌, ◌≤◌, Bool, true, false, List, [], ◌∷◌, length, refl, sym, ap, ◌∙◌, subst, arith, true≢false, Option, Some, None, Result, Ok, Err, length-append, inl, inr, ◌⊎◌, ◌==◌}
+use Rattle.std.proofs.Common.{◌≡◌, ℕ, ◌<◌, ◌≤◌, Bool, true, false, List, length, refl, sym, ap, ◌∙◌, subst, arith, true≢false, Option, Some, None, Result, Ok, Err, length-append, inl, inr, ◌⊎◌, ◌==◌}
 use Rattle.std.specs.Prelude.{is_ok, IfOk, IfSome, nat_lt, if◌then◌else◌}
 use Rattle.qc_types.specs.declared.options.Options.{Options}
 use Rattle.qc_types.specs.declared.memory.Or.{Or}
