@@ -44,10 +44,6 @@ takes state journal _ = true
 abbrev pub first_machine : Machine
 first_machine = machine_taking takes
 
--- with no memory for the cache, and else as by default
-abbrev pub without_cache : Options
-without_cache = record { size = 0; limit = 1048576; unit = 4096; kind = 1 }
-
 -- the memory of the cache has a word, where there is any
 abbrev pub HasWords : Options → Type 0
 HasWords options = (options.size == 0) ≡ false → 0 < region_words options
