@@ -3,4 +3,4 @@ use Rattle.qc_app.proofs.standard.StdSinkSink.put.Given as goal
 
 -- the count of faults has not fallen
 abbrev pub invariant-loop : goal.invariant-loop
-invariant-loop g l = l.fn.self.faults ≤ l.self.faults
+invariant-loop g l = l.fn.self ≤ l.self-inside.faults
