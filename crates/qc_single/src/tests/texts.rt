@@ -286,7 +286,7 @@ pub const REFUSED_TEXTS: &[Step] = &[
     },
 ];
 
-/// The statements on the cache are refused for now, and leave no event and the transaction as it was.
+/// The statements on the cache are refused, and leave no event and the transaction as it was.
 pub const STATEMENTS_ON_THE_CACHE: &[Step] = &[
     Step {
         text: "SHOW STATUS LIKE 'Qcache%'",
