@@ -2,13 +2,29 @@
 
 mod cached;
 
-ghost use Rattle.std.specs.Prelude.{◌<◌, ◌≤◌, IfOk, vec_len};
+ghost use Rattle.std.specs.Prelude.{◌<◌, ◌≤◌, IfOk, vec_len, ◌≡◌, Ok};
 
 use crate::{Ended, Ending, StdSink, StdSource, Word, qcache_main};
 use qc_types::{BytesSink, BytesSource, Options, PutStep, ReadStep, Sink, Source};
 use std::alloc::{AllocError, Global};
+use std::fmt::Debug;
 use std::io::{self, ErrorKind, Read, Write};
-use std::test::Fail;
+use std::process::Abort;
+
+/// The value of an answer that has to be `Ok`.
+fn must<T, E: Debug + Drop>(rt: &impl Abort, answer: Result<T, E>) -> T
+    ensures { answer ≡ Ok result }
+{
+    match answer {
+        Ok(value) => value,
+        Err(error) => panic!(rt; "{error:?}"),
+    }
+}
+
+/// Asserts that the two are the same.
+fn same<T: PartialEq + Debug + Drop>(rt: &impl Abort, got: T, wanted: T) {
+    assert_eq!(rt; got, wanted);
+}
 
 const FIRST_ROW: &str = "session 1
 query CREATE DATABASE d
@@ -287,7 +303,7 @@ fn run_with(rt: &HostRuntime, line: &str, script: &[u8]) -> Result<(Ended, Bytes
 }
 
 #[test]
-fn whole_reports(rt: HostRuntime) -> Result<(), Fail> {
+fn whole_reports(rt: HostRuntime) {
     let rows: [(&str, &str); 5] = [
         (FIRST_ROW, FIRST_REPORT),
         ("", EMPTY_REPORT),
@@ -296,15 +312,14 @@ fn whole_reports(rt: HostRuntime) -> Result<(), Fail> {
         (CHANGES, CHANGES_REPORT),
     ];
     for (script, report) in rows {
-        let (ended, out) = run(&rt, script.as_bytes())?;
+        let (ended, out) = must(&rt, run(&rt, script.as_bytes()));
         assert_eq!(rt; ended.status, 0u8);
         assert_eq!(rt; out.bytes(), report.as_bytes());
     }
-    Ok(())
 }
 
 #[test]
-fn whole_reports_with_a_cache(rt: HostRuntime) -> Result<(), Fail> {
+fn whole_reports_with_a_cache(rt: HostRuntime) {
     let rows: [(&str, &str, &str); 9] = [
         ("run", FIRST_ROW, cached::KEPT_REPORT),
         ("run --limit 62", FIRST_ROW, cached::JUST_KEPT_REPORT),
@@ -317,39 +332,39 @@ fn whole_reports_with_a_cache(rt: HostRuntime) -> Result<(), Fail> {
         ("run", cached::ORDERS, cached::ORDERS_REPORT),
     ];
     for (line, script, report) in rows {
-        let (ended, out) = run_with(&rt, line, script.as_bytes())?;
+        let (ended, out) = must(&rt, run_with(&rt, line, script.as_bytes()));
         assert_eq!(rt; ended.status, 0u8);
         assert_eq!(rt; out.bytes(), report.as_bytes());
     }
-    Ok(())
 }
 
 #[test]
-fn a_source_that_gives_few_bytes(rt: HostRuntime) -> Result<(), Fail> {
+fn a_source_that_gives_few_bytes(rt: HostRuntime) {
     let alloc = rt.alloc();
-    let words = words(alloc, "run --size 0")?;
+    let words = must(&rt, words(alloc, "run --size 0"));
     for piece in [1, 2, 3, 7] {
-        let mut input = source(alloc, FIRST_ROW.as_bytes(), piece, &[])?;
-        let mut out = sink(alloc, &[])?;
+        let mut input = must(&rt, source(alloc, FIRST_ROW.as_bytes(), piece, &[]));
+        let mut out = must(&rt, sink(alloc, &[]));
         let ended = qcache_main(&rt, alloc, &words, &mut input, &mut out);
         assert_eq!(rt; ended.status, 0u8);
         assert_eq!(rt; out.bytes(), FIRST_REPORT.as_bytes());
     }
-    Ok(())
 }
 
 #[test]
-fn a_query_of_an_unknown_table(rt: HostRuntime) -> Result<(), Fail> {
-    let script = format!(in rt.alloc(); "{FIRST_ROW}query SELECT id FROM x\n")?;
-    let (ended, out) = run(&rt, script.as_bytes())?;
-    assert_eq!(rt; ended.status, 0u8);
-    assert_eq!(rt; out.bytes(), REFUSED_REPORT.as_bytes());
-    Ok(())
+fn a_query_of_an_unknown_table(rt: HostRuntime) {
+    let script = must(
+        &rt,
+        format!(in rt.alloc(); "{FIRST_ROW}query SELECT id FROM x\n"),
+    );
+    let (ended, out) = must(&rt, run(&rt, script.as_bytes()));
+    same(&rt, ended.status, 0u8);
+    same(&rt, out.bytes(), REFUSED_REPORT.as_bytes());
 }
 
 /// Words, each with the size, limit, unit and type that they ask for.
 #[test]
-fn words_of_the_command_line(rt: HostRuntime) -> Result<(), Fail> {
+fn words_of_the_command_line(rt: HostRuntime) {
     let rows: [(&str, u32, u32, u32, u8); 16] = [
         ("run", 1_048_576, 1_048_576, 4_096, 1),
         ("run --size 0", 0, 1_048_576, 4_096, 1),
@@ -375,10 +390,10 @@ fn words_of_the_command_line(rt: HostRuntime) -> Result<(), Fail> {
         ),
     ];
     for (line, size, limit, unit, kind) in rows {
-        let (ended, _out) = run_with(&rt, line, FIRST_ROW.as_bytes())?;
+        let (ended, _out) = must(&rt, run_with(&rt, line, FIRST_ROW.as_bytes()));
         assert_eq!(rt; ended.status, 0u8, "at {line}");
         let Some(report) = ended.report else {
-            return Err(Fail::new("no report"));
+            panic!(rt; "no report");
         };
         let wanted = Options {
             size,
@@ -388,12 +403,11 @@ fn words_of_the_command_line(rt: HostRuntime) -> Result<(), Fail> {
         };
         assert_eq!(rt; report.options, wanted, "at {line}");
     }
-    Ok(())
 }
 
 /// Words that aren't in the form: the input, which would fail, isn't read, and nothing is written.
 #[test]
-fn words_in_no_form(rt: HostRuntime) -> Result<(), Fail> {
+fn words_in_no_form(rt: HostRuntime) {
     let alloc = rt.alloc();
     let rows: [&str; 19] = [
         "",
@@ -417,17 +431,22 @@ fn words_in_no_form(rt: HostRuntime) -> Result<(), Fail> {
         "--version",
     ];
     for line in rows {
-        let mut input = source(alloc, FIRST_ROW.as_bytes(), 100, &[1])?;
-        let mut out = sink(alloc, &[])?;
-        let ended = qcache_main(&rt, alloc, &words(alloc, line)?, &mut input, &mut out);
+        let mut input = must(&rt, source(alloc, FIRST_ROW.as_bytes(), 100, &[1]));
+        let mut out = must(&rt, sink(alloc, &[]));
+        let ended = qcache_main(
+            &rt,
+            alloc,
+            &must(&rt, words(alloc, line)),
+            &mut input,
+            &mut out,
+        );
         assert_eq!(rt; ended.status, 1u8, "at {line}");
         assert_eq!(rt; out.bytes().is_empty(), true, "at {line}");
     }
-    Ok(())
 }
 
 #[test]
-fn scripts_that_are_refused(rt: HostRuntime) -> Result<(), Fail> {
+fn scripts_that_are_refused(rt: HostRuntime) {
     let rows: [(&[u8], &str); 12] = [
         (b"ping", "script: no session at line 1"),
         (b"query x", "script: no session at line 1"),
@@ -443,15 +462,17 @@ fn scripts_that_are_refused(rt: HostRuntime) -> Result<(), Fail> {
         (b"session 1\nquit\n# x\n ping", "script: bad line 4"),
     ];
     for (script, message) in rows {
-        let (ended, out) = run(&rt, script)?;
+        let (ended, out) = must(&rt, run(&rt, script));
         assert_eq!(rt; ended.status, 2u8, "at {script:?}");
         assert_eq!(rt; out.bytes().is_empty(), true, "at {script:?}");
         let Some(refusal) = ended.bad else {
-            return Err(Fail::new("no refusal"));
+            panic!(rt; "no refusal");
         };
-        assert_eq!(rt; format!(in rt.alloc(); "{refusal}")?.as_str(), message);
+        assert_eq!(rt;
+            must(&rt, format!(in rt.alloc(); "{refusal}")).as_str(),
+            message
+        );
     }
-    Ok(())
 }
 
 /// A stream whose calls are interrupted, take a byte, take nothing, and fail, in turn.
@@ -492,19 +513,18 @@ impl Write for Faulty {
 }
 
 #[test]
-fn standard_streams(rt: HostRuntime) -> Result<(), Fail> {
+fn standard_streams(rt: HostRuntime) {
     let mut buffer = [0u8; 4];
     let mut input = StdSource::new(Faulty { calls: 0 });
-    assert_eq!(rt; input.read(&mut buffer), ReadStep::Got(1));
-    assert_eq!(rt; input.read(&mut buffer), ReadStep::End);
-    assert_eq!(rt; input.read(&mut buffer), ReadStep::Failed);
+    same(&rt, input.read(&mut buffer), ReadStep::Got(1));
+    same(&rt, input.read(&mut buffer), ReadStep::End);
+    same(&rt, input.read(&mut buffer), ReadStep::Failed);
     let mut out = StdSink::new(Faulty { calls: 0 });
-    assert_eq!(rt; out.put(b"a"), PutStep::Done);
-    assert_eq!(rt; out.put(b"a"), PutStep::Failed);
-    assert_eq!(rt; out.put(b"a"), PutStep::Failed);
-    assert_eq!(rt; out.put(b"ab"), PutStep::Failed);
-    assert_eq!(rt; out.put(b""), PutStep::Done);
-    Ok(())
+    same(&rt, out.put(b"a"), PutStep::Done);
+    same(&rt, out.put(b"a"), PutStep::Failed);
+    same(&rt, out.put(b"a"), PutStep::Failed);
+    same(&rt, out.put(b"ab"), PutStep::Failed);
+    same(&rt, out.put(b""), PutStep::Done);
 }
 
 /// A reader that gives at most two bytes a call, and a writer that takes at most two and keeps them.
@@ -538,11 +558,11 @@ impl Write for Slow {
 }
 
 #[test]
-fn slow_standard_streams(rt: HostRuntime) -> Result<(), Fail> {
+fn slow_standard_streams(rt: HostRuntime) {
     let alloc = rt.alloc();
-    let words = words(alloc, "run --size 0")?;
+    let words = must(&rt, words(alloc, "run --size 0"));
     let mut input = StdSource::new(Slow {
-        bytes: bytes(alloc, FIRST_ROW.as_bytes())?,
+        bytes: must(&rt, bytes(alloc, FIRST_ROW.as_bytes())),
         at: 0,
     });
     let mut written = Slow {
@@ -556,9 +576,8 @@ fn slow_standard_streams(rt: HostRuntime) -> Result<(), Fail> {
         &mut input,
         &mut StdSink::new(&mut written),
     );
-    assert_eq!(rt; ended.status, 0u8);
-    assert_eq!(rt; written.bytes.as_slice(), FIRST_REPORT.as_bytes());
-    Ok(())
+    same(&rt, ended.status, 0u8);
+    same(&rt, written.bytes.as_slice(), FIRST_REPORT.as_bytes());
 }
 
 /// A sink that always wants memory.
@@ -578,25 +597,30 @@ impl Sink for FullSink {
 }
 
 #[test]
-fn faults(rt: HostRuntime) -> Result<(), Fail> {
+fn faults(rt: HostRuntime) {
     let alloc = rt.alloc();
-    let words = words(alloc, "run --size 0")?;
+    let words = must(&rt, words(alloc, "run --size 0"));
     for call in [1, 2, 3] {
-        let mut input = source(alloc, FIRST_ROW.as_bytes(), 100, &[call])?;
-        let mut out = sink(alloc, &[])?;
+        let mut input = must(&rt, source(alloc, FIRST_ROW.as_bytes(), 100, &[call]));
+        let mut out = must(&rt, sink(alloc, &[]));
         let ended = qcache_main(&rt, alloc, &words, &mut input, &mut out);
         assert_eq!(rt; ended.status, 3u8, "at call {call}");
         assert_eq!(rt; out.bytes().is_empty(), true, "at call {call}");
         assert_eq!(rt; ended.report.is_none(), true, "at call {call}");
     }
-    let mut input = source(alloc, FIRST_ROW.as_bytes(), 100, &[])?;
-    let ended = qcache_main(&rt, alloc, &words, &mut input, &mut sink(alloc, &[1])?);
-    assert_eq!(rt; ended.status, 4u8);
-    assert_eq!(rt; ended.report.is_some(), true);
-    let mut input = source(alloc, FIRST_ROW.as_bytes(), 100, &[])?;
+    let mut input = must(&rt, source(alloc, FIRST_ROW.as_bytes(), 100, &[]));
+    let ended = qcache_main(
+        &rt,
+        alloc,
+        &words,
+        &mut input,
+        &mut must(&rt, sink(alloc, &[1])),
+    );
+    same(&rt, ended.status, 4u8);
+    same(&rt, ended.report.is_some(), true);
+    let mut input = must(&rt, source(alloc, FIRST_ROW.as_bytes(), 100, &[]));
     let ended = qcache_main(&rt, alloc, &words, &mut input, &mut FullSink);
-    assert_eq!(rt; ended.status, 5u8);
-    Ok(())
+    same(&rt, ended.status, 5u8);
 }
 
 /// The line of an answer, by its word in the table below.
@@ -659,7 +683,7 @@ fn stream_report(
 }
 
 #[test]
-fn streams_of_a_session(rt: HostRuntime) -> Result<(), Fail> {
+fn streams_of_a_session(rt: HostRuntime) {
     let alloc = rt.alloc();
     // what stands behind `session 1`, the answers, the ending, and the journal
     let rows: [(&str, &str, &str, &str); 32] = [
@@ -728,13 +752,12 @@ fn streams_of_a_session(rt: HostRuntime) -> Result<(), Fail> {
         ("query RESET QUERY CACHE\nping", "form ping", "input", NONE),
     ];
     for (lines, answers, ending, journal) in rows {
-        let script = format!(in alloc; "session 1\n{lines}")?;
-        let (ended, out) = run(&rt, script.as_bytes())?;
+        let script = must(&rt, format!(in alloc; "session 1\n{lines}"));
+        let (ended, out) = must(&rt, run(&rt, script.as_bytes()));
         assert_eq!(rt; ended.status, 0u8, "at {lines}");
-        let report = stream_report(alloc, answers, ending, journal)?;
+        let report = must(&rt, stream_report(alloc, answers, ending, journal));
         assert_eq!(rt; out.bytes(), report.as_bytes(), "at {lines}");
     }
-    Ok(())
 }
 
 /// The place and the word of each line of a script's session.
@@ -761,12 +784,15 @@ fn answers(rt: &HostRuntime, script: &[u8]) -> Result<String, AllocError> {
 const NAME_OF_64: &str = "abcdefghijklmnopqrstuvwxyzabcdefghijklmnopqrstuvwxyzabcdefghijkl";
 
 #[test]
-fn commands_of_every_form(rt: HostRuntime) -> Result<(), Fail> {
+fn commands_of_every_form(rt: HostRuntime) {
     let alloc = rt.alloc();
     let start =
         "session 1\nquery CREATE DATABASE d\ninit d\nquery CREATE TABLE t (id BIGINT PRIMARY KEY)\n";
-    let longest = format!(in alloc; "query CREATE DATABASE {NAME_OF_64}")?;
-    let too_long = format!(in alloc; "query CREATE DATABASE {NAME_OF_64}m")?;
+    let longest = must(&rt, format!(in alloc; "query CREATE DATABASE {NAME_OF_64}"));
+    let too_long = must(
+        &rt,
+        format!(in alloc; "query CREATE DATABASE {NAME_OF_64}m"),
+    );
     // what is sent after the start, and the answers to it
     let rows: [(&[u8], &str); 48] = [
         (b"", ""),
@@ -849,24 +875,23 @@ fn commands_of_every_form(rt: HostRuntime) -> Result<(), Fail> {
         ),
     ];
     for (rest, want) in rows {
-        let mut script = bytes(alloc, start.as_bytes())?;
-        script.extend_from_slice(rest)?;
-        let want = format!(in alloc; "1 other, 2 other, 3 other, {want}")?;
+        let mut script = must(&rt, bytes(alloc, start.as_bytes()));
+        must(&rt, script.extend_from_slice(rest));
+        let want = must(&rt, format!(in alloc; "1 other, 2 other, 3 other, {want}"));
         assert_eq!(rt;
-            answers(&rt, &script)?.as_str(),
+            must(&rt, answers(&rt, &script)).as_str(),
             want.as_str(),
             "at {rest:?}"
         );
     }
-    Ok(())
 }
 
 /// The reply to the last command of a script's last session.
-fn last_reply(rt: &HostRuntime, script: &[u8]) -> Result<Vec<u8>, Fail> {
+fn last_reply(rt: &HostRuntime, script: &[u8]) -> Result<Vec<u8>, AllocError> {
     let alloc = rt.alloc();
     let (ended, _out) = run(rt, script)?;
     let Some(report) = ended.report else {
-        return Err(Fail::new("no report"));
+        return Ok(Vec::new(rt.alloc()));
     };
     let mut last = Vec::new(alloc);
     for session in report.sessions.items() {
@@ -883,65 +908,102 @@ fn extend_by(text: &mut Vec<u8>, byte: u8, times: usize) -> Result<(), AllocErro
 }
 
 #[test]
-fn texts_of_every_length_form(rt: HostRuntime) -> Result<(), Fail> {
+fn texts_of_every_length_form(rt: HostRuntime) {
     let alloc = rt.alloc();
-    let mut script = bytes(
-        alloc,
-        b"session 1\nquery CREATE DATABASE d\ninit d\nquery CREATE TABLE t (id BIGINT PRIMARY KEY, v VARCHAR(65535))\n",
-    )?;
-    script.extend_from_slice(b"query INSERT INTO t VALUES (1, '")?;
-    extend_by(&mut script, b'a', 250)?;
-    script.extend_from_slice(b"'), (2, '")?;
-    extend_by(&mut script, b'b', 251)?;
-    script.extend_from_slice(b"'), (3, '")?;
-    extend_by(&mut script, b'c', 65_535)?;
-    script.extend_from_slice(b"'), (4, ''), (5, NULL)\nquery SELECT v FROM t\n")?;
-    let mut wanted = bytes(
-        alloc,
-        b"\x01\x00\x00\x01\x01\x1b\x00\x00\x02\x03def\x01d\x01t\x01t\x01v\x01v\x0c\x21\x00\xff\xff\x00\x00\xfd\x00\x00\x00\x00\x00\x05\x00\x00\x03\xfe\x00\x00\x02\x00",
-    )?;
-    wanted.extend_from_slice(b"\xfb\x00\x00\x04\xfa")?;
-    extend_by(&mut wanted, b'a', 250)?;
-    wanted.extend_from_slice(b"\xfe\x00\x00\x05\xfc\xfb\x00")?;
-    extend_by(&mut wanted, b'b', 251)?;
-    wanted.extend_from_slice(b"\x02\x00\x01\x06\xfc\xff\xff")?;
-    extend_by(&mut wanted, b'c', 65_535)?;
-    wanted.extend_from_slice(b"\x01\x00\x00\x07\x00\x01\x00\x00\x08\xfb")?;
-    wanted.extend_from_slice(b"\x05\x00\x00\x09\xfe\x00\x00\x02\x00")?;
-    let reply = last_reply(&rt, &script)?;
-    assert_eq!(rt; reply.as_slice(), wanted.as_slice());
-    Ok(())
+    let mut script = must(
+        &rt,
+        bytes(
+            alloc,
+            b"session 1\nquery CREATE DATABASE d\ninit d\nquery CREATE TABLE t (id BIGINT PRIMARY KEY, v VARCHAR(65535))\n",
+        ),
+    );
+    must(
+        &rt,
+        script.extend_from_slice(b"query INSERT INTO t VALUES (1, '"),
+    );
+    must(&rt, extend_by(&mut script, b'a', 250));
+    must(&rt, script.extend_from_slice(b"'), (2, '"));
+    must(&rt, extend_by(&mut script, b'b', 251));
+    must(&rt, script.extend_from_slice(b"'), (3, '"));
+    must(&rt, extend_by(&mut script, b'c', 65_535));
+    must(
+        &rt,
+        script.extend_from_slice(b"'), (4, ''), (5, NULL)\nquery SELECT v FROM t\n"),
+    );
+    let mut wanted = must(
+        &rt,
+        bytes(
+            alloc,
+            b"\x01\x00\x00\x01\x01\x1b\x00\x00\x02\x03def\x01d\x01t\x01t\x01v\x01v\x0c\x21\x00\xff\xff\x00\x00\xfd\x00\x00\x00\x00\x00\x05\x00\x00\x03\xfe\x00\x00\x02\x00",
+        ),
+    );
+    must(&rt, wanted.extend_from_slice(b"\xfb\x00\x00\x04\xfa"));
+    must(&rt, extend_by(&mut wanted, b'a', 250));
+    must(
+        &rt,
+        wanted.extend_from_slice(b"\xfe\x00\x00\x05\xfc\xfb\x00"),
+    );
+    must(&rt, extend_by(&mut wanted, b'b', 251));
+    must(
+        &rt,
+        wanted.extend_from_slice(b"\x02\x00\x01\x06\xfc\xff\xff"),
+    );
+    must(&rt, extend_by(&mut wanted, b'c', 65_535));
+    must(
+        &rt,
+        wanted.extend_from_slice(b"\x01\x00\x00\x07\x00\x01\x00\x00\x08\xfb"),
+    );
+    must(
+        &rt,
+        wanted.extend_from_slice(b"\x05\x00\x00\x09\xfe\x00\x00\x02\x00"),
+    );
+    let reply = must(&rt, last_reply(&rt, &script));
+    same(&rt, reply.as_slice(), wanted.as_slice());
 }
 
 #[test]
-fn sequence_numbers_go_round(rt: HostRuntime) -> Result<(), Fail> {
+fn sequence_numbers_go_round(rt: HostRuntime) {
     let alloc = rt.alloc();
-    let mut script = bytes(
-        alloc,
-        b"session 1\nquery CREATE DATABASE d\ninit d\nquery CREATE TABLE t (id BIGINT PRIMARY KEY)\nquery INSERT INTO t VALUES ",
-    )?;
-    let mut wanted = bytes(
-        alloc,
-        b"\x01\x00\x00\x01\x01\x1d\x00\x00\x02\x03def\x01d\x01t\x01t\x02id\x02id\x0c\x3f\x00\x14\x00\x00\x00\x08\x03\x00\x00\x00\x00\x05\x00\x00\x03\xfe\x00\x00\x02\x00",
-    )?;
+    let mut script = must(
+        &rt,
+        bytes(
+            alloc,
+            b"session 1\nquery CREATE DATABASE d\ninit d\nquery CREATE TABLE t (id BIGINT PRIMARY KEY)\nquery INSERT INTO t VALUES ",
+        ),
+    );
+    let mut wanted = must(
+        &rt,
+        bytes(
+            alloc,
+            b"\x01\x00\x00\x01\x01\x1d\x00\x00\x02\x03def\x01d\x01t\x01t\x02id\x02id\x0c\x3f\x00\x14\x00\x00\x00\x08\x03\x00\x00\x00\x00\x05\x00\x00\x03\xfe\x00\x00\x02\x00",
+        ),
+    );
     // The first row's packet has the number 4, the 252nd 255 and the 253rd 0.
     let mut sequence = 4u8;
     for number in 0..300u32 {
         let comma = if number > 0 { ", " } else { "" };
-        script.extend_from_slice(format!(in alloc; "{comma}({number})")?.as_bytes())?;
-        let digits = format!(in alloc; "{number}")?;
+        must(
+            &rt,
+            script.extend_from_slice(must(&rt, format!(in alloc; "{comma}({number})")).as_bytes()),
+        );
+        let digits = must(&rt, format!(in alloc; "{number}"));
         let Ok(long) = u8::try_from(digits.len()) else {
-            return Err(Fail::new("too many digits"));
+            panic!(rt; "too many digits");
         };
-        wanted.extend_from_slice(&[long.wrapping_add(1), 0, 0, sequence, long])?;
-        wanted.extend_from_slice(digits.as_bytes())?;
+        must(
+            &rt,
+            wanted.extend_from_slice(&[long.wrapping_add(1), 0, 0, sequence, long]),
+        );
+        must(&rt, wanted.extend_from_slice(digits.as_bytes()));
         sequence = sequence.wrapping_add(1);
     }
-    script.extend_from_slice(b"\nquery SELECT id FROM t\n")?;
-    wanted.extend_from_slice(b"\x05\x00\x00\x30\xfe\x00\x00\x02\x00")?;
-    let reply = last_reply(&rt, &script)?;
-    assert_eq!(rt; reply.as_slice(), wanted.as_slice());
-    Ok(())
+    must(&rt, script.extend_from_slice(b"\nquery SELECT id FROM t\n"));
+    must(
+        &rt,
+        wanted.extend_from_slice(b"\x05\x00\x00\x30\xfe\x00\x00\x02\x00"),
+    );
+    let reply = must(&rt, last_reply(&rt, &script));
+    same(&rt, reply.as_slice(), wanted.as_slice());
 }
 
 /// A script of four queries of many letters, the last one of so many.
@@ -957,63 +1019,68 @@ fn long_script(alloc: Global, last: usize) -> Result<Vec<u8>, AllocError> {
 }
 
 #[test]
-fn the_longest_input(rt: HostRuntime) -> Result<(), Fail> {
-    let script = long_script(rt.alloc(), 16_777_187)?;
-    assert_eq!(rt; script.len(), 67_108_864usize);
-    let all = answers(&rt, &script)?;
-    assert_eq!(rt; all.as_str(), "0 local, 0 local, 0 local, 0 local, ");
-    Ok(())
+fn the_longest_input(rt: HostRuntime) {
+    let script = must(&rt, long_script(rt.alloc(), 16_777_187));
+    same(&rt, script.len(), 67_108_864usize);
+    let all = must(&rt, answers(&rt, &script));
+    same(&rt, all.as_str(), "0 local, 0 local, 0 local, 0 local, ");
 }
 
 #[test]
-fn a_byte_too_many(rt: HostRuntime) -> Result<(), Fail> {
+fn a_byte_too_many(rt: HostRuntime) {
     let alloc = rt.alloc();
-    let script = long_script(alloc, 16_777_188)?;
-    assert_eq!(rt; script.len(), 67_108_865usize);
-    let words = words(alloc, "run --size 0")?;
+    let script = must(&rt, long_script(alloc, 16_777_188));
+    same(&rt, script.len(), 67_108_865usize);
+    let words = must(&rt, words(alloc, "run --size 0"));
     // It isn't read further: of pieces of 16,384 bytes the next one would fail.
-    let mut input = source(alloc, &script, 16_384, &[4_098])?;
-    let ended = qcache_main(&rt, alloc, &words, &mut input, &mut sink(alloc, &[])?);
-    assert_eq!(rt; ended.status, 2u8);
+    let mut input = must(&rt, source(alloc, &script, 16_384, &[4_098]));
+    let ended = qcache_main(
+        &rt,
+        alloc,
+        &words,
+        &mut input,
+        &mut must(&rt, sink(alloc, &[])),
+    );
+    same(&rt, ended.status, 2u8);
     let Some(refusal) = ended.bad else {
-        return Err(Fail::new("no refusal"));
+        panic!(rt; "no refusal");
     };
-    let message = format!(in alloc; "{refusal}")?;
-    assert_eq!(rt; message.as_str(), "script: input too long");
-    Ok(())
+    let message = must(&rt, format!(in alloc; "{refusal}"));
+    same(&rt, message.as_str(), "script: input too long");
 }
 
 #[test]
-fn a_query_that_no_packet_carries(rt: HostRuntime) -> Result<(), Fail> {
+fn a_query_that_no_packet_carries(rt: HostRuntime) {
     let alloc = rt.alloc();
     let rows: [(usize, u8); 2] = [(16_777_213, 0), (16_777_214, 2)];
     for (letters, status) in rows {
-        let mut script = bytes(alloc, b"session 1\nquery ")?;
-        script.resize(script.len().saturating_add(letters), b'a')?;
-        let (ended, _out) = run(&rt, &script)?;
+        let mut script = must(&rt, bytes(alloc, b"session 1\nquery "));
+        must(
+            &rt,
+            script.resize(script.len().saturating_add(letters), b'a'),
+        );
+        let (ended, _out) = must(&rt, run(&rt, &script));
         assert_eq!(rt; ended.status, status, "of {letters} letters");
     }
-    Ok(())
 }
 
 #[test]
-fn many_pings(rt: HostRuntime) -> Result<(), Fail> {
-    let mut script = bytes(rt.alloc(), b"session 1\n")?;
+fn many_pings(rt: HostRuntime) {
+    let mut script = must(&rt, bytes(rt.alloc(), b"session 1\n"));
     for _ in 0..200_000u32 {
-        script.extend_from_slice(b"ping\n")?;
+        must(&rt, script.extend_from_slice(b"ping\n"));
     }
-    let (ended, _out) = run(&rt, &script)?;
-    assert_eq!(rt; ended.status, 0u8);
+    let (ended, _out) = must(&rt, run(&rt, &script));
+    same(&rt, ended.status, 0u8);
     let Some(report) = ended.report else {
-        return Err(Fail::new("no report"));
+        panic!(rt; "no report");
     };
     for session in report.sessions.items() {
         assert_eq!(rt; session.lines.items().len(), 200_000usize);
         assert_eq!(rt; session.ending, Ending::Input);
     }
-    assert_eq!(rt; report.sessions.items().len(), 1usize);
-    assert_eq!(rt; report.journal.items().len(), 0usize);
-    Ok(())
+    same(&rt, report.sessions.items().len(), 1usize);
+    same(&rt, report.journal.items().len(), 0usize);
 }
 
 /// Tables that share many inserts: each of these makes a new version of its table.
@@ -1023,28 +1090,40 @@ const TABLES: [&str; 20] = [
 ];
 
 #[test]
-fn many_inserts(rt: HostRuntime) -> Result<(), Fail> {
+fn many_inserts(rt: HostRuntime) {
     let alloc = rt.alloc();
-    let mut script = bytes(alloc, b"session 1\nquery CREATE DATABASE d\ninit d\n")?;
+    let mut script = must(
+        &rt,
+        bytes(alloc, b"session 1\nquery CREATE DATABASE d\ninit d\n"),
+    );
     for table in TABLES {
-        script.extend_from_slice(format!(in alloc;
-            "query CREATE TABLE {table} (id BIGINT PRIMARY KEY)\n"
-        )?.as_bytes())?;
+        must(
+            &rt,
+            script.extend_from_slice(must(
+                &rt,
+                format!(in alloc; "query CREATE TABLE {table} (id BIGINT PRIMARY KEY)\n"),
+            )
+            .as_bytes()),
+        );
     }
     for number in 0..1_000u32 {
         for table in TABLES {
-            script.extend_from_slice(format!(in alloc;
-                "query INSERT INTO {table} VALUES ({number})\n"
-            )?.as_bytes())?;
+            must(
+                &rt,
+                script.extend_from_slice(must(
+                    &rt,
+                    format!(in alloc; "query INSERT INTO {table} VALUES ({number})\n"),
+                )
+                .as_bytes()),
+            );
         }
     }
-    script.extend_from_slice(b"query SELECT id FROM t\n")?;
-    let (ended, _out) = run(&rt, &script)?;
-    assert_eq!(rt; ended.status, 0u8);
+    must(&rt, script.extend_from_slice(b"query SELECT id FROM t\n"));
+    let (ended, _out) = must(&rt, run(&rt, &script));
+    same(&rt, ended.status, 0u8);
     let Some(report) = ended.report else {
-        return Err(Fail::new("no report"));
+        panic!(rt; "no report");
     };
-    assert_eq!(rt; report.journal.items().len(), 20_023usize);
-    assert_eq!(rt; report.counters.not_cached, 1u64);
-    Ok(())
+    same(&rt, report.journal.items().len(), 20_023usize);
+    same(&rt, report.counters.not_cached, 1u64);
 }

@@ -8,4 +8,3 @@ pub mod Listed
 pub mod Turns
 pub mod FreeNames
 pub mod Stores
-pub mod Checks

@@ -3,4 +3,3 @@ pub mod Chains
 pub mod Ends
 pub mod Pieces
 pub mod Stored
-pub mod Alone

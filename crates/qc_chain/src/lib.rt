@@ -7,8 +7,6 @@ mod names;
 mod plain;
 mod ranges;
 mod tables;
-#[cfg(test)]
-mod tests;
 
 pub use chains::Chains;
 pub use names::{ChainName, Extent, Spot};

@@ -46,6 +46,13 @@ impl Ranges {
         })
     }
 
+    /// How many blocks there is room for in all. Constant time.
+    pub fn room(&self) -> u32
+        ensures { result ≡ self.now.room }
+    {
+        self.room
+    }
+
     /// Takes the blocks out and makes the byte length 0. The room stays.
     pub fn clear(&mut self)
         ensures { self.new ≡ record self.old { blocks = []; bytes = 0 } }

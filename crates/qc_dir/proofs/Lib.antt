@@ -5,7 +5,6 @@ pub mod DirSteps
 pub mod EntryTotals
 pub mod Examples
 pub mod Frees
-pub mod Fresh
 pub mod Insertions
 pub mod KeyCounts
 pub mod Names

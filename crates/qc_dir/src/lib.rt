@@ -8,8 +8,6 @@ mod keys;
 mod plain;
 mod table_slots;
 mod tables;
-#[cfg(test)]
-mod tests;
 mod uses;
 
 pub use candidates::Candidates;

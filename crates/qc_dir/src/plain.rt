@@ -8,7 +8,8 @@ ghost use Rattle.qc_dir.specs.Directory.{IsDirectory, AreApart, entry_at, serial
 ghost use Rattle.qc_dir.specs.Plain.{IsFirstUnder, StandsAt, FreesTables, TakesTable};
 
 use crate::entries::{Entry, Removed};
-use crate::tables::{TableBlock, TableBlocks, has_table, is_same_table};
+use crate::tables::{TableBlock, TableBlocks};
+use qc_sql::names::{has_table, is_same_table};
 use qc_tiles::{Block, Move};
 use qc_types::{NoMemory, TableName};
 use std::alloc::Global;

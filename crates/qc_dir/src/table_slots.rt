@@ -6,9 +6,10 @@ ghost use Rattle.qc_dir.specs.Directory.{block_of};
 ghost use Rattle.qc_dir.specs.Slots.{tables_of, number_of, numbered_at, IsInOrder, NoneUnder, IsNextUnder, is_of, moved_numbered, blocks_at};
 
 use crate::keys::KeySet;
-use crate::tables::{TableBlock, is_same_table};
+use crate::tables::TableBlock;
 use qc_index::Key;
 use qc_key::table_hash;
+use qc_sql::names::is_same_table;
 use qc_tiles::{Block, Move};
 use qc_types::{NoMemory, TableName};
 use std::alloc::Global;

@@ -1,8 +1,6 @@
 //! Tables and their blocks.
 
 ghost use Rattle.std.specs.Prelude.{◌≡◌, ◌<◌, [], ◌∷◌, ◌++◌, length, MatchOption};
-ghost use Rattle.std.specs.List.{list_any};
-ghost use Rattle.qc_sql.specs.Database.{same_table};
 ghost use Rattle.qc_dir.specs.Blocks.{places_of};
 
 use qc_tiles::Block;
@@ -66,8 +64,8 @@ impl TableBlocks {
         self.count += 1;
     }
 
-    /// How many there are.
-    pub(crate) fn len(&self) -> u32
+    /// How many there are. Constant time.
+    pub fn len(&self) -> u32
         ensures { result ≡ length self.now }
     {
         u32::from(self.count)
@@ -83,23 +81,4 @@ impl TableBlocks {
         self.count -= 1;
         self.places[self.count as usize].take()
     }
-}
-
-/// Whether a table is one of these. Linear in their number.
-pub(crate) fn has_table(tables: &[TableName], table: &TableName) -> bool
-    ensures { result ≡ list_any (same_table table.now) tables.now }
-{
-    for other in tables {
-        if is_same_table(table, other) {
-            return true;
-        }
-    }
-    false
-}
-
-/// Whether two names are of one table, byte for byte.
-pub(crate) fn is_same_table(a: &TableName, b: &TableName) -> bool
-    ensures { result ≡ same_table a.now b.now }
-{
-    a.db.bytes() == b.db.bytes() && a.name.bytes() == b.name.bytes()
 }

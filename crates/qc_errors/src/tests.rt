@@ -1,12 +1,26 @@
 //! A few texts by hand.
 
+ghost use Rattle.std.specs.Prelude.{◌≡◌, Ok};
+
 use crate::{
     duplicate_entry, no_database_selected, no_such_table, not_supported, unknown_database,
     wrong_value_count,
 };
 use qc_types::{NoMemory, SqlError, TableName, Text};
 use std::alloc::Global;
-use std::test::Fail;
+use std::fmt::Debug;
+use std::process::Abort;
+
+
+/// The value of an answer that has to be `Ok`.
+fn must<T, E: Debug + Drop>(rt: &impl Abort, answer: Result<T, E>) -> T
+    ensures { answer ≡ Ok result }
+{
+    match answer {
+        Ok(value) => value,
+        Err(error) => panic!(rt; "{error:?}"),
+    }
+}
 
 fn table(alloc: Global, db: &[u8], name: &[u8]) -> Result<TableName, NoMemory> {
     Ok(TableName {
@@ -15,7 +29,7 @@ fn table(alloc: Global, db: &[u8], name: &[u8]) -> Result<TableName, NoMemory> {
     })
 }
 
-fn shown(alloc: Global, error: &SqlError) -> Result<Text, Fail> {
+fn shown(alloc: Global, error: &SqlError) -> Result<Text, NoMemory> {
     let mut text = Text::of(alloc, error.code.to_string(alloc)?.as_bytes())?;
     text.extend(b" ")?;
     text.extend(&error.state)?;
@@ -25,41 +39,43 @@ fn shown(alloc: Global, error: &SqlError) -> Result<Text, Fail> {
 }
 
 #[test]
-fn texts_are_as_clients_read_them(rt: HostRuntime) -> Result<(), Fail> {
+fn texts_are_as_clients_read_them(rt: HostRuntime) {
     let alloc = rt.alloc();
     let long = [b'd'; 70];
     let rows: [(SqlError, &[u8]); 7] = [
         (
-            no_database_selected(alloc)?,
+            must(&rt, no_database_selected(alloc)),
             b"1046 3D000 No database selected",
         ),
         (
-            no_such_table(alloc, &table(alloc, b"shop", b"orders")?)?,
+            must(
+                &rt,
+                no_such_table(alloc, &must(&rt, table(alloc, b"shop", b"orders"))),
+            ),
             b"1146 42S02 No such table: shop.orders",
         ),
         (
-            unknown_database(alloc, &long)?,
+            must(&rt, unknown_database(alloc, &long)),
             b"1049 42000 Unknown database: dddddddddddddddddddddddddddddddddddddddddddddddddddddddddddddddd",
         ),
         (
-            unknown_database(alloc, b"shop")?,
+            must(&rt, unknown_database(alloc, b"shop")),
             b"1049 42000 Unknown database: shop",
         ),
         (
-            duplicate_entry(alloc, i64::MIN)?,
+            must(&rt, duplicate_entry(alloc, i64::MIN)),
             b"1062 23000 Duplicate entry: -9223372036854775808",
         ),
         (
-            wrong_value_count(alloc, 2)?,
+            must(&rt, wrong_value_count(alloc, 2)),
             b"1136 21S01 Wrong number of values in row 2",
         ),
         (
-            not_supported(alloc, b"mixed aggregate")?,
+            must(&rt, not_supported(alloc, b"mixed aggregate")),
             b"1235 42000 Not supported: mixed aggregate",
         ),
     ];
     for (error, want) in &rows {
-        assert_eq!(rt; shown(alloc, error)?.bytes(), *want);
+        assert_eq!(rt; must(&rt, shown(alloc, error)).bytes(), *want);
     }
-    Ok(())
 }

@@ -47,6 +47,13 @@ impl<T: Blank> Index<T> {
         })
     }
 
+    /// How many more members there is room for. Constant time.
+    pub fn room(&self) -> usize
+        ensures { result ≡ self.now.room }
+    {
+        self.spare.len()
+    }
+
     /// Puts a value under a key, in front of the members with the same key.
     pub fn insert(&mut self, key: Key, value: T)
         requires { 0 < self.old.room }

@@ -4,8 +4,6 @@
 mod index;
 mod keys;
 mod plain;
-#[cfg(test)]
-mod tests;
 mod tree;
 
 pub use index::Index;

@@ -61,6 +61,13 @@ impl Journal {
         Ok(())
     }
 
+    /// How many more events there is room for. Constant time.
+    pub fn room(&self) -> usize
+        ensures { result ≡ self.now.spare }
+    {
+        self.events.capacity() - self.events.len()
+    }
+
     /// Adds an event at the end, and answers its number, where there is room for it. It can't fail, and takes no memory. Constant time.
     pub fn push(&mut self, event: Event) -> u64
         requires { 1 ≤ self.old.spare }

@@ -13,4 +13,4 @@ mod touching;
 pub use journal::Journal;
 pub use qc_model::events::{Counters, Event, Events, GoneWhy, How, Reason, Who};
 pub use qc_types::Totals;
-pub use touching::{any_touches, same_table};
+pub use touching::any_touches;

@@ -1,13 +1,29 @@
 //! Journals by their public calls.
 
-ghost use Rattle.std.specs.Prelude.{◌≡◌, ◌≤◌, true, IfOk, OnOk};
+ghost use Rattle.std.specs.Prelude.{◌≡◌, ◌≤◌, true, IfOk, OnOk, Ok};
 ghost use Rattle.qc_model.specs.Cache.{is_start};
 
 use crate::{Counters, Event, GoneWhy, How, Journal, Reason, Totals, Who};
 use qc_sql::tables::{Column, Kind, Ops, RowOp};
 use qc_types::{NoMemory, OwnedList, TableName, Text, Value, Why};
 use std::alloc::Global;
-use std::test::Fail;
+use std::fmt::Debug;
+use std::process::Abort;
+
+/// The value of an answer that has to be `Ok`.
+fn must<T, E: Debug + Drop>(rt: &impl Abort, answer: Result<T, E>) -> T
+    ensures { answer ≡ Ok result }
+{
+    match answer {
+        Ok(value) => value,
+        Err(error) => panic!(rt; "{error:?}"),
+    }
+}
+
+/// Asserts that the two are the same.
+fn same<T: PartialEq + Debug + Drop>(rt: &impl Abort, got: T, wanted: T) {
+    assert_eq!(rt; got, wanted);
+}
 
 // The seventh event of session 3.
 const WHO: Who = Who {
@@ -117,52 +133,49 @@ fn journal_of(alloc: Global, reserved: u8) -> Result<Journal, NoMemory> {
 }
 
 #[test]
-fn the_last_change_is_told_wherever_room_was_made(rt: HostRuntime) -> Result<(), Fail> {
+fn the_last_change_is_told_wherever_room_was_made(rt: HostRuntime) {
     for reserved in 0..=255u8 {
-        let journal = journal_of(rt.alloc(), reserved)?;
+        let journal = must(&rt, journal_of(rt.alloc(), reserved));
         for (db, name, last) in LAST {
-            let table = table(rt.alloc(), db, name)?;
+            let table = must(&rt, table(rt.alloc(), db, name));
             assert_eq!(rt; journal.last_change(&table), last, "{table:?}, {reserved}");
         }
     }
-    Ok(())
 }
 
 #[test]
-fn a_change_is_told_before_and_after_reserve(rt: HostRuntime) -> Result<(), Fail> {
-    let t = table(rt.alloc(), b"d", b"t")?;
+fn a_change_is_told_before_and_after_reserve(rt: HostRuntime) {
+    let t = must(&rt, table(rt.alloc(), b"d", b"t"));
     let mut journal = Journal::new(rt.alloc());
-    assert_eq!(rt; journal.last_change(&t), 0);
-    journal.reserve(2)?;
-    journal.push(commit(rt.alloc(), &[Change::Put(b"d", b"t")])?);
-    assert_eq!(rt; journal.last_change(&t), 1);
-    journal.push(commit(rt.alloc(), &[Change::Del(b"d", b"t")])?);
-    assert_eq!(rt; journal.last_change(&t), 2);
-    journal.reserve(2)?;
-    assert_eq!(rt; journal.last_change(&t), 2);
-    journal.push(commit(rt.alloc(), &[Change::Put(b"d", b"u")])?);
-    assert_eq!(rt; journal.last_change(&t), 2);
-    journal.push(commit(rt.alloc(), &[Change::DropDb(b"d")])?);
-    assert_eq!(rt; journal.last_change(&t), 4);
-    journal.reserve(0)?;
-    assert_eq!(rt; journal.last_change(&t), 4);
-    Ok(())
+    same(&rt, journal.last_change(&t), 0);
+    must(&rt, journal.reserve(2));
+    journal.push(must(&rt, commit(rt.alloc(), &[Change::Put(b"d", b"t")])));
+    same(&rt, journal.last_change(&t), 1);
+    journal.push(must(&rt, commit(rt.alloc(), &[Change::Del(b"d", b"t")])));
+    same(&rt, journal.last_change(&t), 2);
+    must(&rt, journal.reserve(2));
+    same(&rt, journal.last_change(&t), 2);
+    journal.push(must(&rt, commit(rt.alloc(), &[Change::Put(b"d", b"u")])));
+    same(&rt, journal.last_change(&t), 2);
+    journal.push(must(&rt, commit(rt.alloc(), &[Change::DropDb(b"d")])));
+    same(&rt, journal.last_change(&t), 4);
+    must(&rt, journal.reserve(0));
+    same(&rt, journal.last_change(&t), 4);
 }
 
 #[test]
-fn events_are_numbered_from_1(rt: HostRuntime) -> Result<(), Fail> {
+fn events_are_numbered_from_1(rt: HostRuntime) {
     let mut journal = Journal::new(rt.alloc());
-    assert_eq!(rt; journal.len(), 0);
-    assert_eq!(rt; journal.events()?.items().len(), 0);
-    journal.reserve(3)?;
-    assert_eq!(rt; journal.push(Event::Done { serial: 5 }), 1);
-    assert_eq!(rt; journal.push(Event::Flush { who: WHO }), 2);
-    assert_eq!(rt; journal.push(Event::Done { serial: 6 }), 3);
-    assert_eq!(rt; journal.len(), 3);
+    same(&rt, journal.len(), 0);
+    same(&rt, must(&rt, journal.events()).items().len(), 0);
+    must(&rt, journal.reserve(3));
+    same(&rt, journal.push(Event::Done { serial: 5 }), 1);
+    same(&rt, journal.push(Event::Flush { who: WHO }), 2);
+    same(&rt, journal.push(Event::Done { serial: 6 }), 3);
+    same(&rt, journal.len(), 3);
     assert!(rt; matches!(journal.event(1), Event::Done { serial: 5 }));
     assert!(rt; matches!(journal.event(2), Event::Flush { who: WHO }));
     assert!(rt; matches!(journal.event(3), Event::Done { serial: 6 }));
-    Ok(())
 }
 
 fn run(journal: &mut Journal, how: How) -> Result<(), NoMemory> {
@@ -282,10 +295,11 @@ fn prune(serial: u64) -> Event {
 }
 
 #[test]
-fn counters_of_each_kind_of_event(rt: HostRuntime) -> Result<(), Fail> {
+fn counters_of_each_kind_of_event(rt: HostRuntime) {
     let mut journal = Journal::new(rt.alloc());
-    let first = counters_of_one_entry(rt.alloc(), &mut journal)?;
-    assert_eq!(rt;
+    let first = must(&rt, counters_of_one_entry(rt.alloc(), &mut journal));
+    same(
+        &rt,
         first,
         Counters {
             com_select: 1,
@@ -294,13 +308,14 @@ fn counters_of_each_kind_of_event(rt: HostRuntime) -> Result<(), Fail> {
             not_cached: 0,
             lowmem_prunes: 0,
             queries_in_cache: 1,
-        }
+        },
     );
-    add_runs(rt.alloc(), &mut journal)?;
-    add_reasons(rt.alloc(), &mut journal)?;
-    add_others(rt.alloc(), &mut journal)?;
-    let second = counters_of_one_entry(rt.alloc(), &mut journal)?;
-    assert_eq!(rt;
+    must(&rt, add_runs(rt.alloc(), &mut journal));
+    must(&rt, add_reasons(rt.alloc(), &mut journal));
+    must(&rt, add_others(rt.alloc(), &mut journal));
+    let second = must(&rt, counters_of_one_entry(rt.alloc(), &mut journal));
+    same(
+        &rt,
         second,
         Counters {
             com_select: 11,
@@ -309,9 +324,8 @@ fn counters_of_each_kind_of_event(rt: HostRuntime) -> Result<(), Fail> {
             not_cached: 7,
             lowmem_prunes: 2,
             queries_in_cache: 1,
-        }
+        },
     );
-    Ok(())
 }
 
 /// A number and a text of a reason.
@@ -397,18 +411,17 @@ fn put_names(event: &Event, out: &mut Text) -> Result<(), NoMemory> {
 }
 
 #[test]
-fn the_events_are_copied_in_their_order(rt: HostRuntime) -> Result<(), Fail> {
+fn the_events_are_copied_in_their_order(rt: HostRuntime) {
     let mut journal = Journal::new(rt.alloc());
-    add_runs(rt.alloc(), &mut journal)?;
-    add_reasons(rt.alloc(), &mut journal)?;
-    add_others(rt.alloc(), &mut journal)?;
-    let events = journal.events()?;
-    let mut text = Text::of(rt.alloc(), b"")?;
+    must(&rt, add_runs(rt.alloc(), &mut journal));
+    must(&rt, add_reasons(rt.alloc(), &mut journal));
+    must(&rt, add_others(rt.alloc(), &mut journal));
+    let events = must(&rt, journal.events());
+    let mut text = must(&rt, Text::of(rt.alloc(), b""));
     for event in events.items() {
-        put_event(rt.alloc(), event, &mut text)?;
+        must(&rt, put_event(rt.alloc(), event, &mut text));
     }
     let want =
         b"1 key, 1 hit, 2 hit, 3 hit, 0 other, 3 status, 5 t, 1064 error, 0 off, 0 not asked, 0 NOW, 0 w, 1 v, 8 rival, 3 room, 1 done, 2 gone, 3 prune, 4 prune, 6 commit:pqrsfg, 7 flush, 7 reset, ";
-    assert_eq!(rt; text.bytes(), want.as_slice());
-    Ok(())
+    same(&rt, text.bytes(), want.as_slice());
 }

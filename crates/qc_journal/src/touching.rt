@@ -6,25 +6,19 @@ ghost use Rattle.qc_sql.specs.Database as database;
 ghost use Rattle.qc_model.specs.Journal as journal;
 
 use qc_model::events::Event;
+use qc_sql::names::is_same_table;
 use qc_sql::tables::RowOp;
 use qc_types::TableName;
-
-/// Whether two names are of one table.
-pub fn same_table(table: &TableName, other: &TableName) -> bool
-    ensures { result ≡ database.same_table table.now other.now }
-{
-    table.db.bytes() == other.db.bytes() && table.name.bytes() == other.name.bytes()
-}
 
 /// Whether an operation touches a table: it puts into it, deletes from it, creates or drops it, or drops its database.
 fn touches(table: &TableName, op: &RowOp) -> bool
     ensures { result ≡ database.touches table.now op.now }
 {
     match op {
-        RowOp::Put(other, _) => same_table(table, other),
-        RowOp::Del(other, _) => same_table(table, other),
-        RowOp::CreateTable(other, _) => same_table(table, other),
-        RowOp::DropTable(other) => same_table(table, other),
+        RowOp::Put(other, _) => is_same_table(table, other),
+        RowOp::Del(other, _) => is_same_table(table, other),
+        RowOp::CreateTable(other, _) => is_same_table(table, other),
+        RowOp::DropTable(other) => is_same_table(table, other),
         RowOp::CreateDb(_) => false,
         RowOp::DropDb(name) => table.db.bytes() == name.bytes(),
     }

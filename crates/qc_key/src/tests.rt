@@ -1,10 +1,27 @@
 //! Keys that were worked out by hand, and hashes that FNV's authors published.
 
+ghost use Rattle.std.specs.Prelude.{◌≡◌, Ok};
+
 use crate::{Flags, KeyParts, can_be_keyed, hash, key_bytes, read_key, table_hash};
 use qc_types::{NoMemory, TableName, Text};
 use std::alloc::Global;
+use std::fmt::Debug;
 use std::process::Abort;
-use std::test::Fail;
+
+/// The value of an answer that has to be `Ok`.
+fn must<T, E: Debug + Drop>(rt: &impl Abort, answer: Result<T, E>) -> T
+    ensures { answer ≡ Ok result }
+{
+    match answer {
+        Ok(value) => value,
+        Err(error) => panic!(rt; "{error:?}"),
+    }
+}
+
+/// Asserts that the two are the same.
+fn same<T: PartialEq + Debug + Drop>(rt: &impl Abort, got: T, wanted: T) {
+    assert_eq!(rt; got, wanted);
+}
 
 /// SELECT id FROM t in the database d, under the flags of `plain`.
 const SELECT_KEY: &[u8] =
@@ -28,15 +45,9 @@ fn plain() -> Flags {
     }
 }
 
-fn key(
-    rt: &impl Abort,
-    alloc: Global,
-    flags: &Flags,
-    db: &[u8],
-    text: &[u8],
-) -> Result<Text, NoMemory> {
+fn key(rt: &impl Abort, alloc: Global, flags: &Flags, db: &[u8], text: &[u8]) -> Text {
     assert!(rt; can_be_keyed(flags, db));
-    key_bytes(alloc, flags, db, text)
+    must(rt, key_bytes(alloc, flags, db, text))
 }
 
 fn table(alloc: Global, db: &[u8], name: &[u8]) -> Result<TableName, NoMemory> {
@@ -47,21 +58,20 @@ fn table(alloc: Global, db: &[u8], name: &[u8]) -> Result<TableName, NoMemory> {
 }
 
 #[test]
-fn key_of_a_select(rt: HostRuntime) -> Result<(), Fail> {
+fn key_of_a_select(rt: HostRuntime) {
     let flags = plain();
-    let written = key(&rt, rt.alloc(), &flags, b"d", b"SELECT id FROM t")?;
-    assert_eq!(rt; written.bytes(), SELECT_KEY);
+    let written = key(&rt, rt.alloc(), &flags, b"d", b"SELECT id FROM t");
+    same(&rt, written.bytes(), SELECT_KEY);
     let read = KeyParts {
         flags,
         db: b"d",
         text: b"SELECT id FROM t",
     };
-    assert_eq!(rt; read_key(SELECT_KEY), Some(read));
-    Ok(())
+    same(&rt, read_key(SELECT_KEY), Some(read));
 }
 
 #[test]
-fn each_flag_has_its_bytes(rt: HostRuntime) -> Result<(), Fail> {
+fn each_flag_has_its_bytes(rt: HostRuntime) {
     let rows: [(Flags, &[u8]); 8] = [
         (
             plain(),
@@ -118,7 +128,7 @@ fn each_flag_has_its_bytes(rt: HostRuntime) -> Result<(), Fail> {
         ),
     ];
     for (flags, bytes) in rows {
-        let written = key(&rt, rt.alloc(), &flags, b"", b"")?;
+        let written = key(&rt, rt.alloc(), &flags, b"", b"");
         assert_eq!(rt; written.bytes(), bytes);
         let read = KeyParts {
             flags,
@@ -127,11 +137,10 @@ fn each_flag_has_its_bytes(rt: HostRuntime) -> Result<(), Fail> {
         };
         assert_eq!(rt; read_key(bytes), Some(read));
     }
-    Ok(())
 }
 
 #[test]
-fn names_and_texts_are_read_back(rt: HostRuntime) -> Result<(), Fail> {
+fn names_and_texts_are_read_back(rt: HostRuntime) {
     let rows: [(&[u8], &[u8], usize); 6] = [
         (b"", b"", 16),
         (b"", b"SELECT 1", 24),
@@ -141,7 +150,7 @@ fn names_and_texts_are_read_back(rt: HostRuntime) -> Result<(), Fail> {
         (NAME_64, b"SELECT 1", 88),
     ];
     for (db, text, length) in rows {
-        let written = key(&rt, rt.alloc(), &plain(), db, text)?;
+        let written = key(&rt, rt.alloc(), &plain(), db, text);
         assert_eq!(rt; written.bytes().len(), length);
         let read = KeyParts {
             flags: plain(),
@@ -150,11 +159,10 @@ fn names_and_texts_are_read_back(rt: HostRuntime) -> Result<(), Fail> {
         };
         assert_eq!(rt; read_key(written.bytes()), Some(read));
     }
-    Ok(())
 }
 
 #[test]
-fn what_is_no_key_is_refused(rt: HostRuntime) -> Result<(), Fail> {
+fn what_is_no_key_is_refused(rt: HostRuntime) {
     let rows: [&[u8]; 13] = [
         b"\x01d\x02\x01\x21\0\0\xff\xff\xff\xff\xff\xff\xff\xff\0\0SELECT 1",
         b"\x01d\0\x02\x21\0\0\xff\xff\xff\xff\xff\xff\xff\xff\0\0SELECT 1",
@@ -177,11 +185,10 @@ fn what_is_no_key_is_refused(rt: HostRuntime) -> Result<(), Fail> {
         assert_eq!(rt; read_key(&SELECT_KEY[..length]), None);
     }
     assert!(rt; read_key(&SELECT_KEY[..17]).is_some());
-    Ok(())
 }
 
 #[test]
-fn what_can_be_keyed(rt: HostRuntime) -> Result<(), Fail> {
+fn what_can_be_keyed(rt: HostRuntime) {
     assert!(rt; can_be_keyed(&plain(), NAME_64));
     assert!(rt; !can_be_keyed(&plain(), NAME_65));
     let rows: [(Flags, bool); 6] = [
@@ -231,11 +238,10 @@ fn what_can_be_keyed(rt: HostRuntime) -> Result<(), Fail> {
     for (flags, can) in rows {
         assert_eq!(rt; can_be_keyed(&flags, b"d"), can);
     }
-    Ok(())
 }
 
 #[test]
-fn published_hashes(rt: HostRuntime) -> Result<(), Fail> {
+fn published_hashes(rt: HostRuntime) {
     let rows: [(&[u8], u64); 7] = [
         (b"", 0xcbf29ce484222325),
         (b"a", 0xaf63dc4c8601ec8c),
@@ -248,15 +254,13 @@ fn published_hashes(rt: HostRuntime) -> Result<(), Fail> {
     for (bytes, expected) in rows {
         assert_eq!(rt; hash(bytes), expected);
     }
-    Ok(())
 }
 
 #[test]
-fn tables_whose_names_join_to_one_text(rt: HostRuntime) -> Result<(), Fail> {
-    let first = table(rt.alloc(), b"foo", b"bar")?;
-    let second = table(rt.alloc(), b"foob", b"ar")?;
-    assert_eq!(rt; table_hash(&first), 0x8a5f40d8243888aa);
-    assert_eq!(rt; table_hash(&second), 0x25e6cfa67cd619b2);
-    assert_eq!(rt; hash(b"foo\0bar"), 0x8a5f40d8243888aa);
-    Ok(())
+fn tables_whose_names_join_to_one_text(rt: HostRuntime) {
+    let first = must(&rt, table(rt.alloc(), b"foo", b"bar"));
+    let second = must(&rt, table(rt.alloc(), b"foob", b"ar"));
+    same(&rt, table_hash(&first), 0x8a5f40d8243888aa);
+    same(&rt, table_hash(&second), 0x25e6cfa67cd619b2);
+    same(&rt, hash(b"foo\0bar"), 0x8a5f40d8243888aa);
 }

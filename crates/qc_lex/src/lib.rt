@@ -11,8 +11,6 @@ mod lexer;
 mod number;
 mod place;
 mod quoted;
-#[cfg(test)]
-mod tests;
 mod token;
 mod trim;
 mod word;

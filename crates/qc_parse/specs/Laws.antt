@@ -75,7 +75,7 @@ abbrev pub SameFirst : Bool → List ℕ → List ℕ → ℕ → Type 0
 SameFirst ansi a b n =
     (n ≤ length (lexed a ansi).0) × (n ≤ length (lexed b ansi).0) × (take n (lexemes (lexed a ansi).0) ≡ take n (lexemes (lexed b ansi).0))
 
--- Where a text is refused at a place, some token stands there, or the text or its tokens end there. Whatever has the same tokens up to that one and one more is refused there.
+-- Where a text is refused at a place, some token stands there, or the text or its tokens end there. Where one more stands behind that token, whatever has the same tokens up to these two is refused there.
 abbrev pub FirstTokensRefuse : Type 0
 FirstTokensRefuse =
     (ansi : Bool) (a : List ℕ) (at : ℕ) → meaning a ansi ≡ Err (Syntax at)

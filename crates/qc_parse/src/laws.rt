@@ -16,9 +16,9 @@ pub fn gaps_do_not_matter()
     ensures alike { GapsDoNotMatter }
 {}
 
-/// A law, with no code: where a text is refused at a place, some token stands there, or the text or its tokens end there; and nothing matters that
-/// stands behind that token, but for one more. So each text with the same tokens up to that one and the one behind it is refused there too,
-/// whatever follows.
+/// A law, with no code: where a text is refused at a place, some token stands there, or the text or its tokens end there. Where a token stands there
+/// and one more behind it, each text with the same tokens up to these two is refused there too, whatever follows. It says nothing of what would
+/// stand behind a text that is refused at its last token or at its end.
 pub fn first_tokens_refuse()
     ensures refuse { FirstTokensRefuse }
 {}

@@ -14,8 +14,6 @@ mod names;
 mod refusal;
 mod select;
 mod settings;
-#[cfg(test)]
-mod tests;
 mod values;
 mod whole;
 mod words;

@@ -3,7 +3,6 @@
 ghost use Rattle.std.specs.Prelude.{◌≡◌, ◌*◌, ◌^◌, ◌+◌, min, [], map, bytes_eq, option_copied, IfOk};
 ghost use Rattle.std.specs.List.{AllByRecursion, list_any};
 ghost use Rattle.qc_types.specs.Answers.{Gives};
-ghost use Rattle.qc_sql.specs.Rules as rules;
 ghost use Rattle.qc_sql.specs.Rows as meant;
 ghost use Rattle.qc_sql.specs.Rows.{each};
 ghost use Rattle.qc_resolve.specs.Judged.{bounds_judged};
@@ -13,9 +12,10 @@ use crate::scope::{Bound, Bounds};
 use qc_errors::{
     name_not_unique, no_database_selected, no_such_table, too_many_combinations, unknown_database,
 };
-use qc_sql::statements::{Source, TableRef};
+use qc_sql::names::full_name;
+use qc_sql::statements::Source;
 use qc_table::Database;
-use qc_types::{NoMemory, Or, SqlError, TableName, Text};
+use qc_types::{NoMemory, Or, SqlError, Text};
 use std::alloc::Global;
 
 /// The most row combinations of a SELECT.
@@ -61,20 +61,6 @@ fn bind(
         called: source.name.copy(alloc)?,
         version: version.share()?,
         name,
-    })
-}
-
-/// The whole name of a table, of the current database where none is written.
-pub fn full_name(alloc: Global, db: &[u8], table: &TableRef) -> Result<TableName, NoMemory>
-    ensures { IfOk result (λ t. t ≡ rules.full_name db.now table.now) }
-{
-    let db = match &table.db {
-        Some(db) => db.copy(alloc)?,
-        None => Text::of(alloc, db)?,
-    };
-    Ok(TableName {
-        db,
-        name: table.name.copy(alloc)?,
     })
 }
 

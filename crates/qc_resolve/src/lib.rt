@@ -16,7 +16,6 @@ mod select;
 mod test;
 mod values;
 
-pub use bind::full_name;
 pub use formula::{Formula, Formulas, Place};
 pub use matching::resolve_condition;
 pub use resolved::{Fold, Folds, OrderKey, OrderKeys, Output, Resolved, Versions};

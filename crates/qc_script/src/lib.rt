@@ -4,8 +4,6 @@
 mod lines;
 mod reports;
 mod script;
-#[cfg(test)]
-mod tests;
 
 pub use reports::report_text;
 pub use script::read_script;

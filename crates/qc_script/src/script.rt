@@ -1,7 +1,8 @@
 //! Scripts, from their bytes.
 
-ghost use Rattle.std.specs.Prelude.{◌≡◌, Some, IfOk, IsTrue};
+ghost use Rattle.std.specs.Prelude.{◌≡◌, ◌≤◌, length, Some, Err, IfOk, IsTrue};
 ghost use Rattle.qc_types.specs.Answers.{Gives};
+ghost use Rattle.qc_types.specs.declared.memory.Or.TheVariants as or;
 ghost use Rattle.qc_model.specs.ScriptLines.{Sends, line_of, after_line, script_of};
 ghost use Rattle.qc_wire.specs.Commands.{can_be_read};
 ghost use Rattle.qc_script.specs.Sessions.{so_far};
@@ -21,10 +22,11 @@ const MOST_SCRIPT: usize = 67_108_864;
 ///
 /// It is refused with `InputTooLong` past 67,108,864 bytes, and else at the first line that is wrong: with `NoSession` where a command or
 /// bytes stand before every session, and with `BadLine` where the line is no line of a script, opens a session that isn't the next one, or
-/// has a command that fits no packet. The cost is linear in the bytes.
+/// has a command that fits no packet. Of what is too long no memory is asked for. The cost is linear in the bytes.
 #[tactic(auto, unfolding(qc_model::specs::ScriptLines::script_of))]
 pub fn read_script(alloc: Global, bytes: &[u8]) -> Result<Script, Or<ScriptRefusal>>
-    ensures { Gives (λ s. s) (λ r. r) result (script_of bytes.now) }
+    ensures script { Gives (λ s. s) (λ r. r) result (script_of bytes.now) }
+    ensures memory { result ≡ Err or.Memory → length bytes.now ≤ 67108864 }
 {
     if bytes.len() > MOST_SCRIPT {
         return Err(Or::Other(ScriptRefusal::InputTooLong));

@@ -5,6 +5,7 @@ mod fits;
 mod large;
 mod show;
 mod table;
+mod told;
 mod versions;
 
 use database::{large, shop, small, three_rows};
@@ -13,7 +14,8 @@ use qc_table::Database;
 use qc_types::NoMemory;
 use show::{Session, columns_given, rows_given};
 use std::alloc::Global;
-use std::test::Fail;
+use std::process::Abort;
+use told::must;
 
 /// No transaction, and all else as at the start of a session.
 const FLAGS: Flags = Flags {
@@ -142,27 +144,32 @@ fn counted(part: &str) -> (usize, &str) {
 }
 
 /// What the report says of a table of texts over the small tables.
-fn differences(alloc: Global, session: Session<'_>, table: &str) -> Result<String, Fail> {
-    let database = small(alloc)?;
+fn differences(rt: &impl Abort, alloc: Global, session: Session<'_>, table: &str) -> String {
+    let database = small(rt, alloc);
     let mut report = Report::new(alloc, &database, session, Shown::Rows);
-    report.compare_all(table)?;
-    Ok(report.lines)
+    must(rt, report.compare_all(table));
+    report.lines
 }
 
 /// The same for what their columns are.
-fn column_differences(alloc: Global, session: Session<'_>, table: &str) -> Result<String, Fail> {
-    let database = small(alloc)?;
+fn column_differences(rt: &impl Abort, alloc: Global, session: Session<'_>, table: &str) -> String {
+    let database = small(rt, alloc);
     let mut report = Report::new(alloc, &database, session, Shown::Columns);
-    report.compare_all(table)?;
-    Ok(report.lines)
+    must(rt, report.compare_all(table));
+    report.lines
 }
 
 /// What the report says of a table of large texts.
-fn large_differences(alloc: Global, shown: Shown, table: &str) -> Result<String, Fail> {
-    let database = large(alloc)?;
+fn large_differences(rt: &impl Abort, alloc: Global, shown: Shown, table: &str) -> String {
+    let database = large(rt, alloc);
     let mut report = Report::new(alloc, &database, PLAIN, shown);
-    report.compare_large(table)?;
-    Ok(report.lines)
+    must(rt, report.compare_large(table));
+    report.lines
+}
+
+/// Asserts that a report has no lines.
+fn is_empty(rt: &impl Abort, report: &str) {
+    assert!(rt; report.is_empty(), "{report}");
 }
 
 /// A session that is like most but for its flags.
@@ -176,186 +183,173 @@ fn with_database(db: &str) -> Session<'_> {
 }
 
 #[test]
-fn literals(rt: HostRuntime) -> Result<(), Fail> {
-    let report = differences(rt.alloc(), PLAIN, table::LITERALS)?;
-    assert!(rt; report.is_empty(), "{report}");
-    Ok(())
+fn literals(rt: HostRuntime) {
+    is_empty(&rt, &differences(&rt, rt.alloc(), PLAIN, table::LITERALS));
 }
 
 #[test]
-fn calls(rt: HostRuntime) -> Result<(), Fail> {
-    let report = differences(rt.alloc(), PLAIN, table::CALLS)?;
-    assert!(rt; report.is_empty(), "{report}");
-    Ok(())
+fn calls(rt: HostRuntime) {
+    is_empty(&rt, &differences(&rt, rt.alloc(), PLAIN, table::CALLS));
 }
 
 #[test]
-fn sources(rt: HostRuntime) -> Result<(), Fail> {
-    let report = differences(rt.alloc(), PLAIN, table::SOURCES)?;
-    assert!(rt; report.is_empty(), "{report}");
-    Ok(())
+fn sources(rt: HostRuntime) {
+    is_empty(&rt, &differences(&rt, rt.alloc(), PLAIN, table::SOURCES));
 }
 
 #[test]
-fn comparisons(rt: HostRuntime) -> Result<(), Fail> {
-    let report = differences(rt.alloc(), PLAIN, table::COMPARISONS)?;
-    assert!(rt; report.is_empty(), "{report}");
-    Ok(())
+fn comparisons(rt: HostRuntime) {
+    is_empty(
+        &rt,
+        &differences(&rt, rt.alloc(), PLAIN, table::COMPARISONS),
+    );
 }
 
 #[test]
-fn ranges(rt: HostRuntime) -> Result<(), Fail> {
-    let report = differences(rt.alloc(), PLAIN, table::RANGES)?;
-    assert!(rt; report.is_empty(), "{report}");
-    Ok(())
+fn ranges(rt: HostRuntime) {
+    is_empty(&rt, &differences(&rt, rt.alloc(), PLAIN, table::RANGES));
 }
 
 #[test]
-fn truth(rt: HostRuntime) -> Result<(), Fail> {
-    let report = differences(rt.alloc(), PLAIN, table::TRUTH)?;
-    assert!(rt; report.is_empty(), "{report}");
-    Ok(())
+fn truth(rt: HostRuntime) {
+    is_empty(&rt, &differences(&rt, rt.alloc(), PLAIN, table::TRUTH));
 }
 
 #[test]
-fn aggregates(rt: HostRuntime) -> Result<(), Fail> {
-    let report = differences(rt.alloc(), PLAIN, table::AGGREGATES)?;
-    assert!(rt; report.is_empty(), "{report}");
-    Ok(())
+fn aggregates(rt: HostRuntime) {
+    is_empty(&rt, &differences(&rt, rt.alloc(), PLAIN, table::AGGREGATES));
 }
 
 #[test]
-fn orders(rt: HostRuntime) -> Result<(), Fail> {
-    let report = differences(rt.alloc(), PLAIN, table::ORDERS)?;
-    assert!(rt; report.is_empty(), "{report}");
-    Ok(())
+fn orders(rt: HostRuntime) {
+    is_empty(&rt, &differences(&rt, rt.alloc(), PLAIN, table::ORDERS));
 }
 
 #[test]
-fn limits(rt: HostRuntime) -> Result<(), Fail> {
-    let report = differences(rt.alloc(), PLAIN, table::LIMITS)?;
-    assert!(rt; report.is_empty(), "{report}");
-    Ok(())
+fn limits(rt: HostRuntime) {
+    is_empty(&rt, &differences(&rt, rt.alloc(), PLAIN, table::LIMITS));
 }
 
 #[test]
-fn refusals(rt: HostRuntime) -> Result<(), Fail> {
-    let report = differences(rt.alloc(), PLAIN, table::REFUSALS)?;
-    assert!(rt; report.is_empty(), "{report}");
-    Ok(())
+fn refusals(rt: HostRuntime) {
+    is_empty(&rt, &differences(&rt, rt.alloc(), PLAIN, table::REFUSALS));
 }
 
 #[test]
-fn in_a_transaction(rt: HostRuntime) -> Result<(), Fail> {
+fn in_a_transaction(rt: HostRuntime) {
     let session = with_flags(Flags {
         in_trans: true,
         ..FLAGS
     });
-    let report = differences(rt.alloc(), session, table::IN_TRANSACTION)?;
-    assert!(rt; report.is_empty(), "{report}");
-    Ok(())
+    is_empty(
+        &rt,
+        &differences(&rt, rt.alloc(), session, table::IN_TRANSACTION),
+    );
 }
 
 #[test]
-fn without_a_database(rt: HostRuntime) -> Result<(), Fail> {
-    let report = differences(rt.alloc(), with_database(""), table::NO_DATABASE)?;
-    assert!(rt; report.is_empty(), "{report}");
-    Ok(())
+fn without_a_database(rt: HostRuntime) {
+    is_empty(
+        &rt,
+        &differences(&rt, rt.alloc(), with_database(""), table::NO_DATABASE),
+    );
 }
 
 #[test]
-fn with_a_lost_database(rt: HostRuntime) -> Result<(), Fail> {
-    let report = differences(rt.alloc(), with_database("gone"), table::LOST_DATABASE)?;
-    assert!(rt; report.is_empty(), "{report}");
-    Ok(())
+fn with_a_lost_database(rt: HostRuntime) {
+    is_empty(
+        &rt,
+        &differences(&rt, rt.alloc(), with_database("gone"), table::LOST_DATABASE),
+    );
 }
 
 #[test]
-fn with_a_row_limit(rt: HostRuntime) -> Result<(), Fail> {
+fn with_a_row_limit(rt: HostRuntime) {
     let alloc = rt.alloc();
     for (row_limit, table) in [(2, table::ROW_LIMIT_2), (0, table::ROW_LIMIT_0)] {
         let session = with_flags(Flags { row_limit, ..FLAGS });
-        let report = differences(alloc, session, table)?;
-        assert!(rt; report.is_empty(), "{report}");
+        is_empty(&rt, &differences(&rt, alloc, session, table));
     }
-    Ok(())
 }
 
 #[test]
-fn names_in_double_quotes(rt: HostRuntime) -> Result<(), Fail> {
+fn names_in_double_quotes(rt: HostRuntime) {
     let session = with_flags(Flags {
         ansi: true,
         ..FLAGS
     });
-    let report = differences(rt.alloc(), session, table::DOUBLE_QUOTED)?;
-    assert!(rt; report.is_empty(), "{report}");
-    Ok(())
+    is_empty(
+        &rt,
+        &differences(&rt, rt.alloc(), session, table::DOUBLE_QUOTED),
+    );
 }
 
 #[test]
-fn columns(rt: HostRuntime) -> Result<(), Fail> {
-    let report = column_differences(rt.alloc(), PLAIN, table::COLUMNS)?;
-    assert!(rt; report.is_empty(), "{report}");
-    Ok(())
+fn columns(rt: HostRuntime) {
+    is_empty(
+        &rt,
+        &column_differences(&rt, rt.alloc(), PLAIN, table::COLUMNS),
+    );
 }
 
 #[test]
-fn columns_of_another_character_set(rt: HostRuntime) -> Result<(), Fail> {
+fn columns_of_another_character_set(rt: HostRuntime) {
     let session = with_flags(Flags {
         charset: 45,
         ..FLAGS
     });
-    let report = column_differences(rt.alloc(), session, table::COLUMNS_45)?;
-    assert!(rt; report.is_empty(), "{report}");
-    Ok(())
+    is_empty(
+        &rt,
+        &column_differences(&rt, rt.alloc(), session, table::COLUMNS_45),
+    );
 }
 
 #[test]
-fn a_table_of_three_rows(rt: HostRuntime) -> Result<(), Fail> {
+fn a_table_of_three_rows(rt: HostRuntime) {
     let alloc = rt.alloc();
-    let database = three_rows(alloc)?;
+    let database = three_rows(&rt, alloc);
     let mut report = Report::new(alloc, &database, PLAIN, Shown::Rows);
-    report.compare_all(table::THREE_ROWS)?;
-    let lines = report.lines;
-    assert!(rt; lines.is_empty(), "{lines}");
-    Ok(())
+    must(&rt, report.compare_all(table::THREE_ROWS));
+    is_empty(&rt, &report.lines);
 }
 
 #[test]
-fn the_tables_of_a_shop(rt: HostRuntime) -> Result<(), Fail> {
+fn the_tables_of_a_shop(rt: HostRuntime) {
     let alloc = rt.alloc();
-    let database = shop(alloc)?;
+    let database = shop(&rt, alloc);
     let mut report = Report::new(alloc, &database, PLAIN, Shown::Rows);
-    report.compare_all(table::SHOP)?;
-    let lines = report.lines;
-    assert!(rt; lines.is_empty(), "{lines}");
-    Ok(())
+    must(&rt, report.compare_all(table::SHOP));
+    is_empty(&rt, &report.lines);
 }
 
 #[test]
-fn few_combinations_are_walked(rt: HostRuntime) -> Result<(), Fail> {
-    let report = large_differences(rt.alloc(), Shown::Rows, large::FEW_WALKED)?;
-    assert!(rt; report.is_empty(), "{report}");
-    Ok(())
+fn few_combinations_are_walked(rt: HostRuntime) {
+    is_empty(
+        &rt,
+        &large_differences(&rt, rt.alloc(), Shown::Rows, large::FEW_WALKED),
+    );
 }
 
 #[test]
-fn many_combinations(rt: HostRuntime) -> Result<(), Fail> {
-    let report = large_differences(rt.alloc(), Shown::Columns, large::COMBINATIONS)?;
-    assert!(rt; report.is_empty(), "{report}");
-    Ok(())
+fn many_combinations(rt: HostRuntime) {
+    is_empty(
+        &rt,
+        &large_differences(&rt, rt.alloc(), Shown::Columns, large::COMBINATIONS),
+    );
 }
 
 #[test]
-fn many_columns(rt: HostRuntime) -> Result<(), Fail> {
-    let report = large_differences(rt.alloc(), Shown::Rows, large::COLUMNS)?;
-    assert!(rt; report.is_empty(), "{report}");
-    Ok(())
+fn many_columns(rt: HostRuntime) {
+    is_empty(
+        &rt,
+        &large_differences(&rt, rt.alloc(), Shown::Rows, large::COLUMNS),
+    );
 }
 
 #[test]
-fn long_texts(rt: HostRuntime) -> Result<(), Fail> {
-    let report = large_differences(rt.alloc(), Shown::Rows, large::TEXTS)?;
-    assert!(rt; report.is_empty(), "{report}");
-    Ok(())
+fn long_texts(rt: HostRuntime) {
+    is_empty(
+        &rt,
+        &large_differences(&rt, rt.alloc(), Shown::Rows, large::TEXTS),
+    );
 }

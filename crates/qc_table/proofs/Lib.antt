@@ -2,6 +2,7 @@ pub mod BitSteps
 pub mod Cutting
 pub mod Drafts
 pub mod Fits
+pub mod Found
 pub mod IntSteps
 pub mod Maps
 pub mod Merges

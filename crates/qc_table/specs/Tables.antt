@@ -6,8 +6,9 @@ use Rattle.std.specs.Map.{keys_of}
 use Rattle.std.specs.Ordering.{int_cmp}
 use Rattle.qc_types.specs.declared.names.Value.{Value}
 use Rattle.qc_sql.specs.declared.tables.Column.{Column}
-use Rattle.qc_sql.specs.Database.{MapOf, Table, key_of}
-use Rattle.qc_model.specs.Licence.{columns_fit, row_fits, most_rows}
+use Rattle.qc_sql.specs.Database.{Database, MapOf, Table, key_of}
+use Rattle.qc_sql.specs.Order.{RowsRise, IsOrdered}
+use Rattle.qc_model.specs.Licence.{columns_fit, row_fits, is_within_rows, most_rows}
 use Rattle.qc_table.specs.Changes.{merged}
 
 -- a row fits the columns, and stands under its key
@@ -22,7 +23,7 @@ pub record IsSound (t : Table) : Type 0 where
 -- so many rows may be stored, by rising key
 pub record IsStored (t : Table) : Type 0 where
   pub sound : IsSound t
-  pub ordered : IsStrictlySortedBy int_cmp (keys_of t.rows)
+  pub ordered : RowsRise t
   pub within : length t.rows ≤ most_rows
 
 -- rows to be put or, where there is none, taken out, by key
@@ -46,3 +47,8 @@ pub record IsDraft (t : Table) (cs : Changes) : Type 0 where
 -- the table with the changes
 abbrev pub with_changes : Table → Changes → Table
 with_changes t changes = record { columns = t.columns; rows = merged t.rows changes }
+
+-- a database as it is held: in order, and no table has too many rows
+pub record IsHeld (d : Database) : Type 0 where
+  pub ordered : IsOrdered d
+  pub within : is_within_rows d ≡ true

@@ -3,6 +3,7 @@
 ghost use Rattle.std.specs.Prelude.{◌≡◌, true, is_some, option_copied, IfOk};
 ghost use Rattle.qc_types.specs.Answers.{Gives};
 ghost use Rattle.qc_sql.specs.Database.{apply, empty_database, table_of, tables_of};
+ghost use Rattle.qc_sql.specs.Order.{IsOrdered};
 ghost use Rattle.qc_model.specs.Licence.{is_within_rows, ops_fit};
 ghost use Rattle.qc_table.specs.Fitting.{fitting};
 ghost use Rattle.qc_table.specs.Views.{table_name_at};
@@ -30,15 +31,14 @@ pub struct Database {
 }
 
 impl Model for Database {
-    ghost use Rattle.std.specs.Prelude.{◌≡◌, true};
     ghost use Rattle.qc_sql.specs.Database as meant;
-    ghost use Rattle.qc_model.specs.Licence.{is_within_rows};
+    ghost use Rattle.qc_table.specs.Tables.{IsHeld};
 
     ghost Value = { meant.Database };
 
     ghost view = { λ d. d.databases.value };
 
-    ghost invariant = { λ d. is_within_rows d.databases.value ≡ true };
+    ghost invariant = { λ d. IsHeld d.databases.value };
 }
 
 impl Database {
@@ -60,6 +60,11 @@ impl Database {
             databases: Arc::try_clone(&self.databases)?,
         })
     }
+
+    /// A law, with no code: its databases and their tables stand by rising name, each name once, and the rows of each table by rising key.
+    pub fn is_in_order(&self)
+        ensures { IsOrdered self.now }
+    {}
 
     /// Whether there is a database of that name.
     pub fn has_db(&self, name: &[u8]) -> bool
@@ -90,13 +95,26 @@ impl Database {
         requires { ops_fit ops.now self.now ≡ true }
         ensures { Gives (λ d. d) (λ full. full.table) result (fitting (apply ops.now self.now)) }
     {
+        let databases = self.tables_after(alloc, ops)?;
+        Ok(Database {
+            databases: Arc::new(alloc, databases)?,
+        })
+    }
+
+    /// The tables of each database after the operations, or the first table that has too many rows then.
+    fn tables_after(
+        &self,
+        alloc: Global,
+        ops: &Ops,
+    ) -> Result<NameList<NameList<TableVersion>>, Or<TableFull>>
+        requires { ops_fit ops.now self.now ≡ true }
+        ensures made { Gives (λ d. d) (λ full. full.table) result (fitting (apply ops.now self.now)) }
+        ensures ordered { IsOrdered self.now }
+    {
         let mut draft = Draft::of(alloc, &self.databases)?;
         for op in ops.items() {
             draft.carry_out(alloc, op)?;
         }
-        let databases = draft.versions(alloc)?;
-        Ok(Database {
-            databases: Arc::new(alloc, databases)?,
-        })
+        draft.versions(alloc)
     }
 }

@@ -5,6 +5,7 @@ mod cells;
 mod database;
 mod draft;
 mod draft_table;
+mod fitting;
 mod ints;
 mod keys;
 mod merge;

@@ -5,6 +5,7 @@ ghost use Rattle.std.specs.List.{slice_get};
 ghost use Rattle.std.specs.Ordering.{int_cmp};
 ghost use Rattle.std.specs.BTreeMap.{is_at};
 ghost use Rattle.std.specs.Map.{keys_of, lookup};
+ghost use Rattle.qc_sql.specs.Order.{RowsRise};
 ghost use Rattle.qc_table.specs.Tables.{IsSound, IsStored};
 ghost use Rattle.qc_table.specs.Views.{kind_at, column_values, row_values};
 
@@ -68,6 +69,7 @@ impl TableVersion {
     pub fn share(&self) -> Result<TableVersion, NoMemory>
         ensures same { IfOk result (λ t. t ≡ self.now) }
         ensures sound { IsSound self.now }
+        ensures ordered { RowsRise self.now }
     {
         Ok(TableVersion {
             stored: Arc::try_clone(&self.stored)?,

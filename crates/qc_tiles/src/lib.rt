@@ -7,8 +7,6 @@ mod laws;
 mod places;
 mod plain;
 mod settle;
-#[cfg(test)]
-mod tests;
 mod tiles;
 mod walk;
 

@@ -5,5 +5,4 @@ pub mod Index
 pub mod Meets
 pub mod Ordered
 pub mod Stands
-pub mod Trials
 pub mod Walks

@@ -1,4 +1,4 @@
--- A journal's database has its names in order, each once; and the columns that operations leave to a table.
+-- The columns that operations leave to a table of a database in order, and the rows that they write.
 use Rattle.std.proofs.Common.{◌≡◌, Bool, true, false, cond, List, [], ◌∷◌, ◌++◌, refl, sym, ap, subst, ◌∙◌, Option, ◌⊎◌, inl, inr, ℤ, append_assoc}
 use Rattle.std.specs.Prelude.{Some, None, bytes_eq, is_some, option_map, option_and_then, ◌&&◌, Result, Ok}
 use Rattle.std.specs.Ordering.{is_eq, match_ordering, ordering_reverse}
@@ -6,7 +6,8 @@ use Rattle.std.specs.declared.cmp.Ordering.{Ordering}
 use Rattle.std.specs.declared.cmp.Ordering.TheVariants.{Less, Equal, Greater}
 use Rattle.std.specs.List.{AllByRecursion}
 use Rattle.std.specs.BTreeMap.{insert_entry, is_at}
-use Rattle.std.specs.Map.{lookup, remove_entry}
+use Rattle.std.specs.List.Sorted.{IsStrictlySortedBy}
+use Rattle.std.specs.Map.{keys_of, values_of, lookup, remove_entry}
 use Rattle.std.proofs.lemmas.Cmp.{nat_list_cmp_total}
 use Rattle.std.proofs.lemmas.Map.Text.{is_eq-slice_cmp}
 use Rattle.qc_types.specs.declared.names.TableName.{TableName}
@@ -14,6 +15,8 @@ use Rattle.qc_sql.specs.declared.tables.Column.{Column}
 use Rattle.qc_sql.specs.declared.tables.RowOp.{RowOp}
 use Rattle.qc_sql.specs.declared.tables.RowOp.TheVariants as op
 use Rattle.qc_sql.specs.Database.{Name, name_cmp, MapOf, Table, Tables, Database, no_tables, empty_database, at_name, change_at, change_tables, change_table, with_row, without_row, table_of, tables_of, apply, apply_one, same_table}
+use Rattle.qc_sql.specs.Order.{AreOrdered, IsOrdered}
+use Rattle.qc_sql.proofs.Order.{one_ordered, stays_ordered}
 use Rattle.qc_sql.proofs.Untouched.{at, at_is, at_self, changed_same}
 use Rattle.qc_model.specs.Journal.{Journal, operations, database_after, present}
 use Rattle.qc_model.specs.Licence.{ops_fit, op_fits, takes_row}
@@ -23,77 +26,20 @@ use Rattle.qc_table.specs.Fitting.{fitting}
 use Rattle.qc_table.proofs.Fits.{fitted}
 use Rattle.qc_trx.specs.declared.progress.Snapshot.{Snapshot}
 use Rattle.qc_trx.specs.declared.writes.OwnRow.{OwnRow}
-use Rattle.qc_trx.specs.Orders.{Rises, RisesWithin, IsOrdered}
 use Rattle.qc_trx.specs.Progresses.{current, IsSeen}
 use Rattle.qc_trx.specs.Writes.{columns_of, columns_left, key_by, own_row, own_rows, row_left, rows_left}
 use Rattle.qc_trx.proofs.Columns.{both_true, bytes_same, same_is, put_columns, del_columns, untouched}
 
 -- ---- maps in order
 
-name_back : (a b : Name) → name_cmp a b ≡ Greater → name_cmp b a ≡ Less
-name_back a b h = nat_list_cmp_total.antisymm b a ∙ ap ordering_reverse h
-
 module _ {X : Type 0} where
-  all_more : (a b : Name) (es : MapOf Name X) → name_cmp a b ≡ Less → AllByRecursion (λ f. name_cmp b f.0 ≡ Less) es → AllByRecursion (λ f. name_cmp a f.0 ≡ Less) es
-  all_more a b [] p h = tt
-  all_more a b (f ∷ es) p h = (nat_list_cmp_total.trans a b f.0 p h.0, all_more a b es p h.1)
-
-  all_inserted : (a u : Name) (v : X) (es : MapOf Name X) → name_cmp a u ≡ Less → AllByRecursion (λ f. name_cmp a f.0 ≡ Less) es → AllByRecursion (λ f. name_cmp a f.0 ≡ Less) (insert_entry name_cmp es u v)
-  all_inserted a u v [] p h = (p, tt)
-  all_inserted a u v (e ∷ es) p h =
-      elim (name_cmp u e.0) as (λ r. AllByRecursion (λ (f : Name × X). name_cmp a f.0 ≡ Less) (match_ordering r ((u, v) ∷ e ∷ es) ((e.0, v) ∷ es) (e ∷ insert_entry name_cmp es u v))) [
-        | Less ↦ (p, h)
-        | Equal ↦ (h.0, h.1)
-        | Greater ↦ (h.0, all_inserted a u v es p h.1)
-      ]
-
-  rises_inserted : (u : Name) (v : X) (es : MapOf Name X) → Rises es → Rises (insert_entry name_cmp es u v)
-  rises_inserted u v [] h = (tt, tt)
-  rises_inserted u v (e ∷ es) h =
-      elim (name_cmp u e.0) as (λ r. name_cmp u e.0 ≡ r → Rises (match_ordering r ((u, v) ∷ e ∷ es) ((e.0, v) ∷ es) (e ∷ insert_entry name_cmp es u v))) [
-        | Less ↦ λ p. ((p, all_more u e.0 es p h.0), h)
-        | Equal ↦ λ p. (h.0, h.1)
-        | Greater ↦ λ p. (all_inserted e.0 u v es (name_back u e.0 p) h.0, rises_inserted u v es h.1)
-      ] refl
-
-  all_removed : (P : Name × X → Type 0) (test : Name → Bool) (es : MapOf Name X) → AllByRecursion P es → AllByRecursion P (remove_entry test es)
-  all_removed P test [] h = tt
-  all_removed P test (e ∷ es) h =
-      elim (test e.0) as (λ b. AllByRecursion P (cond b es (e ∷ remove_entry test es))) [
-        | true ↦ h.1
-        | false ↦ (h.0, all_removed P test es h.1)
-      ]
-
-  rises_removed : (test : Name → Bool) (es : MapOf Name X) → Rises es → Rises (remove_entry test es)
-  rises_removed test [] h = tt
-  rises_removed test (e ∷ es) h =
-      elim (test e.0) as (λ b. Rises (cond b es (e ∷ remove_entry test es))) [
-        | true ↦ h.1
-        | false ↦ (all_removed (λ f. name_cmp e.0 f.0 ≡ Less) test es h.0, rises_removed test es h.1)
-      ]
-
-  all_changed : (a u : Name) (f : X → X) (es : MapOf Name X) → AllByRecursion (λ g. name_cmp a g.0 ≡ Less) es → AllByRecursion (λ g. name_cmp a g.0 ≡ Less) (change_at u f es)
-  all_changed a u f [] h = tt
-  all_changed a u f (e ∷ es) h =
-      elim (at u e.0) as (λ b. AllByRecursion (λ (g : Name × X). name_cmp a g.0 ≡ Less) ((cond b (e.0, f e.1) e) ∷ change_at u f es)) [
-        | true ↦ (h.0, all_changed a u f es h.1)
-        | false ↦ (h.0, all_changed a u f es h.1)
-      ]
-
-  rises_changed : (u : Name) (f : X → X) (es : MapOf Name X) → Rises es → Rises (change_at u f es)
-  rises_changed u f [] h = tt
-  rises_changed u f (e ∷ es) h =
-      elim (at u e.0) as (λ b. Rises ((cond b (e.0, f e.1) e) ∷ change_at u f es)) [
-        | true ↦ (all_changed e.0 u f es h.0, rises_changed u f es h.1)
-        | false ↦ (all_changed e.0 u f es h.0, rises_changed u f es h.1)
-      ]
-
-  none_in : (n : Name) (es : MapOf Name X) → AllByRecursion (λ f. name_cmp n f.0 ≡ Less) es → at_name n es ≡ None
+  none_in : (n : Name) (es : MapOf Name X) → AllByRecursion (λ k. name_cmp n k ≡ Less) (keys_of es) → at_name n es ≡ None
   none_in n [] h = refl
   none_in n (f ∷ es) h = let p : name_cmp n f.0 ≡ Less = h.0 in rw (ap is_eq p) (none_in n es h.1)
 
   -- a name that is taken out is gone
-  gone : (n : Name) (es : MapOf Name X) → Rises es → at_name n (remove_entry (at n) es) ≡ None
+  gone : (n : Name) (es : MapOf Name X) → IsStrictlySortedBy name_cmp (keys_of es) → at_name n (remove_entry (at n) es) ≡ None
+  unfolding IsStrictlySortedBy
   gone n [] h = refl
   gone n (e ∷ es) h =
       elim (at n e.0) as (λ b. at n e.0 ≡ b → lookup (at n) (cond b es (e ∷ remove_entry (at n) es)) ≡ None) [
@@ -110,59 +56,6 @@ module _ {X : Type 0} where
         | Equal ↦ λ p. rw (ap is_eq p) refl
         | Greater ↦ λ p. rw (ap is_eq p) (inserted_here n v es)
       ] refl
-
--- ---- databases in order
-
-within_changed : (u : Name) (f : Tables → Tables) (d : Database) → ((ts : Tables) → Rises ts → Rises (f ts)) → RisesWithin d → RisesWithin (change_at u f d)
-within_changed u f [] k h = tt
-within_changed u f (e ∷ d) k h =
-    elim (at u e.0) as (λ b. RisesWithin ((cond b (e.0, f e.1) e) ∷ change_at u f d)) [
-      | true ↦ (k e.1 h.0, within_changed u f d k h.1)
-      | false ↦ (h.0, within_changed u f d k h.1)
-    ]
-
-within_inserted : (u : Name) (v : Tables) (d : Database) → Rises v → RisesWithin d → RisesWithin (insert_entry name_cmp d u v)
-within_inserted u v [] k h = (k, tt)
-within_inserted u v (e ∷ d) k h =
-    elim (name_cmp u e.0) as (λ r. RisesWithin (match_ordering r ((u, v) ∷ e ∷ d) ((e.0, v) ∷ d) (e ∷ insert_entry name_cmp d u v))) [
-      | Less ↦ (k, h)
-      | Equal ↦ (k, h.1)
-      | Greater ↦ (h.0, within_inserted u v d k h.1)
-    ]
-
-within_removed : (test : Name → Bool) (d : Database) → RisesWithin d → RisesWithin (remove_entry test d)
-within_removed test [] h = tt
-within_removed test (e ∷ d) h =
-    elim (test e.0) as (λ b. RisesWithin (cond b d (e ∷ remove_entry test d))) [
-      | true ↦ h.1
-      | false ↦ (h.0, within_removed test d h.1)
-    ]
-
-tables_changed : (u : Name) (f : Tables → Tables) (d : Database) → ((ts : Tables) → Rises ts → Rises (f ts)) → IsOrdered d → IsOrdered (change_tables u f d)
-tables_changed u f d k h = record { databases = rises_changed u f d h.databases; tables = within_changed u f d k h.tables }
-
-pub one_ordered : (o : RowOp) (d : Database) → IsOrdered d → IsOrdered (apply_one o d)
-one_ordered (op.Put t row) d h = tables_changed t.db (change_at t.name (with_row row)) d (λ ts k. rises_changed t.name (with_row row) ts k) h
-one_ordered (op.Del t key) d h = tables_changed t.db (change_at t.name (without_row key)) d (λ ts k. rises_changed t.name (without_row key) ts k) h
-one_ordered (op.CreateTable t columns) d h = tables_changed t.db (λ ts. insert_entry name_cmp ts t.name (record { columns = columns; rows = [] })) d (λ ts k. rises_inserted t.name (record { columns = columns; rows = [] }) ts k) h
-one_ordered (op.DropTable t) d h = tables_changed t.db (remove_entry (at t.name)) d (λ ts k. rises_removed (at t.name) ts k) h
-one_ordered (op.CreateDb name) d h =
-    elim (is_some (tables_of name d)) as (λ b. IsOrdered (cond b d (insert_entry name_cmp d name no_tables))) [
-      | true ↦ h
-      | false ↦ record { databases = rises_inserted name no_tables d h.databases; tables = within_inserted name no_tables d tt h.tables }
-    ]
-one_ordered (op.DropDb name) d h = record { databases = rises_removed (at name) d h.databases; tables = within_removed (at name) d h.tables }
-
-pub all_ordered : (os : List RowOp) (d : Database) → IsOrdered d → IsOrdered (apply os d)
-all_ordered [] d h = h
-all_ordered (o ∷ os) d h = all_ordered os (apply_one o d) (one_ordered o d h)
-
-pub present_ordered : (journal : Journal) → IsOrdered (present journal)
-present_ordered journal = from journal empty_database (record { databases = tt; tables = tt })
-  where
-    from : (es : Journal) (d : Database) → IsOrdered d → IsOrdered (database_after d es)
-    from [] d h = h
-    from (e ∷ es) d h = from es (apply (operations e) d) (all_ordered (operations e) d h)
 
 -- ---- the columns that are left
 
@@ -184,12 +77,12 @@ made_columns t columns d = by (tables_of t.db d) (changed_same t.db (λ (ts : Ta
     by None h = inl (ap (λ (o : Option Tables). shown (option_and_then (at_name t.name) o)) h)
     by (Some ts) h = inr (ap (λ (o : Option Tables). shown (option_and_then (at_name t.name) o)) h ∙ ap shown (inserted_here t.name (record { columns = columns; rows = [] }) ts))
 
-rises_there : (n : Name) (e : Database) (ts : Tables) → RisesWithin e → at_name n e ≡ Some ts → Rises ts
-rises_there n [] ts k p = absurd cc
-rises_there n (x ∷ e) ts k p = by (at n x.0) refl (rises_there n e ts k.1)
+ordered_there : (n : Name) (e : Database) (ts : Tables) → AllByRecursion AreOrdered (values_of e) → at_name n e ≡ Some ts → AreOrdered ts
+ordered_there n [] ts k p = absurd cc
+ordered_there n (x ∷ e) ts k p = by (at n x.0) refl (ordered_there n e ts k.1)
   where
-    by : (b : Bool) → at n x.0 ≡ b → (at_name n e ≡ Some ts → Rises ts) → Rises ts
-    by true q later = let same : Some x.1 ≡ Some ts = rw q at p in let is : x.1 ≡ ts = cc in subst (λ (z : Tables). Rises z) is k.0
+    by : (b : Bool) → at n x.0 ≡ b → (at_name n e ≡ Some ts → AreOrdered ts) → AreOrdered ts
+    by true q later = let same : Some x.1 ≡ Some ts = rw q at p in let is : x.1 ≡ ts = cc in subst (λ (z : Tables). AreOrdered z) is k.0
     by false q later = let rest : at_name n e ≡ Some ts = rw q at p in later rest
 
 dropped_table : (t : TableName) (d : Database) → IsOrdered d → columns_of t (apply_one (op.DropTable t) d) ≡ None
@@ -197,10 +90,10 @@ dropped_table t d h = ap (λ (o : Option Tables). shown (option_and_then (at_nam
   where
     by : (o : Option Tables) → tables_of t.db d ≡ o → shown (option_and_then (at_name t.name) (option_map (remove_entry (at t.name)) o)) ≡ None
     by None p = refl
-    by (Some ts) p = ap shown (gone t.name ts (rises_there t.db d ts h.tables p))
+    by (Some ts) p = ap shown (gone t.name ts (ordered_there t.db d ts h.tables p).names)
 
 dropped_database : (t : TableName) (d : Database) → IsOrdered d → columns_of t (apply_one (op.DropDb t.db) d) ≡ None
-dropped_database t d h = ap (λ (o : Option Tables). shown (option_and_then (at_name t.name) o)) (gone t.db d h.databases)
+dropped_database t d h = ap (λ (o : Option Tables). shown (option_and_then (at_name t.name) o)) (gone t.db d h.names)
 
 pub one_left : (t : TableName) (o : RowOp) (d : Database) (left : Option (List Column)) → IsOrdered d → Left (columns_of t d) left → Left (columns_of t (apply_one o d)) (columns_left t (o ∷ []) left)
 one_left t (op.Put u row) d left h k = stays t d (apply_one (op.Put u row) d) left (put_columns t u row d) k
@@ -279,9 +172,10 @@ pub seen_more : (s : Snapshot) (own ops : List RowOp) (rows more : List (Option 
 seen_more s own ops rows more next h fits made noted = record {
   fits = fit_more own ops s.origin h.fits fits;
   made = (fitted (apply ops (current s)) next made).1 ∙ (ap (apply ops) h.made ∙ sym (apply_more own ops s.origin));
-  noted = λ ord.
-      let front : rows ≡ own_rows own s.origin = h.noted ord in
-      let back : more ≡ own_rows ops (apply own s.origin) = noted ∙ (ap (rows_left [] ops) h.made ∙ rows_are ops (apply own s.origin) (all_ordered own s.origin ord) fits) in
+  ordered = h.ordered;
+  noted =
+      let back : more ≡ own_rows ops (apply own s.origin) = noted ∙ (ap (rows_left [] ops) h.made ∙ rows_are ops (apply own s.origin) (stays_ordered own s.origin h.ordered) fits) in
+      let front = h.noted in
       let whole = own_more own ops s.origin in
       cc;
 }

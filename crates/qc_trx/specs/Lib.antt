@@ -1,5 +1,4 @@
 pub mod Endings
-pub mod Orders
 pub mod Progresses
 pub mod Sites
 pub mod Standings

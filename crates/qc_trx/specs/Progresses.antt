@@ -2,13 +2,13 @@
 use Rattle.std.specs.Prelude.{◌≡◌, ℕ, Bool, true, List, [], Option, Some, None, unwrap_or}
 use Rattle.qc_sql.specs.declared.tables.RowOp.{RowOp}
 use Rattle.qc_sql.specs.Database.{Name, Database, apply}
+use Rattle.qc_sql.specs.Order.{IsOrdered}
 use Rattle.qc_model.specs.Licence.{ops_fit}
 use Rattle.qc_model.specs.Session.{State, Transaction, none_open}
 use Rattle.qc_trx.specs.declared.progress.Progress.{Progress}
 use Rattle.qc_trx.specs.declared.progress.Progress.TheVariants as progress
 use Rattle.qc_trx.specs.declared.progress.Snapshot.{Snapshot}
 use Rattle.qc_trx.specs.declared.writes.OwnRow.{OwnRow}
-use Rattle.qc_trx.specs.Orders.{IsOrdered}
 use Rattle.qc_trx.specs.Writes.{own_rows}
 
 abbrev pub transaction_of : Progress → List RowOp → Option Transaction
@@ -29,7 +29,8 @@ current s = unwrap_or s.changed s.origin
 pub record IsSeen (s : Snapshot) (own : List RowOp) (rows : List (Option OwnRow)) : Type 0 where
   pub fits : ops_fit own s.origin ≡ true
   pub made : current s ≡ apply own s.origin
-  pub noted : IsOrdered s.origin → rows ≡ own_rows own s.origin
+  pub ordered : IsOrdered s.origin
+  pub noted : rows ≡ own_rows own s.origin
 
 -- before a snapshot there is no operation
 abbrev pub IsProgress : Progress → List RowOp → List (Option OwnRow) → Type 0

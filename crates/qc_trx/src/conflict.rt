@@ -12,8 +12,9 @@ ghost use Rattle.qc_trx.specs.Endings.{meant, IsOriginIn};
 
 use crate::noting::{columns_of, key_in};
 use crate::writes::{OwnRow, Writes};
-use qc_journal::{Journal, same_table};
+use qc_journal::Journal;
 use qc_model::events::Event;
+use qc_sql::names::is_same_table;
 use qc_sql::tables::RowOp;
 use qc_table::Database;
 use qc_types::{Duplicate, NoMemory, TableName};
@@ -193,8 +194,8 @@ fn changes_form(table: &TableName, op: &RowOp) -> bool
     match op {
         RowOp::Put(_, _) => false,
         RowOp::Del(_, _) => false,
-        RowOp::CreateTable(other, _) => same_table(table, other),
-        RowOp::DropTable(other) => same_table(table, other),
+        RowOp::CreateTable(other, _) => is_same_table(table, other),
+        RowOp::DropTable(other) => is_same_table(table, other),
         RowOp::CreateDb(_) => false,
         RowOp::DropDb(name) => table.db.bytes() == name.bytes(),
     }

@@ -7,8 +7,6 @@ mod progress;
 mod settings;
 mod sites;
 mod state;
-#[cfg(test)]
-mod tests;
 mod writes;
 
 pub use conflict::Conflict;

@@ -4,7 +4,7 @@ ghost use Rattle.std.specs.Prelude.{◌≡◌, ◌+◌, ◌<◌, ◌^◌, [], If
 ghost use Rattle.qc_trx.specs.Writes.{columns_left, columns_of, key_by, makes_table, row_left, rows_left};
 
 use crate::writes::OwnRow;
-use qc_journal::same_table;
+use qc_sql::names::is_same_table;
 use qc_sql::tables::{Columns, RowOp, StoredRow};
 use qc_table::{Database, key_of_row};
 use qc_types::{Duplicate, NoMemory, TableName};
@@ -77,7 +77,7 @@ fn columns_left<'a>(
     let mut columns = columns_of(seen, table);
     for op in making {
         if let RowOp::CreateTable(made, made_columns) = op
-            && same_table(table, made)
+            && is_same_table(table, made)
         {
             columns = Some(made_columns);
         }

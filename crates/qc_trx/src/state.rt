@@ -233,6 +233,7 @@ impl SessionState {
         ensures { self.new ≡ after_sight place now self.old }
     {
         if let Progress::Opened = &self.progress {
+            now.is_in_order();
             self.progress = Progress::Seen(Snapshot {
                 place,
                 origin: now,

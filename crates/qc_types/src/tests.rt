@@ -1,4 +1,4 @@
-ghost use Rattle.std.specs.Prelude.{◌≡◌, ◌≤◌, ◌<◌, false, length};
+ghost use Rattle.std.specs.Prelude.{◌≡◌, ◌≤◌, ◌<◌, false, length, Ok};
 ghost use Rattle.qc_types.specs.Streams.{Rose, is_failed};
 
 use crate::{
@@ -6,10 +6,26 @@ use crate::{
     Source, SqlError, Steps, TableName, Tables, Text, Value, Why, Wide,
 };
 use std::alloc::{AllocError, AllocFailed, Global};
+use std::fmt::Debug;
 use std::marker::Brand;
 use std::mem::size_of_val;
+use std::process::Abort;
 use std::sync::ledger::{Blank, Ledger};
-use std::test::Fail;
+
+/// The value of an answer that has to be `Ok`.
+fn must<T, E: Debug + Drop>(rt: &impl Abort, answer: Result<T, E>) -> T
+    ensures { answer ≡ Ok result }
+{
+    match answer {
+        Ok(value) => value,
+        Err(error) => panic!(rt; "{error:?}"),
+    }
+}
+
+/// Asserts that the two are the same.
+fn same<T: PartialEq + Debug + Drop>(rt: &impl Abort, got: T, wanted: T) {
+    assert_eq!(rt; got, wanted);
+}
 
 /// A second value, by what every `Duplicate` promises.
 fn twice<T: Duplicate>(alloc: Global, value: &T) -> Result<T, NoMemory> {
@@ -24,68 +40,94 @@ fn table(alloc: Global, db: &[u8], name: &[u8]) -> Result<TableName, NoMemory> {
 }
 
 #[test]
-fn text_grows_apart_from_its_copy(rt: HostRuntime) -> Result<(), Fail> {
-    let mut text = Text::of(rt.alloc(), b"SELECT")?;
-    text.extend(b"")?;
-    text.extend(b" \0\xff")?;
-    let copy = text.copy(rt.alloc())?;
-    text.extend(b"!")?;
-    assert_eq!(rt; text.bytes(), b"SELECT \0\xff!".as_slice());
-    assert_eq!(rt; copy.bytes(), b"SELECT \0\xff".as_slice());
-    assert_eq!(rt;
-        twice(rt.alloc(), &copy)?.bytes(),
-        b"SELECT \0\xff".as_slice()
+fn text_grows_apart_from_its_copy(rt: HostRuntime) {
+    let mut text = must(&rt, Text::of(rt.alloc(), b"SELECT"));
+    must(&rt, text.extend(b""));
+    must(&rt, text.extend(b" \0\xff"));
+    let copy = must(&rt, text.copy(rt.alloc()));
+    must(&rt, text.extend(b"!"));
+    same(&rt, text.bytes(), b"SELECT \0\xff!".as_slice());
+    same(&rt, copy.bytes(), b"SELECT \0\xff".as_slice());
+    same(
+        &rt,
+        must(&rt, twice(rt.alloc(), &copy)).bytes(),
+        b"SELECT \0\xff".as_slice(),
     );
-    assert_eq!(rt; Text::of(rt.alloc(), b"")?.bytes(), b"".as_slice());
-    Ok(())
+    same(
+        &rt,
+        must(&rt, Text::of(rt.alloc(), b"")).bytes(),
+        b"".as_slice(),
+    );
 }
 
 #[test]
-fn lists_keep_their_order(rt: HostRuntime) -> Result<(), Fail> {
+fn lists_keep_their_order(rt: HostRuntime) {
     let mut numbers = OwnedList::new(rt.alloc());
-    assert_eq!(rt; numbers.items(), [].as_slice());
-    numbers.push(8u64)?;
-    numbers.push(7)?;
+    same(&rt, numbers.items(), [].as_slice());
+    must(&rt, numbers.push(8u64));
+    must(&rt, numbers.push(7));
     let mut others = OwnedList::new(rt.alloc());
-    others.push(9)?;
-    others.push(8)?;
-    numbers.append(others)?;
-    numbers.append(OwnedList::new(rt.alloc()))?;
-    assert_eq!(rt; numbers.items(), [8, 7, 9, 8].as_slice());
-    Ok(())
+    must(&rt, others.push(9));
+    must(&rt, others.push(8));
+    must(&rt, numbers.append(others));
+    must(&rt, numbers.append(OwnedList::new(rt.alloc())));
+    same(&rt, numbers.items(), [8, 7, 9, 8].as_slice());
 }
 
 #[test]
-fn tables_are_copied_in_order(rt: HostRuntime) -> Result<(), Fail> {
+fn tables_are_copied_in_order(rt: HostRuntime) {
     let mut tables: Tables = OwnedList::new(rt.alloc());
-    tables.push(table(rt.alloc(), b"shop", b"orders")?)?;
-    tables.push(table(rt.alloc(), b"mysql", b"user")?)?;
-    for copy in [tables.copy(rt.alloc())?, twice(rt.alloc(), &tables)?] {
-        let mut names = Text::of(rt.alloc(), b"")?;
+    must(
+        &rt,
+        tables.push(must(&rt, table(rt.alloc(), b"shop", b"orders"))),
+    );
+    must(
+        &rt,
+        tables.push(must(&rt, table(rt.alloc(), b"mysql", b"user"))),
+    );
+    for copy in [
+        must(&rt, tables.copy(rt.alloc())),
+        must(&rt, twice(rt.alloc(), &tables)),
+    ] {
+        let mut names = must(&rt, Text::of(rt.alloc(), b""));
         for name in copy.items() {
-            names.extend(name.db.bytes())?;
-            names.extend(b".")?;
-            names.extend(name.name.bytes())?;
-            names.extend(b" ")?;
+            must(&rt, names.extend(name.db.bytes()));
+            must(&rt, names.extend(b"."));
+            must(&rt, names.extend(name.name.bytes()));
+            must(&rt, names.extend(b" "));
         }
         assert_eq!(rt; names.bytes(), b"shop.orders mysql.user ".as_slice());
     }
-    Ok(())
 }
 
 #[test]
-fn values_are_duplicated_in_boxes(rt: HostRuntime) -> Result<(), Fail> {
-    let null = Boxed::new(rt.alloc(), Value::Null)?;
-    let least = Boxed::new(rt.alloc(), Value::Int(i64::MIN))?;
-    let word = Boxed::new(rt.alloc(), Value::Str(Text::of(rt.alloc(), b"null")?))?;
-    assert!(rt; matches!(twice(rt.alloc(), &null)?.into_inner(), Value::Null));
-    assert!(rt; matches!(twice(rt.alloc(), &least)?.get(), Value::Int(i64::MIN)));
-    let copy = twice(rt.alloc(), &word)?;
+fn values_are_duplicated_in_boxes(rt: HostRuntime) {
+    let null = must(&rt, Boxed::new(rt.alloc(), Value::Null));
+    let least = must(&rt, Boxed::new(rt.alloc(), Value::Int(i64::MIN)));
+    let word = must(
+        &rt,
+        Boxed::new(
+            rt.alloc(),
+            Value::Str(must(&rt, Text::of(rt.alloc(), b"null"))),
+        ),
+    );
+    assert!(rt;
+        matches!(
+            must(&rt, twice(rt.alloc(), &null)).into_inner(),
+            Value::Null
+        )
+    );
+    assert!(rt;
+        matches!(
+            must(&rt, twice(rt.alloc(), &least)).get(),
+            Value::Int(i64::MIN)
+        )
+    );
+    let copy = must(&rt, twice(rt.alloc(), &word));
     assert!(rt;
         matches!(copy.get(), Value::Str(text) if text.bytes() == b"null".as_slice()),
         "{copy:?}"
     );
-    Ok(())
 }
 
 /// A word for the reason, or the bytes in it.
@@ -99,9 +141,9 @@ fn told(why: &Why) -> &[u8] {
 }
 
 #[test]
-fn reasons_and_errors_are_duplicated(rt: HostRuntime) -> Result<(), Fail> {
-    let system = Why::SystemTable(table(rt.alloc(), b"mysql", b"user")?);
-    let function = Why::Function(Text::of(rt.alloc(), b"NOW")?);
+fn reasons_and_errors_are_duplicated(rt: HostRuntime) {
+    let system = Why::SystemTable(must(&rt, table(rt.alloc(), b"mysql", b"user")));
+    let function = Why::Function(must(&rt, Text::of(rt.alloc(), b"NOW")));
     let rows: [(Why, &[u8]); 4] = [
         (Why::Locking, b"locking"),
         (Why::NoTables, b"no tables"),
@@ -109,43 +151,44 @@ fn reasons_and_errors_are_duplicated(rt: HostRuntime) -> Result<(), Fail> {
         (function, b"NOW"),
     ];
     for (why, want) in &rows {
-        let copy = twice(rt.alloc(), why)?;
+        let copy = must(&rt, twice(rt.alloc(), why));
         assert_eq!(rt; told(&copy), *want);
     }
     let error = SqlError {
         code: 1064,
         state: *b"42000",
-        message: Text::of(rt.alloc(), b"no")?,
+        message: must(&rt, Text::of(rt.alloc(), b"no")),
     };
-    let copy = twice(rt.alloc(), &error)?;
-    assert_eq!(rt; copy.code, 1064);
-    assert_eq!(rt; copy.state, *b"42000");
-    assert_eq!(rt; copy.message.bytes(), b"no".as_slice());
-    Ok(())
+    let copy = must(&rt, twice(rt.alloc(), &error));
+    same(&rt, copy.code, 1064);
+    same(&rt, copy.state, *b"42000");
+    same(&rt, copy.message.bytes(), b"no".as_slice());
 }
 
 #[test]
-fn rows_of_optional_cells_are_duplicated(rt: HostRuntime) -> Result<(), Fail> {
+fn rows_of_optional_cells_are_duplicated(rt: HostRuntime) {
     let mut row = OwnedList::new(rt.alloc());
-    row.push(None)?;
-    row.push(Some(Text::of(rt.alloc(), b"")?))?;
-    let copy = twice(rt.alloc(), &row)?;
+    must(&rt, row.push(None));
+    must(&rt, row.push(Some(must(&rt, Text::of(rt.alloc(), b"")))));
+    let copy = must(&rt, twice(rt.alloc(), &row));
     assert!(rt; matches!(copy.items(), [None, Some(text)] if text.bytes().is_empty()));
-    assert_eq!(rt; twice(rt.alloc(), &Wide(i128::MIN))?, Wide(i128::MIN));
-    assert_eq!(rt; twice(rt.alloc(), &u64::MAX)?, u64::MAX);
-    assert_eq!(rt; twice(rt.alloc(), &i64::MIN)?, i64::MIN);
-    Ok(())
+    same(
+        &rt,
+        must(&rt, twice(rt.alloc(), &Wide(i128::MIN))),
+        Wide(i128::MIN),
+    );
+    same(&rt, must(&rt, twice(rt.alloc(), &u64::MAX)), u64::MAX);
+    same(&rt, must(&rt, twice(rt.alloc(), &i64::MIN)), i64::MIN);
 }
 
 #[test]
-fn texts_and_lists_take_over_a_vector(rt: HostRuntime) -> Result<(), Fail> {
-    let mut text = Text::from_vec(Vec::from_slice(rt.alloc(), b"SEL")?);
-    text.extend(b"ECT")?;
-    assert_eq!(rt; text.into_vec().as_slice(), b"SELECT".as_slice());
-    let mut numbers = OwnedList::from_vec(Vec::from_slice(rt.alloc(), &[8u64, 7])?);
-    numbers.push(9)?;
-    assert_eq!(rt; numbers.into_vec().as_slice(), [8, 7, 9].as_slice());
-    Ok(())
+fn texts_and_lists_take_over_a_vector(rt: HostRuntime) {
+    let mut text = Text::from_vec(must(&rt, Vec::from_slice(rt.alloc(), b"SEL")));
+    must(&rt, text.extend(b"ECT"));
+    same(&rt, text.into_vec().as_slice(), b"SELECT".as_slice());
+    let mut numbers = OwnedList::from_vec(must(&rt, Vec::from_slice(rt.alloc(), &[8u64, 7])));
+    must(&rt, numbers.push(9));
+    same(&rt, numbers.into_vec().as_slice(), [8, 7, 9].as_slice());
 }
 
 /// A new counter after two steps.
@@ -173,7 +216,7 @@ fn bytes_of_a_counter<L: Ledger>(blank: Blank) -> usize
 
 #[test]
 fn a_counter_of_steps_takes_no_bytes(rt: HostRuntime) {
-    assert_eq!(rt; bytes_of_a_counter::<Brand>(Blank::new(1)), 0);
+    same(&rt, bytes_of_a_counter::<Brand>(Blank::new(1)), 0);
 }
 
 /// The refusal that `?` makes of an error.
@@ -186,8 +229,8 @@ where
 
 #[test]
 fn each_error_of_an_allocation_is_want_of_memory(rt: HostRuntime) {
-    assert_eq!(rt; NoMemory::from(AllocError), NoMemory);
-    assert_eq!(rt; NoMemory::from(AllocFailed { value: 5u8 }), NoMemory);
+    same(&rt, NoMemory::from(AllocError), NoMemory);
+    same(&rt, NoMemory::from(AllocFailed { value: 5u8 }), NoMemory);
     assert!(rt; matches!(refused(NoMemory), Or::Memory));
     assert!(rt; matches!(refused(AllocError), Or::Memory));
     assert!(rt; matches!(refused(AllocFailed { value: 5u8 }), Or::Memory));
@@ -215,7 +258,7 @@ fn reads<S: Source>(
 }
 
 #[test]
-fn a_source_gives_pieces_and_fails_where_told(rt: HostRuntime) -> Result<(), Fail> {
+fn a_source_gives_pieces_and_fails_where_told(rt: HostRuntime) {
     use ReadStep::{End, Failed, Got};
     // the most bytes of a piece, the calls that fail, and what reads of nine bytes into a buffer of eight do
     let rows: [(usize, &[u64], &[ReadStep]); 12] = [
@@ -270,10 +313,10 @@ fn a_source_gives_pieces_and_fails_where_told(rt: HostRuntime) -> Result<(), Fai
     ];
     for (piece, failing, want) in rows {
         assert!(rt; piece > 0);
-        let bytes = Vec::from_slice(rt.alloc(), b"abcdefghi")?;
-        let failing = Vec::from_slice(rt.alloc(), failing)?;
+        let bytes = must(&rt, Vec::from_slice(rt.alloc(), b"abcdefghi"));
+        let failing = must(&rt, Vec::from_slice(rt.alloc(), failing));
         let mut source = BytesSource::new(bytes, piece, failing);
-        let (steps, text) = reads(rt.alloc(), &mut source, &mut [0; 8], want.len())?;
+        let (steps, text) = must(&rt, reads(rt.alloc(), &mut source, &mut [0; 8], want.len()));
         assert_eq!(rt; steps.as_slice(), want, "in pieces of {piece}");
         assert_eq!(rt;
             text.bytes(),
@@ -281,7 +324,6 @@ fn a_source_gives_pieces_and_fails_where_told(rt: HostRuntime) -> Result<(), Fai
             "in pieces of {piece}"
         );
     }
-    Ok(())
 }
 
 /// One read of any source, which fails only where the count of faults rises.
@@ -302,7 +344,7 @@ fn read_slice(left: &mut &[u8], out: &mut [u8]) -> ReadStep
 }
 
 #[test]
-fn a_slice_is_read_to_its_end(rt: HostRuntime) -> Result<(), Fail> {
+fn a_slice_is_read_to_its_end(rt: HostRuntime) {
     use ReadStep::{End, Got};
     // the room of the buffer, and what reads of five bytes do
     let rows: [(usize, &[ReadStep]); 4] = [
@@ -315,7 +357,10 @@ fn a_slice_is_read_to_its_end(rt: HostRuntime) -> Result<(), Fail> {
         assert!(rt; room > 0 && room <= 8);
         let mut left: &[u8] = b"\0abc\xff";
         let mut buffer = [0; 8];
-        let (steps, text) = reads(rt.alloc(), &mut left, &mut buffer[..room], want.len())?;
+        let (steps, text) = must(
+            &rt,
+            reads(rt.alloc(), &mut left, &mut buffer[..room], want.len()),
+        );
         assert_eq!(rt; steps.as_slice(), want, "with room for {room}");
         assert_eq!(rt;
             text.bytes(),
@@ -324,7 +369,6 @@ fn a_slice_is_read_to_its_end(rt: HostRuntime) -> Result<(), Fail> {
         );
         assert_eq!(rt; read_slice(&mut left, &mut buffer), End);
     }
-    Ok(())
 }
 
 /// What a put of each piece did.
@@ -337,7 +381,7 @@ fn puts<S: Sink>(alloc: Global, sink: &mut S, pieces: &[&[u8]]) -> Result<Vec<Pu
 }
 
 #[test]
-fn a_sink_keeps_what_came_before_a_fault(rt: HostRuntime) -> Result<(), Fail> {
+fn a_sink_keeps_what_came_before_a_fault(rt: HostRuntime) {
     use PutStep::{Done, Failed};
     // the calls that fail, what the puts do, and what the sink holds then
     let rows: [(&[u64], [PutStep; 4], &[u8]); 5] = [
@@ -348,11 +392,13 @@ fn a_sink_keeps_what_came_before_a_fault(rt: HostRuntime) -> Result<(), Fail> {
         (&[1, 2, 3, 4], [Failed, Failed, Failed, Failed], b""),
     ];
     for (failing, want, held) in rows {
-        let failing = Vec::from_slice(rt.alloc(), failing)?;
+        let failing = must(&rt, Vec::from_slice(rt.alloc(), failing));
         let mut sink = BytesSink::new(rt.alloc(), failing);
-        let steps = puts(rt.alloc(), &mut sink, &[b"abc", b"defg", b"", b"abc"])?;
+        let steps = must(
+            &rt,
+            puts(rt.alloc(), &mut sink, &[b"abc", b"defg", b"", b"abc"]),
+        );
         assert_eq!(rt; steps.as_slice(), want.as_slice());
         assert_eq!(rt; sink.bytes(), held);
     }
-    Ok(())
 }

@@ -1,5 +1,5 @@
 -- The words of the command line.
-use Rattle.std.specs.Prelude.{ℕ, ◌+◌, ◌*◌, ◌/◌, ◌&&◌, Bool, List, [], ◌∷◌, Option, Some, None, length, nat_le, bytes_eq, codes, if◌then◌else◌, option_and_then, option_map}
+use Rattle.std.specs.Prelude.{ℕ, ◌+◌, ◌*◌, ◌/◌, ◌&&◌, Bool, false, List, [], ◌∷◌, Option, Some, None, length, nat_le, bytes_eq, codes, if◌then◌else◌, option_and_then, option_map}
 use Rattle.std.specs.List.{list_all}
 use Rattle.std.specs.Char.{is_ascii_digit}
 use Rattle.std.specs.Str.Parse.{digits_value}
@@ -50,6 +50,10 @@ options_in rows =
 -- the options of words that begin with `run`, where clap takes those behind it
 unfoldable pub run_options : List Text → Option Options
 run_options words = if takes run_command words then options_in (matches_of run_command words) else None
+
+abbrev pub begins_with_run : List Text → Bool
+begins_with_run [] = false
+begins_with_run (first ∷ rest) = bytes_eq first (codes "run")
 
 -- the options of the words behind the program's name, or none where these aren't in the form
 abbrev pub options_of : List Text → Option Options

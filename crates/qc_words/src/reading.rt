@@ -1,9 +1,9 @@
 //! What the words ask for.
 
-ghost use Rattle.std.specs.Prelude.{◌≡◌, IfOk, map, string_bytes};
+ghost use Rattle.std.specs.Prelude.{◌≡◌, true, IfOk, OnErr, map, string_bytes};
 ghost use Rattle.clap.specs.Words.{found_of, rows_of};
 ghost use Rattle.qc_words.specs.Words as meant;
-ghost use Rattle.qc_words.specs.Words.{options_of};
+ghost use Rattle.qc_words.specs.Words.{begins_with_run, options_of};
 
 use crate::command::run_command;
 use crate::numbers::number_in;
@@ -30,9 +30,11 @@ const DEFAULT_TYPE: u32 = 1;
 const MOST_TYPE: u32 = 2;
 
 /// The options that the words behind the program's name ask for, or none where these aren't in the form, which is `run` and then what
-/// `clap` takes for `--size`, `--limit`, `--unit` and `--type`, each with a number in its range. Linear in the words.
+/// `clap` takes for `--size`, `--limit`, `--unit` and `--type`, each with a number in its range. Of words that don't begin with `run` no memory is asked for.
+/// Linear in the words.
 pub fn read_words(alloc: Global, words: &[String]) -> Result<Option<Options>, NoMemory>
-    ensures { IfOk result (λ options. options ≡ options_of (map string_bytes words.now)) }
+    ensures options { IfOk result (λ options. options ≡ options_of (map string_bytes words.now)) }
+    ensures memory { OnErr result (begins_with_run (map string_bytes words.now) ≡ true) }
 {
     match words.first() {
         Some(first) if first.as_str() == "run" => read_run(alloc, words),

@@ -1,9 +1,27 @@
 //! Words, each with the options that they ask for.
 
+ghost use Rattle.std.specs.Prelude.{◌≡◌, Ok};
+
 use crate::read_words;
 use qc_types::{NoMemory, Options};
 use std::alloc::{AllocError, Global};
-use std::test::Fail;
+use std::fmt::Debug;
+use std::process::Abort;
+
+/// The value of an answer that has to be `Ok`.
+fn must<T, E: Debug + Drop>(rt: &impl Abort, answer: Result<T, E>) -> T
+    ensures { answer ≡ Ok result }
+{
+    match answer {
+        Ok(value) => value,
+        Err(error) => panic!(rt; "{error:?}"),
+    }
+}
+
+/// Asserts that the two are the same.
+fn same<T: PartialEq + Debug + Drop>(rt: &impl Abort, got: T, wanted: T) {
+    assert_eq!(rt; got, wanted);
+}
 
 /// Lines of words with one space between them, each with the size, limit, unit and type that they ask for.
 const TAKEN: [(&str, &str); 29] = [
@@ -140,29 +158,31 @@ fn told(alloc: Global, words: &[String]) -> Result<String, NoMemory> {
 }
 
 #[test]
-fn words_in_the_form(rt: HostRuntime) -> Result<(), Fail> {
+fn words_in_the_form(rt: HostRuntime) {
     let alloc = rt.alloc();
     for (line, shown) in TAKEN {
-        let words = words(alloc, line)?;
-        assert_eq!(rt; told(alloc, &words)?.as_str(), shown, "at {line}");
+        let words = must(&rt, words(alloc, line));
+        assert_eq!(rt; must(&rt, told(alloc, &words)).as_str(), shown, "at {line}");
     }
-    Ok(())
 }
 
 #[test]
-fn words_in_no_form(rt: HostRuntime) -> Result<(), Fail> {
+fn words_in_no_form(rt: HostRuntime) {
     let alloc = rt.alloc();
     for line in REFUSED {
-        let words = words(alloc, line)?;
-        assert_eq!(rt; told(alloc, &words)?.as_str(), "refused", "at {line}");
+        let words = must(&rt, words(alloc, line));
+        assert_eq!(rt;
+            must(&rt, told(alloc, &words)).as_str(),
+            "refused",
+            "at {line}"
+        );
     }
-    assert_eq!(rt; told(alloc, &[])?.as_str(), "refused");
-    Ok(())
+    same(&rt, must(&rt, told(alloc, &[])).as_str(), "refused");
 }
 
 /// Words that hold spaces.
 #[test]
-fn spaces_in_words(rt: HostRuntime) -> Result<(), Fail> {
+fn spaces_in_words(rt: HostRuntime) {
     let alloc = rt.alloc();
     let rows = [
         ["run", "--size", " 0"],
@@ -174,32 +194,38 @@ fn spaces_in_words(rt: HostRuntime) -> Result<(), Fail> {
     for row in rows {
         let mut words = Vec::new(alloc);
         for word in row {
-            words.push(String::from_str(alloc, word)?)?;
+            must(&rt, words.push(must(&rt, String::from_str(alloc, word))));
         }
-        assert_eq!(rt; told(alloc, &words)?.as_str(), "refused");
+        assert_eq!(rt; must(&rt, told(alloc, &words)).as_str(), "refused");
     }
-    Ok(())
 }
 
 /// Long words, and many of them.
 #[test]
-fn long_words_and_many_words(rt: HostRuntime) -> Result<(), Fail> {
+fn long_words_and_many_words(rt: HostRuntime) {
     let alloc = rt.alloc();
     let mut digits = String::new(alloc);
     for _ in 0..50_000 {
-        digits.push('7')?;
+        must(&rt, digits.push('7'));
     }
     for front in ["", "--", "run ", "run --", "run --size ", "run --size="] {
-        let line = format!(in alloc; "{front}{digits}")?;
-        let words = words(alloc, &line)?;
-        assert_eq!(rt; told(alloc, &words)?.as_str(), "refused", "behind {front}");
+        let line = must(&rt, format!(in alloc; "{front}{digits}"));
+        let words = must(&rt, words(alloc, &line));
+        assert_eq!(rt;
+            must(&rt, told(alloc, &words)).as_str(),
+            "refused",
+            "behind {front}"
+        );
     }
     for (front, word) in [("run", "--limit"), ("run --", "0"), ("run", "--limit=0")] {
-        let mut words = words(alloc, front)?;
+        let mut words = must(&rt, words(alloc, front));
         for _ in 0..5_000 {
-            words.push(String::from_str(alloc, word)?)?;
+            must(&rt, words.push(must(&rt, String::from_str(alloc, word))));
         }
-        assert_eq!(rt; told(alloc, &words)?.as_str(), "refused", "many {word}");
+        assert_eq!(rt;
+            must(&rt, told(alloc, &words)).as_str(),
+            "refused",
+            "many {word}"
+        );
     }
-    Ok(())
 }

@@ -12,7 +12,7 @@ ghost use Rattle.qc_write.specs.Parts.{column_of, columns_of, names_of, kind_of,
 use crate::outcome::Effect;
 use crate::target::check_database;
 use qc_errors::{duplicate_column, no_key_column, not_supported, table_exists, too_many_columns};
-use qc_resolve::full_name;
+use qc_sql::names::full_name;
 use qc_sql::statements::{Part, PartKind, TableRef};
 use qc_sql::tables::{Column, Columns, Kind, RowOp};
 use qc_table::Database;

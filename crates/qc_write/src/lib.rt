@@ -15,8 +15,6 @@ mod shape;
 mod stored_rows;
 mod tables;
 mod target;
-#[cfg(test)]
-mod tests;
 mod update;
 mod values;
 

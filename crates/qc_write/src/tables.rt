@@ -6,7 +6,7 @@ ghost use Rattle.qc_sql.specs.Effects as meant;
 use crate::outcome::Effect;
 use crate::target::{bind_target, check_database};
 use qc_errors::unknown_table;
-use qc_resolve::full_name;
+use qc_sql::names::full_name;
 use qc_sql::statements::TableRef;
 use qc_sql::tables::{Ops, RowOp};
 use qc_table::{Database, copy_of_columns};

@@ -1,11 +1,12 @@
 //! The tables that the texts are asked of.
 
 use super::fits::fits;
+use super::told::must;
 use qc_sql::tables::{Column, Columns, Kind, Ops, RowOp, StoredRow};
 use qc_table::Database;
 use qc_types::{NoMemory, TableName, Text, Value};
 use std::alloc::Global;
-use std::test::Fail;
+use std::process::Abort;
 
 /// A value of a row.
 #[derive(Clone, Copy)]
@@ -44,54 +45,54 @@ impl Making {
     }
 
     /// Carries out an operation, or fails where it doesn't fit.
-    fn carry_out(&mut self, op: RowOp) -> Result<(), Fail> {
-        self.database = made(self.alloc, &self.database, op)?;
-        Ok(())
+    fn carry_out(&mut self, rt: &impl Abort, op: RowOp) {
+        self.database = made(rt, self.alloc, &self.database, op);
     }
 
-    fn create_database(&mut self, name: &str) -> Result<(), Fail> {
-        self.carry_out(RowOp::CreateDb(Text::of(self.alloc, name.as_bytes())?))
+    fn create_database(&mut self, rt: &impl Abort, name: &str) {
+        self.carry_out(
+            rt,
+            RowOp::CreateDb(must(rt, Text::of(self.alloc, name.as_bytes()))),
+        )
     }
 
-    fn create_table(&mut self, db: &str, name: &str, parts: &[Part<'_>]) -> Result<(), Fail> {
-        let table = table_name(self.alloc, db, name)?;
-        let columns = columns_of(self.alloc, parts)?;
-        self.carry_out(RowOp::CreateTable(table, columns))
+    fn create_table(&mut self, rt: &impl Abort, db: &str, name: &str, parts: &[Part<'_>]) {
+        let table = must(rt, table_name(self.alloc, db, name));
+        let columns = must(rt, columns_of(self.alloc, parts));
+        self.carry_out(rt, RowOp::CreateTable(table, columns))
     }
 
-    fn put_row(&mut self, db: &str, name: &str, values: &[Given<'_>]) -> Result<(), Fail> {
-        let table = table_name(self.alloc, db, name)?;
-        let row = row_of(self.alloc, values)?;
-        self.carry_out(RowOp::Put(table, row))
+    fn put_row(&mut self, rt: &impl Abort, db: &str, name: &str, values: &[Given<'_>]) {
+        let table = must(rt, table_name(self.alloc, db, name));
+        let row = must(rt, row_of(self.alloc, values));
+        self.carry_out(rt, RowOp::Put(table, row))
     }
 
-    fn put_rows(&mut self, db: &str, name: &str, rows: &[[Given<'_>; 3]]) -> Result<(), Fail> {
+    fn put_rows(&mut self, rt: &impl Abort, db: &str, name: &str, rows: &[[Given<'_>; 3]]) {
         for row in rows {
-            self.put_row(db, name, row)?;
+            self.put_row(rt, db, name, row);
         }
-        Ok(())
     }
 
     /// A table whose one column has the numbers from 1 to a count.
-    fn create_count(&mut self, db: &str, name: &str, count: i64) -> Result<(), Fail> {
-        self.create_table(db, name, &[("id", Kind::Int, Holds::Key)])?;
+    fn create_count(&mut self, rt: &impl Abort, db: &str, name: &str, count: i64) {
+        self.create_table(rt, db, name, &[("id", Kind::Int, Holds::Key)]);
         for number in 1..=count {
-            self.put_row(db, name, &[Given::Int(number)])?;
+            self.put_row(rt, db, name, &[Given::Int(number)]);
         }
-        Ok(())
     }
 }
 
 /// What an operation makes of a database, where it fits.
-fn made(alloc: Global, database: &Database, op: RowOp) -> Result<Database, Fail> {
+fn made(rt: &impl Abort, alloc: Global, database: &Database, op: RowOp) -> Database {
     if !fits(&op, database) {
-        return Err(Fail::from("an operation doesn't fit the database"));
+        panic!(rt; "an operation doesn't fit the database");
     }
     let mut ops = Ops::new(alloc);
-    ops.push(op)?;
+    must(rt, ops.push(op));
     match database.apply(alloc, &ops) {
-        Ok(made) => Ok(made),
-        Err(_) => Err(Fail::from("a table is full, or memory lacks")),
+        Ok(made) => made,
+        Err(_) => panic!(rt; "a table is full, or memory lacks"),
     }
 }
 
@@ -128,19 +129,20 @@ fn row_of(alloc: Global, values: &[Given<'_>]) -> Result<StoredRow, NoMemory> {
 }
 
 /// The tables `d.t`, `d.s`, `d.e` and `o.t`.
-pub fn small(alloc: Global) -> Result<Database, Fail> {
-    let mut making = Making::new(alloc)?;
-    making.create_database("o")?;
-    making.create_database("d")?;
-    create_t(&mut making)?;
-    create_s(&mut making)?;
-    making.create_count("d", "e", 0)?;
-    create_other_t(&mut making)?;
-    Ok(making.database)
+pub fn small(rt: &impl Abort, alloc: Global) -> Database {
+    let mut making = must(rt, Making::new(alloc));
+    making.create_database(rt, "o");
+    making.create_database(rt, "d");
+    create_t(rt, &mut making);
+    create_s(rt, &mut making);
+    making.create_count(rt, "d", "e", 0);
+    create_other_t(rt, &mut making);
+    making.database
 }
 
-fn create_t(making: &mut Making) -> Result<(), Fail> {
+fn create_t(rt: &impl Abort, making: &mut Making) {
     making.create_table(
+        rt,
         "d",
         "t",
         &[
@@ -148,8 +150,9 @@ fn create_t(making: &mut Making) -> Result<(), Fail> {
             ("v", Kind::Int, Holds::Nulls),
             ("name", Kind::Str(10), Holds::Nulls),
         ],
-    )?;
+    );
     making.put_rows(
+        rt,
         "d",
         "t",
         &[
@@ -163,8 +166,9 @@ fn create_t(making: &mut Making) -> Result<(), Fail> {
     )
 }
 
-fn create_s(making: &mut Making) -> Result<(), Fail> {
+fn create_s(rt: &impl Abort, making: &mut Making) {
     making.create_table(
+        rt,
         "d",
         "s",
         &[
@@ -172,8 +176,9 @@ fn create_s(making: &mut Making) -> Result<(), Fail> {
             ("t_id", Kind::Int, Holds::Nulls),
             ("note", Kind::Str(5), Holds::NotNull),
         ],
-    )?;
+    );
     making.put_rows(
+        rt,
         "d",
         "s",
         &[
@@ -186,8 +191,9 @@ fn create_s(making: &mut Making) -> Result<(), Fail> {
     )
 }
 
-fn create_other_t(making: &mut Making) -> Result<(), Fail> {
+fn create_other_t(rt: &impl Abort, making: &mut Making) {
     making.create_table(
+        rt,
         "o",
         "t",
         &[
@@ -195,8 +201,9 @@ fn create_other_t(making: &mut Making) -> Result<(), Fail> {
             ("v", Kind::Int, Holds::NotNull),
             ("u", Kind::Int, Holds::Nulls),
         ],
-    )?;
+    );
     making.put_rows(
+        rt,
         "o",
         "t",
         &[
@@ -215,47 +222,50 @@ fn create_other_t(making: &mut Making) -> Result<(), Fail> {
 }
 
 /// A table `d.t` of the columns id and v.
-pub fn three_rows(alloc: Global) -> Result<Database, Fail> {
-    let mut making = Making::new(alloc)?;
-    making.create_database("d")?;
+pub fn three_rows(rt: &impl Abort, alloc: Global) -> Database {
+    let mut making = must(rt, Making::new(alloc));
+    making.create_database(rt, "d");
     making.create_table(
+        rt,
         "d",
         "t",
         &[
             ("id", Kind::Int, Holds::Key),
             ("v", Kind::Int, Holds::Nulls),
         ],
-    )?;
-    making.put_row("d", "t", &[Given::Int(1), Given::Null])?;
-    making.put_row("d", "t", &[Given::Int(2), Given::Int(5)])?;
-    making.put_row("d", "t", &[Given::Int(3), Given::Int(-5)])?;
-    Ok(making.database)
+    );
+    making.put_row(rt, "d", "t", &[Given::Int(1), Given::Null]);
+    making.put_row(rt, "d", "t", &[Given::Int(2), Given::Int(5)]);
+    making.put_row(rt, "d", "t", &[Given::Int(3), Given::Int(-5)]);
+    making.database
 }
 
 /// The tables `d.users (id, name)` and `d.orders (id, user_id, total)` of a shop.
-pub fn shop(alloc: Global) -> Result<Database, Fail> {
-    let mut making = Making::new(alloc)?;
-    making.create_database("d")?;
-    create_users(&mut making)?;
-    create_orders(&mut making)?;
-    Ok(making.database)
+pub fn shop(rt: &impl Abort, alloc: Global) -> Database {
+    let mut making = must(rt, Making::new(alloc));
+    making.create_database(rt, "d");
+    create_users(rt, &mut making);
+    create_orders(rt, &mut making);
+    making.database
 }
 
-fn create_users(making: &mut Making) -> Result<(), Fail> {
+fn create_users(rt: &impl Abort, making: &mut Making) {
     making.create_table(
+        rt,
         "d",
         "users",
         &[
             ("id", Kind::Int, Holds::Key),
             ("name", Kind::Str(40), Holds::NotNull),
         ],
-    )?;
-    making.put_row("d", "users", &[Given::Int(1), Given::Str("Ann")])?;
-    making.put_row("d", "users", &[Given::Int(2), Given::Str("Bob")])
+    );
+    making.put_row(rt, "d", "users", &[Given::Int(1), Given::Str("Ann")]);
+    making.put_row(rt, "d", "users", &[Given::Int(2), Given::Str("Bob")])
 }
 
-fn create_orders(making: &mut Making) -> Result<(), Fail> {
+fn create_orders(rt: &impl Abort, making: &mut Making) {
     making.create_table(
+        rt,
         "d",
         "orders",
         &[
@@ -263,8 +273,9 @@ fn create_orders(making: &mut Making) -> Result<(), Fail> {
             ("user_id", Kind::Int, Holds::NotNull),
             ("total", Kind::Int, Holds::Nulls),
         ],
-    )?;
+    );
     making.put_rows(
+        rt,
         "d",
         "orders",
         &[
@@ -276,41 +287,41 @@ fn create_orders(making: &mut Making) -> Result<(), Fail> {
 }
 
 /// The tables for what is large, in the database `d`.
-pub fn large(alloc: Global) -> Result<Database, Fail> {
-    let mut making = Making::new(alloc)?;
-    making.create_database("d")?;
+pub fn large(rt: &impl Abort, alloc: Global) -> Database {
+    let mut making = must(rt, Making::new(alloc));
+    making.create_database(rt, "d");
     for (name, count) in [("e", 0), ("two", 2), ("m", 32), ("n", 33), ("q", 256)] {
-        making.create_count("d", name, count)?;
+        making.create_count(rt, "d", name, count);
     }
-    create_wide(&mut making)?;
-    create_long(alloc, &mut making)?;
-    Ok(making.database)
+    create_wide(rt, &mut making);
+    create_long(rt, alloc, &mut making);
+    making.database
 }
 
 /// A table of 16 columns, a to p.
-fn create_wide(making: &mut Making) -> Result<(), Fail> {
+fn create_wide(rt: &impl Abort, making: &mut Making) {
     let mut parts = Vec::new(making.alloc);
-    parts.push(("a", Kind::Int, Holds::Key))?;
+    must(rt, parts.push(("a", Kind::Int, Holds::Key)));
     for name in "b c d e f g h i j k l m n o p".split(' ') {
-        parts.push((name, Kind::Int, Holds::Nulls))?;
+        must(rt, parts.push((name, Kind::Int, Holds::Nulls)));
     }
-    making.create_table("d", "wide", &parts)
+    making.create_table(rt, "d", "wide", &parts)
 }
 
 /// A table with texts of 65,535 bytes, of 65,534, and of none.
-fn create_long(alloc: Global, making: &mut Making) -> Result<(), Fail> {
+fn create_long(rt: &impl Abort, alloc: Global, making: &mut Making) {
     making.create_table(
+        rt,
         "d",
         "long",
         &[
             ("id", Kind::Int, Holds::Key),
             ("body", Kind::Str(65_535), Holds::NotNull),
         ],
-    )?;
-    let longest = "a".repeat(alloc, 65_535)?;
-    let shorter = "b".repeat(alloc, 65_534)?;
+    );
+    let longest = must(rt, "a".repeat(alloc, 65_535));
+    let shorter = must(rt, "b".repeat(alloc, 65_534));
     for (id, body) in [(1, longest.as_str()), (2, shorter.as_str()), (3, "")] {
-        making.put_row("d", "long", &[Given::Int(id), Given::Str(body)])?;
+        making.put_row(rt, "d", "long", &[Given::Int(id), Given::Str(body)]);
     }
-    Ok(())
 }

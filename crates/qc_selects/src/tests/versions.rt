@@ -3,31 +3,29 @@
 ghost use Rattle.std.specs.Prelude.{◌≡◌, ◌<◌};
 
 use super::database::small;
-use super::{PLAIN, Report, Shown, table};
+use super::told::must;
+use super::{PLAIN, Report, Shown, is_empty, table};
 use qc_sql::tables::Kind;
 use qc_table::{Database, TableVersion};
 use qc_types::{NoMemory, Steps, TableName, Text};
 use std::alloc::Global;
 use std::marker::Brand;
 use std::sync::ledger::{Blank, Ledger};
-use std::test::Fail;
 
 #[test]
-fn a_shared_database_stays(rt: HostRuntime) -> Result<(), Fail> {
+fn a_shared_database_stays(rt: HostRuntime) {
     let alloc = rt.alloc();
-    let database = small(alloc)?;
-    let shared = database.share()?;
+    let database = small(&rt, alloc);
+    let shared = must(&rt, database.share());
     drop(database);
     let mut report = Report::new(alloc, &shared, PLAIN, Shown::Rows);
-    report.compare_all(table::SOURCES)?;
-    let lines = report.lines;
-    assert!(rt; lines.is_empty(), "{lines}");
-    Ok(())
+    must(&rt, report.compare_all(table::SOURCES));
+    is_empty(&rt, &report.lines);
 }
 
 #[test]
-fn names_of_tables(rt: HostRuntime) -> Result<(), Fail> {
-    let database = small(rt.alloc())?;
+fn names_of_tables(rt: HostRuntime) {
+    let database = small(&rt, rt.alloc());
     let rows: [(&[u8], u64, Option<&[u8]>); 6] = [
         (b"d", 0, Some(b"e")),
         (b"d", 1, Some(b"s")),
@@ -39,11 +37,10 @@ fn names_of_tables(rt: HostRuntime) -> Result<(), Fail> {
     for (db, index, name) in rows {
         assert_eq!(rt; database.table_at(db, index), name);
     }
-    Ok(())
 }
 
 /// The numbers and the NULL bits of a column of numbers, where there is one at that index.
-fn column(alloc: Global, table: &TableVersion, index: u8) -> Result<String, Fail> {
+fn column(alloc: Global, table: &TableVersion, index: u8) -> Result<String, NoMemory> {
     column_by::<Brand>(alloc, table, index, Blank::new(1))
 }
 
@@ -53,7 +50,7 @@ fn column_by<L: Ledger>(
     table: &TableVersion,
     index: u8,
     blank: Blank,
-) -> Result<String, Fail>
+) -> Result<String, NoMemory>
     requires name { blank.name ≡ L.name }
     requires parts { blank.parts ≡ L.parts }
     requires one { 0 < blank.parts }
@@ -79,9 +76,9 @@ fn table_named(alloc: Global, name: &[u8]) -> Result<TableName, NoMemory> {
 }
 
 #[test]
-fn whole_columns(rt: HostRuntime) -> Result<(), Fail> {
+fn whole_columns(rt: HostRuntime) {
     let alloc = rt.alloc();
-    let database: Database = small(alloc)?;
+    let database: Database = small(&rt, alloc);
     let rows: [(&[u8], u8, &str); 7] = [
         (b"t", 0, "[-2, 1, 2, 3, 4, 7] [0]"),
         (b"t", 1, "[-5, 0, 5, 5, 0, 0] [34]"),
@@ -92,11 +89,10 @@ fn whole_columns(rt: HostRuntime) -> Result<(), Fail> {
         (b"e", 0, "[] []"),
     ];
     for (name, index, shown) in rows {
-        let Some(table) = database.table(&table_named(alloc, name)?) else {
-            return Err(Fail::new("no table"));
+        let Some(table) = database.table(&must(&rt, table_named(alloc, name))) else {
+            panic!(rt; "no table");
         };
-        let found = column(alloc, table, index)?;
+        let found = must(&rt, column(alloc, table, index));
         assert_eq!(rt; found.as_str(), shown);
     }
-    Ok(())
 }

@@ -1,0 +1,6 @@
+//! A session's state by its public calls.
+
+mod conflicts;
+mod sets;
+mod states;
+mod trial;

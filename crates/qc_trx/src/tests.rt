@@ -1,7 +1,0 @@
-//! A session's state by its public calls.
-
-mod conflicts;
-mod fits;
-mod sets;
-mod states;
-mod trial;
