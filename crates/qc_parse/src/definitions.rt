@@ -9,9 +9,10 @@ use crate::cursor::Cursor;
 use crate::halt::{Halt, halted, unsupported};
 use crate::lists::{Member, beside, closed, listed, open_bracket};
 use crate::names::{name, number, table};
-use crate::words::{in_capitals, is_reserved};
+use crate::words::is_reserved;
 use qc_lex::{Ahead, Lexeme};
 use qc_sql::statements::{Part, PartKind, Statement};
+use qc_sql::words::in_capitals;
 use qc_types::Or;
 use std::alloc::Global;
 

@@ -15,9 +15,10 @@ use crate::lists::beside;
 use crate::refusal::ParseRefusal;
 use crate::select::{look, select};
 use crate::settings::{flush, reset, set, show, start_transaction, use_database};
-use crate::words::{in_capitals, is_unsupported};
+use crate::words::is_unsupported;
 use qc_lex::{Ahead, LexRefusal, Lexeme, is_same_word};
 use qc_sql::statements::Statement;
+use qc_sql::words::in_capitals;
 use qc_types::{NoMemory, Or, Text};
 use std::alloc::Global;
 

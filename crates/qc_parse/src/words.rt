@@ -1,13 +1,10 @@
 //! Words that mean something.
 
-ghost use Rattle.std.specs.Prelude.{◌≡◌, map, IfOk};
-ghost use Rattle.qc_sql.specs.Rules.{capital, in_capitals};
+ghost use Rattle.std.specs.Prelude.{◌≡◌, map};
 ghost use Rattle.qc_sql.specs.Reading.{is_among, is_reserved};
 ghost use Rattle.qc_sql.specs.Grammar.{is_aggregate_word, is_plain_call, is_uncached_call, is_known_call, is_unsupported};
 
 use qc_lex::is_same_word;
-use qc_types::{NoMemory, Text};
-use std::alloc::Global;
 
 /// The words that are no names, in any case.
 static RESERVED: [&str; 50] = [
@@ -179,22 +176,4 @@ pub fn is_unsupported(word: &[u8]) -> bool
     ensures { result ≡ is_unsupported word.now }
 {
     is_one_of(word, &UNSUPPORTED)
-}
-
-/// A word in capitals: its ASCII letters, and all other bytes as they are. Linear in the word.
-pub fn in_capitals(alloc: Global, word: &[u8]) -> Result<Text, NoMemory>
-    ensures { IfOk result (λ capitals. capitals ≡ in_capitals word.now) }
-{
-    let mut capitals = Vec::new(alloc);
-    for byte in word {
-        capitals.push(capital(*byte))?;
-    }
-    Ok(Text::from_vec(capitals))
-}
-
-/// An ASCII letter in capitals, and any other byte as it is.
-fn capital(byte: u8) -> u8
-    ensures { result ≡ capital byte }
-{
-    byte.to_ascii_uppercase()
 }

@@ -3,7 +3,7 @@
 ghost use Rattle.std.specs.Prelude.{◌≡◌, IfOk};
 ghost use Rattle.qc_sql.specs.Rows as meant;
 ghost use Rattle.qc_sql.specs.Rows.{each};
-ghost use Rattle.qc_sql.specs.Rules.{in_capitals, capital};
+ghost use Rattle.qc_sql.specs.Rules.{in_capitals};
 ghost use Rattle.qc_types.specs.Answers.{Gives};
 ghost use Rattle.qc_resolve.specs.declared.formula.Formula.TheVariants as form;
 ghost use Rattle.qc_resolve.specs.Columns.{found_at};
@@ -16,6 +16,7 @@ use crate::scope::Scope;
 use qc_errors::not_supported;
 use qc_sql::statements::Expr;
 use qc_sql::tables::Kind;
+use qc_sql::words::in_capitals;
 use qc_types::{Boxed, Duplicate, NoMemory, Or, SqlError, Text, Value};
 use std::alloc::Global;
 
@@ -187,23 +188,6 @@ fn database_value(alloc: Global, db: &Text) -> Result<Value, NoMemory>
         return Ok(Value::Null);
     }
     Ok(Value::Str(db.copy(alloc)?))
-}
-
-fn in_capitals(alloc: Global, word: &[u8]) -> Result<Text, NoMemory>
-    ensures { IfOk result (λ t. t ≡ in_capitals word.now) }
-{
-    let bytes: Vec<u8> = word.iter().map(|byte| capital(*byte)).collect(alloc)?;
-    Ok(Text::from_vec(bytes))
-}
-
-fn capital(byte: u8) -> u8
-    ensures { result ≡ capital byte }
-{
-    if byte.is_ascii_lowercase() {
-        byte - 32
-    } else {
-        byte
-    }
 }
 
 pub fn sort_of_kind(kind: Kind) -> Sort

@@ -1,14 +1,19 @@
 -- Laws of runs.
-use Rattle.std.specs.Prelude.{◌≡◌, ℕ, ◌≤◌, ◌<◌, true, List, [], ◌∷◌, ◌++◌, length}
+use Rattle.std.specs.Prelude.{◌≡◌, Bool, ℕ, ◌≤◌, ◌<◌, true, List, [], ◌∷◌, ◌++◌, length}
 use Rattle.qc_sql.specs.declared.commands.Command.{Command}
 use Rattle.qc_types.specs.declared.options.Options.{Options}
 use Rattle.qc_model.specs.declared.reports.ReportLine.{ReportLine}
+use Rattle.qc_model.specs.Session.{State}
 use Rattle.qc_model.specs.Journal.{Journal, events_of}
-use Rattle.qc_model.specs.Agrees.{Machine, AreLines, numbered_events, fill_ends, inputs_of, Agrees}
+use Rattle.qc_model.specs.Agrees.{Machine, machine_taking, whole_machine, AreLines, numbered_events, fill_ends, inputs_of, Agrees}
 use Rattle.qc_model.specs.declared.reports.Script.{Script}
 use Rattle.qc_model.specs.declared.reports.SessionReport.{SessionReport}
 use Rattle.std.specs.List.{list_all}
 use Rattle.qc_sessions.specs.Runs.{StartsWith, Stand, stand, own, Runs, Answers, AreServed, IsOne, numbers, report_of, HaveEnded, IsClosed, HasItsEvent}
+
+-- of the machine of all commands, and of each that takes some of them
+abbrev pub OfEach : (Machine → Type 0) → Type 0
+OfEach P = P whole_machine × ((takes : State → Journal → Command → Bool) → P (machine_taking takes))
 
 -- a further run goes on with a run
 abbrev pub RunsCompose : Machine → Type 0
