@@ -13,7 +13,7 @@ use Rattle.qc_sql.specs.declared.statements.Statement.TheVariants as statement
 use Rattle.qc_sql.specs.declared.statements.TableRef.{TableRef}
 use Rattle.qc_sql.specs.Tokens.{lexed, trimmed}
 use Rattle.qc_sql.specs.Reading.{is_reserved, opened}
-use Rattle.qc_sql.specs.Grammar.{ParseFault, Syntax, Unsupported, TooManyTables, meaning, alias, any_statement, any_text, at_end, cache_word, call_word, column, condition, create, create_table, dotted, ends_value, from, from_part, insert, item, items, joined, key_part, limit_part, literal, lock_part, look, member_at, names_part, no_option, null_part, one_too_many, order_part, part, part_kind, primary_key, select, signed, source, table, tuple, where_part, whole, call_at, bare_literal, column_part, key_of_table, other_statement, one_word, is_unsupported, is_aggregate_word, is_plain_call, is_uncached_call, further_source, too_many}
+use Rattle.qc_sql.specs.Grammar.{ParseFault, Syntax, Unsupported, TooManyTables, meaning, alias, any_statement, any_text, at_end, cache_word, call_word, column, condition, create, create_table, dotted, ends_value, from, from_part, insert, item, items, joined, key_part, limit_part, literal, lock_part, look, member_at, names_part, no_option, null_part, one_too_many, order_part, part, part_kind, primary_key, select, signed, source, table, tuple, where_part, whole, call_at, bare_literal, column_part, key_of_table, other_statement, one_word, is_unsupported, is_aggregate_word, is_plain_call, is_uncached_call, further_source, too_many, create_statement}
 
 -- a text's statement, or why it is none
 read : List ℕ → Result Statement ParseFault
@@ -39,19 +39,19 @@ abbrev item_id : Option (List ℕ) → ℕ → List ℕ → Item
 item_id name to words = record { value = expr.Column (record { source = None; name = codes "id" }); name = name; from = 7; to = to; words = words }
 
 database : read (codes "create database e") ≡ Ok (statement.CreateDb (codes "e"))
-unfolding read meaning lexed trimmed any_text whole any_statement other_statement one_word is_unsupported create at_end look is_reserved opened
+unfolding read meaning lexed trimmed any_text whole any_statement other_statement one_word is_unsupported create create_statement at_end look is_reserved opened
 database = refl
 
 quoted_database : read (codes " CREATE DATABASE `e` ; ") ≡ Ok (statement.CreateDb (codes "e"))
-unfolding read meaning lexed trimmed any_text whole any_statement other_statement one_word is_unsupported create at_end look is_reserved opened
+unfolding read meaning lexed trimmed any_text whole any_statement other_statement one_word is_unsupported create create_statement at_end look is_reserved opened
 quoted_database = refl
 
 reserved_word : read (codes "CREATE DATABASE sELECT") ≡ Err (Syntax 16)
-unfolding read meaning lexed trimmed any_text whole any_statement other_statement one_word is_unsupported create at_end look is_reserved opened
+unfolding read meaning lexed trimmed any_text whole any_statement other_statement one_word is_unsupported create create_statement at_end look is_reserved opened
 reserved_word = refl
 
 spaced_table : read (codes "CREATE  TABLE u  (  id BIGINT PRIMARY KEY  )") ≡ Ok (statement.CreateTable (table_named (codes "u")) (piece.Column (codes "id") typed.BigInt false true ∷ []))
-unfolding read meaning lexed trimmed any_text whole any_statement other_statement one_word is_unsupported create create_table table dotted part part_kind column_part key_of_table null_part key_part primary_key no_option at_end look is_reserved opened
+unfolding read meaning lexed trimmed any_text whole any_statement other_statement one_word is_unsupported create create_statement create_table table dotted part part_kind column_part key_of_table null_part key_part primary_key no_option at_end look is_reserved opened
 spaced_table = refl
 
 row : read (codes "INSERT INTO t VALUES (007)") ≡ Ok (row_of (pos 7))

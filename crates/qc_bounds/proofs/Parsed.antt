@@ -22,7 +22,7 @@ use Rattle.qc_sql.specs.Tokens.{lexed}
 use Rattle.qc_sql.specs.Reading.{ParseFault, Unread, Stop, Refused, Reader, pure, then_read, ◌>>=◌, next_is, at_token, at_word, at_sign, at_name, at_number, at_words, is_among, name_in, word_in}
 use Rattle.qc_sql.specs.Reading as reading
 use Rattle.qc_sql.specs.Grammar as rule
-use Rattle.qc_sql.specs.Grammar.{is_arithmetic, at_literal, at_call, at_aggregate, is_known_call, op_ahead, op_in, negated, grouped, like_at, at_further, with_source, span_text, no_from, all_conds, other_kind, is_pattern, other_show, unsupported_at}
+use Rattle.qc_sql.specs.Grammar.{is_arithmetic, at_literal, at_call, at_aggregate, is_known_call, op_ahead, op_in, negated, grouped, like_at, at_further, with_source, span_text, no_from, all_conds, other_kind, is_pattern, other_create, other_drop, other_show, unsupported_at}
 use Rattle.qc_bounds.specs.Names.{is_short, is_bounded_value, are_short_tokens, passes_if_there, is_short_column, is_short_value_at, is_short_value, is_short_cond_at, is_short_cond, is_short_table, is_short_item, is_short_source, is_short_order, says_what, is_short_right, is_short_assignment, is_short_part, is_short_setting, is_short_statement}
 use Rattle.qc_bounds.specs.Laws.{ParsedNamesAreShort}
 use Rattle.qc_bounds.proofs.Tokens.{tokens_are_short}
@@ -426,19 +426,27 @@ create_table_short : Passes is_short_statement rule.create_table
 unfolding rule.create_table
 create_table_short = after (at_the_word (codes "TABLE")) (λ _ _. after table_short (λ t h. after (bracketed_passes (listed_pass part_short)) (λ parts g. after no_option_passes (λ _ _. gives (both h g)))))
 
-create_short : Passes is_short_statement rule.create
-unfolding rule.create
-create_short =
+create_statement_short : Passes is_short_statement rule.create_statement
+unfolding rule.create_statement
+create_statement_short =
     after (at_the_word (codes "CREATE")) (λ _ _.
     either (at_word (codes "DATABASE")) (after (at_the_word (codes "DATABASE")) (λ _ _. after name_passes (λ n h. gives h)))
     (either (at_word (codes "TABLE")) create_table_short refuses_any))
 
-dropped_short : Passes is_short_statement rule.dropped
-unfolding rule.dropped
-dropped_short =
+create_short : Passes is_short_statement rule.create
+unfolding rule.create
+create_short = in_place other_create create_statement_short
+
+drop_statement_short : Passes is_short_statement rule.drop_statement
+unfolding rule.drop_statement
+drop_statement_short =
     after (at_the_word (codes "DROP")) (λ _ _.
     either (at_word (codes "DATABASE")) (after (at_the_word (codes "DATABASE")) (λ _ _. after name_passes (λ n h. gives h)))
     (either (at_word (codes "TABLE")) (after (at_the_word (codes "TABLE")) (λ _ _. after table_short (λ t h. gives h))) refuses_any))
+
+dropped_short : Passes is_short_statement rule.dropped
+unfolding rule.dropped
+dropped_short = in_place other_drop drop_statement_short
 
 -- ---- the others
 

@@ -13,7 +13,7 @@ use Rattle.qc_sql.specs.Words.{when}
 use Rattle.qc_sql.specs.Rules.{same_word}
 use Rattle.qc_sql.specs.Database.{Name}
 use Rattle.qc_sql.specs.Tokens.{Lexeme, Word, Token}
-use Rattle.qc_sql.specs.Reading.{TooManyTables, Unread, Refused, Reader, refuse_any, pure, ◌>>=◌, stop, refuse, token_is, next_is, reads, next, branch, passed, separated, listed, opened, bracketed, in_place_of_syntax, is_word, is_sign, word_in, name_in}
+use Rattle.qc_sql.specs.Reading.{TooManyTables, Unread, Refused, Reader, refuse_any, pure, ◌>>=◌, stop, refuse, token_is, next_is, reads, next, branch, passed, separated, listed, opened, bracketed, in_place_of_syntax, is_word, is_sign, word_in, name_in, at_word, at_token}
 use Rattle.qc_sql.specs.Grammar.{dotted, table, column, ends_value, signed, bare_literal, literal, tuple, at_literal, begins_call, at_call, call_word, is_known_call, column_argument, call_of, value_of, call_at, value_at, null_test, in_test, op_first, op_in, op_ahead, like_at, negated, grouped, joined_by, any_of, member_of, test_of, test_behind, member_at, most_open, condition, alias, item, source, look, one_too_many, join_words, at_further, further_source, too_many, joined, with_source, Joined, order, limit, cache_word, items, where_part, order_part, from, from_part, limit_part, lock_part, select, names_part, insert, right_side, assignment, update, delete, truncate, part_kind, null_part, primary_key, key_part, part, no_option, create_table, create_statement, other_create, create, drop_statement, other_drop, dropped, use_database, start_transaction, flush, reset, show_status, other_show, show, set_value, set_variable, setting_of, set, simple, unsupported_lexeme, unsupported_first, any_statement, at_end, whole, unsupported_at, other_type, length_part, key_of_table, column_part, no_second, one_word, other_statement}
 use Rattle.qc_parse.specs.Laws.{without_span, without_spans}
 
