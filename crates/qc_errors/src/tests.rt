@@ -11,7 +11,6 @@ use std::alloc::Global;
 use std::fmt::Debug;
 use std::process::Abort;
 
-
 /// The value of an answer that has to be `Ok`.
 fn must<T, E: Debug + Drop>(rt: &impl Abort, answer: Result<T, E>) -> T
     ensures { answer ≡ Ok result }

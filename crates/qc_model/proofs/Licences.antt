@@ -797,10 +797,16 @@ nothing_is_lawful = tt
 
 -- three commits that fit and a run, numbered 1 to 4
 ready_is_lawful : IsLawful (sized 1024 512 66) ready
-ready_is_lawful = ((record { next = refl; not_filling = refl }, record { some = omega arith; fit = refl; not_full = refl }),
-    ((record { next = refl; not_filling = refl }, record { some = omega arith; fit = refl; not_full = refl }),
-    ((record { next = refl; not_filling = refl }, tt),
-    ((record { next = refl; not_filling = refl }, record { some = omega arith; fit = refl; not_full = refl }), tt))))
+ready_is_lawful = (
+  (record { next = refl; not_filling = refl }, record { some = omega arith; fit = refl; not_full = refl }),
+  (
+    (record { next = refl; not_filling = refl }, record { some = omega arith; fit = refl; not_full = refl }),
+    (
+      (record { next = refl; not_filling = refl }, tt),
+      ((record { next = refl; not_filling = refl }, record { some = omega arith; fit = refl; not_full = refl }), tt),
+    ),
+  ),
+)
 
 -- two sessions count their own events; a flush of one and a reset of the other
 two_sessions : IsLawful (sized 0 512 66) (event.Flush (a 1) ∷ event.Reset (b 1) ∷ event.Flush (b 2) ∷ event.Reset (a 2) ∷ [])
