@@ -90,6 +90,7 @@ fn put_rows<L: Ledger>(
 /// Puts the values of the row on which a plan stands into cells.
 fn fill(plan: &Plan, columns: u8, cells: &mut RowCells) -> Result<(), NoMemory>
     requires on { IsSome plan.now.row }
+    requires columns { length plan.now.columns ≡ columns }
     requires count { length (row_of plan.now) ≡ columns }
     ensures { OnOk result (cell_texts cells.new ≡ map text_of (row_of plan.now)) }
 {

@@ -1,7 +1,6 @@
 //! What a SELECT gives, as a line.
 
-ghost use Rattle.std.specs.Prelude.{◌≡◌, ◌<◌, length, IfOk, IsSomeAnd};
-ghost use Rattle.qc_selects.specs.Widths.{AreLeft, Fill};
+ghost use Rattle.std.specs.Prelude.{◌≡◌, ◌<◌, IsSome};
 
 use qc_errors::{not_supported, syntax_error, too_many_tables};
 use qc_eval::Plan;
@@ -55,15 +54,12 @@ pub fn columns_given(
 }
 
 /// A text, judged.
-#[tactic(auto, using(crate::proofs::Widths::plan_fills))]
 fn prepared(
     alloc: Global,
     database: &Database,
     session: Session<'_>,
     text: &[u8],
-) -> Result<Plan, Or<SqlError>>
-    ensures { IfOk result (λ plan. Fill (length plan.columns) plan.rows) }
-{
+) -> Result<Plan, Or<SqlError>> {
     let select = parsed(alloc, text, session.flags.ansi)?;
     Plan::prepare(
         alloc,
@@ -106,9 +102,7 @@ fn error_line(alloc: Global, error: &SqlError) -> Result<Vec<u8>, NoMemory> {
     Ok(line)
 }
 
-fn rows_line(alloc: Global, plan: Plan) -> Result<Vec<u8>, NoMemory>
-    requires { Fill (length plan.columns) plan.rows }
-{
+fn rows_line(alloc: Global, plan: Plan) -> Result<Vec<u8>, NoMemory> {
     rows_line_by::<Brand>(alloc, plan, Blank::new(1))
 }
 
@@ -117,7 +111,6 @@ fn rows_line_by<L: Ledger>(alloc: Global, mut plan: Plan, blank: Blank) -> Resul
     requires name { blank.name ≡ L.name }
     requires parts { blank.parts ≡ L.parts }
     requires one { 0 < blank.parts }
-    requires rows { Fill (length plan.columns) plan.rows }
 {
     let mut steps = Steps::<L>::new(blank);
     plan.load(alloc, &mut steps)?;
@@ -145,22 +138,22 @@ fn put_rows<L: Ledger>(
     line: &mut Vec<u8>,
     steps: &mut Steps<L>,
 ) -> Result<(), NoMemory>
-    requires { AreLeft (length plan.old.columns) plan.old.left }
+    requires { IsSome plan.old.left }
 {
-    let columns = plan.columns().len() as u8;
     let mut between: &[u8] = b" ";
     while plan.next(steps) {
         line.extend_from_slice(between)?;
-        put_row(alloc, plan, columns, line)?;
+        put_row(alloc, plan, line)?;
         between = b" | ";
     }
     Ok(())
 }
 
 /// The row on which a plan stands.
-fn put_row(alloc: Global, plan: &Plan, columns: u8, line: &mut Vec<u8>) -> Result<(), NoMemory>
-    requires { IsSomeAnd plan.now.row (λ row. length row ≡ columns) }
+fn put_row(alloc: Global, plan: &Plan, line: &mut Vec<u8>) -> Result<(), NoMemory>
+    requires { IsSome plan.now.row }
 {
+    let columns = plan.columns().len() as u8;
     let mut between: &[u8] = b"";
     for column in 0..columns {
         line.extend_from_slice(between)?;

@@ -1,9 +1,9 @@
-use Rattle.qc_selects.specs.Widths.{AreLeft}
+use Rattle.std.specs.Prelude.{IsSome}
 use Rattle.qc_selects.proofs.Walks.{left_count}
 use Rattle.qc_selects.proofs.tests.show.put_rows.Given as goal
 
 abbrev pub invariant-loop-between : goal.invariant-loop-between
-invariant-loop-between g l = AreLeft l.columns l.plan.left
+invariant-loop-between g l = IsSome l.plan.left
 
 abbrev pub decreases-loop-between : goal.decreases-loop-between
 decreases-loop-between g l = left_count l.plan.left
