@@ -4,6 +4,8 @@
 #[cfg(test)]
 mod packets;
 #[cfg(test)]
+mod replies;
+#[cfg(test)]
 mod scripts;
 #[cfg(test)]
 mod told;

@@ -8,7 +8,5 @@ mod payload;
 mod reply;
 mod rows;
 mod single;
-#[cfg(test)]
-mod tests;
 
 pub use reply::read_reply;
