@@ -2,7 +2,6 @@
 
 ghost use Rattle.std.specs.Prelude.{◌≡◌, true, false, None, Ok, OnOk, is_ok, unwrap_or};
 ghost use Rattle.qc_sql.specs.declared.statements.Statement.TheVariants as statement;
-ghost use Rattle.qc_sql.specs.declared.statements.SetValue.TheVariants as to;
 ghost use Rattle.qc_bounds.specs.Names.{is_short_setting};
 ghost use Rattle.qc_model.specs.Session.{with_transaction};
 ghost use Rattle.qc_model.specs.Settings as settings;
@@ -15,7 +14,8 @@ ghost use Rattle.qc_single.specs.Sound.{next_who};
 use crate::ending::Ending;
 use crate::session::Session;
 use qc_lex::is_same_word;
-use qc_sql::statements::{SetValue, Setting};
+use qc_sql::statements::Setting;
+use qc_trx::switch;
 use qc_types::{NoMemory, Or};
 use std::alloc::Global;
 
@@ -110,20 +110,12 @@ pub(crate) fn is_autocommit(setting: &Setting) -> bool
     }
 }
 
-/// Whether the value is 1 or ON.
+/// Whether the value switches the variable on.
 pub(crate) fn switches_on(setting: &Setting) -> bool
     ensures { result ≡ unwrap_or (switched setting.now) false }
 {
     match setting {
         Setting::Names(_) => false,
-        Setting::Variable(_, SetValue::Number(number)) => *number == 1,
-        Setting::Variable(_, SetValue::Word(word)) => is_on(word.bytes()),
-        Setting::Variable(_, SetValue::Str(_) | SetValue::Default) => false,
+        Setting::Variable(_, value) => switch(value).unwrap_or(false),
     }
-}
-
-fn is_on(word: &[u8]) -> bool
-    ensures { result ≡ unwrap_or (settings.switch (to.Word word.now)) false }
-{
-    !is_same_word(word, b"OFF") && is_same_word(word, b"ON")
 }

@@ -10,4 +10,5 @@ mod state;
 mod writes;
 
 pub use conflict::Conflict;
+pub use settings::switch;
 pub use state::SessionState;

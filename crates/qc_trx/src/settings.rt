@@ -21,8 +21,8 @@ pub(crate) const UTF8: u16 = 33;
 /// The collation of utf8mb4, by its number.
 const UTF8MB4: u16 = 45;
 
-/// ON or OFF, or 1 or 0.
-pub(crate) fn switch(value: &SetValue) -> Option<bool>
+/// Whether a value switches a variable on or off: ON or 1, or OFF or 0, in any case. `None` for any other, which the variable doesn't take.
+pub fn switch(value: &SetValue) -> Option<bool>
     ensures { result ≡ settings.switch value.now }
 {
     match value {
