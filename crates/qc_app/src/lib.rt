@@ -1,6 +1,7 @@
 //! The program: from the words of the command line and an input to the bytes of a report.
 #![tactic(auto)]
 
+mod message;
 mod reading;
 mod run;
 mod standard;

@@ -4,7 +4,7 @@ mod cached;
 
 ghost use Rattle.std.specs.Prelude.{◌<◌, ◌≤◌, IfOk, vec_len, ◌≡◌, Ok};
 
-use crate::{Ended, Ending, StdSink, StdSource, Word, qcache_main};
+use crate::{Ended, Ending, ScriptRefusal, StdSink, StdSource, Word, qcache_main};
 use qc_types::{BytesSink, BytesSource, Options, PutStep, ReadStep, Sink, Source};
 use std::alloc::{AllocError, Global};
 use std::fmt::Debug;
@@ -1126,4 +1126,46 @@ fn many_inserts(rt: HostRuntime) {
     };
     same(&rt, report.journal.items().len(), 20_023usize);
     same(&rt, report.counters.not_cached, 1u64);
+}
+
+/// What is told of a call that ended with this status, and with this refusal where one is named.
+fn message_is(
+    rt: &impl Abort,
+    alloc: Global,
+    status: u8,
+    bad: Option<ScriptRefusal>,
+    wanted: &str,
+) {
+    let ended = Ended {
+        status,
+        report: None,
+        bad,
+    };
+    let told = must(rt, ended.to_string(alloc));
+    same(rt, told.as_str(), wanted);
+}
+
+#[test]
+fn messages(rt: HostRuntime) {
+    let usage =
+        "usage: qcache run [--size N] [--limit N] [--unit N] [--type N] or qcache workload N";
+    message_is(&rt, rt.alloc(), 0, None, "");
+    message_is(&rt, rt.alloc(), 1, None, usage);
+    message_is(
+        &rt,
+        rt.alloc(),
+        2,
+        Some(ScriptRefusal::BadLine(12)),
+        "script: bad line 12",
+    );
+    message_is(
+        &rt,
+        rt.alloc(),
+        2,
+        Some(ScriptRefusal::InputTooLong),
+        "script: input too long",
+    );
+    message_is(&rt, rt.alloc(), 3, None, "read fault");
+    message_is(&rt, rt.alloc(), 4, None, "write fault");
+    message_is(&rt, rt.alloc(), 5, None, "no memory");
 }

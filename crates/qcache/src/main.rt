@@ -6,9 +6,6 @@ use std::env;
 use std::io::{self, ErrorKind};
 use std::process::ExitCode;
 
-const USAGE: &str =
-    "usage: qcache run [--size N] [--limit N] [--unit N] [--type N] or qcache workload N";
-
 fn main(rt: HostRuntime) -> ExitCode {
     let ended = run(&rt);
     // Whether the standard error takes the message changes nothing of how the run ended.
@@ -41,12 +38,8 @@ fn words(rt: &HostRuntime) -> io::Result<Vec<String>> {
 
 /// Tells the fault on the standard error.
 fn tell(rt: &HostRuntime, ended: &Ended) -> io::Result<()> {
-    match (ended.status, &ended.bad) {
-        (2, Some(refusal)) => eprintln!(rt; "{refusal}"),
-        (1, _) => eprintln!(rt; "{USAGE}"),
-        (3, _) => eprintln!(rt; "read fault"),
-        (4, _) => eprintln!(rt; "write fault"),
-        (5, _) => eprintln!(rt; "no memory"),
-        _ => Ok(()),
+    if ended.status == 0 {
+        return Ok(());
     }
+    eprintln!(rt; "{ended}")
 }
