@@ -153,7 +153,8 @@ fn put_rows<L: Ledger>(
 fn put_row(alloc: Global, plan: &Plan, line: &mut Vec<u8>) -> Result<(), NoMemory>
     requires { IsSome plan.now.row }
 {
-    let columns = plan.columns().len() as u8;
+    // (no result has more than 64)
+    let columns = plan.columns().len().min(64) as u8;
     let mut between: &[u8] = b"";
     for column in 0..columns {
         line.extend_from_slice(between)?;
