@@ -10,8 +10,8 @@ use Rattle.qc_trx.proofs.Aboves.{present_after}
 use Rattle.qc_changes.proofs.Trials.{further}
 use Rattle.qc_changes.proofs.transactions.trial.Trial.commit.Goals as goal
 
-pub invariant_of-self-2 : goal.invariant_of-self-2
-invariant_of-self-2 g c =
+pub invariant_of-self : goal.invariant_of-self
+invariant_of-self g c =
     let t = c.self.inside in
     let journal = t.journal.events in
     let e : Event = event.Commit (record { session = 2; number = 1 }) c.push.new.self in

@@ -9,8 +9,8 @@ use Rattle.qc_trx.proofs.Aboves.{present_after}
 use Rattle.qc_changes.proofs.Trials.{reads_on}
 use Rattle.qc_changes.proofs.transactions.trial.Trial.read.Goals as goal
 
-pub invariant_of-self-2 : goal.invariant_of-self-2
-invariant_of-self-2 g c =
+pub invariant_of-self : goal.invariant_of-self
+invariant_of-self g c =
     let t = c.self.inside in
     let journal = t.journal.events in
     let e : Event = event.Run (record { session = 1; number = 1 }) how.Other in
