@@ -46,7 +46,7 @@ quoted_database : read (codes " CREATE DATABASE `e` ; ") ≡ Ok (statement.Creat
 unfolding read meaning lexed trimmed any_text whole any_statement other_statement one_word is_unsupported create create_statement at_end look is_reserved opened
 quoted_database = refl
 
-reserved_word : read (codes "CREATE DATABASE sELECT") ≡ Err (Syntax 16)
+reserved_word : read (codes "CREATE DATABASE sELECT") ≡ Err (Unsupported (codes "CREATE"))
 unfolding read meaning lexed trimmed any_text whole any_statement other_statement one_word is_unsupported create create_statement at_end look is_reserved opened
 reserved_word = refl
 

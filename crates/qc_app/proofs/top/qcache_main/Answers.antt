@@ -13,7 +13,7 @@ pub returns-in-Err-Other-clause-refusal : goal.returns-in-Err-Other-clause-refus
 returns-in-Err-Other-clause-refusal g c =
     let left = g.S.Source.left in
     let refusal = c.in-Err-Other.refusal in
-    let means = given_refusal c.read_script.result c.in-Err-Other.field-0 refusal (script_of c.deref.result.now) c.in-Err-Other.is c.in-Err-Other.field-0-is c.read_script.ensures in
+    let means = given_refusal c.read_script.result c.in-Err-Other.field-0 refusal (script_of c.deref.result.now) c.in-Err-Other.is c.in-Err-Other.field-0-is c.read_script.ensures.script in
     let read = c.in-Ok.ensures.bytes in
     subst (λ (e : Ended). IfSome e.bad (RefusesInput (left c.args.input.now))) (sym c.refused.ensures)
     (subst (RefusesInput (left c.args.input.now)) (sym c.in-Err-Other.refusal-is)
@@ -23,19 +23,19 @@ pub returns-in-Err-Other-clause-completes : goal.returns-in-Err-Other-clause-com
 returns-in-Err-Other-clause-completes g c = λ chosen tells quiet still.
     let left = g.S.Source.left in
     let refusal = c.in-Err-Other.refusal in
-    let means = given_refusal c.read_script.result c.in-Err-Other.field-0 refusal (script_of c.deref.result.now) c.in-Err-Other.is c.in-Err-Other.field-0-is c.read_script.ensures in
+    let means = given_refusal c.read_script.result c.in-Err-Other.field-0 refusal (script_of c.deref.result.now) c.in-Err-Other.is c.in-Err-Other.field-0-is c.read_script.ensures.script in
     not_taken (left c.args.input.now) (left c.read_input.new.input) c.in-Ok.bytes.items refusal c.in-Ok.ensures.bytes (ap script_of (sym c.deref.ensures.value) ∙ means) tells
 
 pub run_script-requires-clause-words : goal.run_script-requires-clause-words
 run_script-requires-clause-words g c =
     let words = map (string_bytes {Z = Global}) c.args.words.now in
     words_have words c.in-Ok-Some.options
-    (words_given c.read_words.result c.in-Ok-Some.field-0 c.in-Ok-Some.options (options_of words) c.in-Ok-Some.is c.in-Ok-Some.field-0-is c.read_words.ensures)
+    (words_given c.read_words.result c.in-Ok-Some.field-0 c.in-Ok-Some.options (options_of words) c.in-Ok-Some.is c.in-Ok-Some.field-0-is c.read_words.ensures.options)
 
 pub run_script-requires-clause-small : goal.run_script-requires-clause-small
 run_script-requires-clause-small g c =
     script_is_small c.deref.result.now c.in-Ok-read_script.script
-    (given c.read_script.result c.in-Ok-read_script.script (script_of c.deref.result.now) c.in-Ok-read_script.is c.read_script.ensures)
+    (given c.read_script.result c.in-Ok-read_script.script (script_of c.deref.result.now) c.in-Ok-read_script.is c.read_script.ensures.script)
 
 pub returns-in-Ok-run_script-clause-agrees : goal.returns-in-Ok-run_script-clause-agrees
 returns-in-Ok-run_script-clause-agrees g c =
@@ -43,12 +43,12 @@ returns-in-Ok-run_script-clause-agrees g c =
     let left = g.S.Source.left in
     let script = c.in-Ok-read_script.script in
     let report = c.in-Ok-run_script.report in
-    let means = given c.read_script.result script (script_of c.deref.result.now) c.in-Ok-read_script.is c.read_script.ensures in
+    let means = given c.read_script.result script (script_of c.deref.result.now) c.in-Ok-read_script.is c.read_script.ensures.script in
     if_some (λ (r : Report). r ≡ report) (IsRunOf words (left c.args.input.now) (left c.read_input.new.input))
     (λ r same. subst (IsRunOf words (left c.args.input.now) (left c.read_input.new.input)) (sym same)
     (run_is words (left c.args.input.now) (left c.read_input.new.input) c.in-Ok.bytes.items script c.in-Ok-Some.options report c.in-Ok.ensures.bytes
     (ap script_of (sym c.deref.ensures.value) ∙ means)
-    (words_given c.read_words.result c.in-Ok-Some.field-0 c.in-Ok-Some.options (options_of words) c.in-Ok-Some.is c.in-Ok-Some.field-0-is c.read_words.ensures)
+    (words_given c.read_words.result c.in-Ok-Some.field-0 c.in-Ok-Some.options (options_of words) c.in-Ok-Some.is c.in-Ok-Some.field-0-is c.read_words.ensures.options)
     c.in-Ok-run_script.ensures.agrees))
     c.write_report.result.report c.write_report.ensures.same
 
@@ -56,5 +56,5 @@ pub returns-in-Ok-run_script-clause-refuses : goal.returns-in-Ok-run_script-clau
 returns-in-Ok-run_script-clause-refuses g c = λ chosen tells quiet.
     let left = g.S.Source.left in
     let script = c.in-Ok-read_script.script in
-    let means = given c.read_script.result script (script_of c.deref.result.now) c.in-Ok-read_script.is c.read_script.ensures in
+    let means = given c.read_script.result script (script_of c.deref.result.now) c.in-Ok-read_script.is c.read_script.ensures.script in
     not_refused (left c.args.input.now) (left c.read_input.new.input) c.in-Ok.bytes.items script c.in-Ok.ensures.bytes (ap script_of (sym c.deref.ensures.value) ∙ means) tells
