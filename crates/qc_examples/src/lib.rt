@@ -1,0 +1,2 @@
+//! The definitions on small examples that were worked out by hand.
+#![tactic(auto)]
