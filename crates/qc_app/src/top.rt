@@ -4,7 +4,7 @@ ghost use Rattle.std.specs.Prelude.{◌≡◌, ◌≤◌, ◌⊎◌, ◌==◌, t
 ghost use Rattle.qc_types.specs.Streams.{Rose};
 ghost use Rattle.qc_model.specs.ReportText.{text_of_report};
 ghost use Rattle.qc_script.specs.ShortNames.{HasShortNames};
-ghost use Rattle.qc_words.specs.Words.{options_of};
+ghost use Rattle.qc_words.specs.Words.{begins_with_run, options_of};
 ghost use Rattle.qc_app.specs.Top.{RefusesInput, TellsRefusal, IsRunOf, HoldsMore, HoldsFront};
 
 use crate::reading::{Unread, read_input};
@@ -58,6 +58,7 @@ pub fn qcache_main<R, S: Source, K: Sink>(
     ensures statuses { result.status ≤ 5 }
     ensures usage { result.status ≡ 1 → options_of (map string_bytes words.now) ≡ None }
     ensures refuses_words { options_of (map string_bytes words.now) ≡ None → (result.status ≡ 1) ⊎ (result.status ≡ 5) }
+    ensures usage_at_once { begins_with_run (map string_bytes words.now) ≡ false → result.status ≡ 1 }
     ensures untouched { options_of (map string_bytes words.now) ≡ None → input.new ≡ input.old }
     ensures refusal_there { is_some result.bad ≡ (result.status == 2) }
     ensures refusal { IfSome result.bad (RefusesInput (S.left input.old)) }
