@@ -3,4 +3,8 @@ pub mod Nexts
 pub mod Pieces
 pub mod Reports
 pub mod Tops
-pub mod Texts
+mod examples
+pub mod Digits
+pub mod Options
+pub mod Rounding
+pub mod Taken

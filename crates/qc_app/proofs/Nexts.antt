@@ -9,8 +9,8 @@ use Rattle.qc_sql.specs.declared.commands.CommandEnd.TheVariants as end
 use Rattle.qc_sql.specs.Commands.{command_end, length_at, behind_packet}
 use Rattle.qc_model.specs.declared.reports.Ending.TheVariants as ending
 use Rattle.qc_model.specs.Agrees.{commands_of, ending_of, then_commands}
-use Rattle.qc_sessions.specs.Cuts.{Takes}
-use Rattle.qc_sessions.proofs.Cutting.{cuts_one, cuts_none, takes_one, takes_more}
+use Rattle.qc_laws.specs.runs.Cuts.{Takes}
+use Rattle.qc_laws.proofs.runs.Cutting.{cuts_one, cuts_none, takes_one, takes_more}
 use Rattle.qc_wire.specs.Commands.{ReadsCommand}
 use Rattle.qc_single.specs.declared.session.Session.{Session}
 use Rattle.qc_single.specs.Going.{DoesOne}

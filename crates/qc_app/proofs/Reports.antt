@@ -1,5 +1,5 @@
 -- From the session's run to what is said of the report.
-use Rattle.std.proofs.Common.{◌≡◌, ℕ, zero, suc, ◌<◌, ◌≤◌, Bool, true, false, List, [], ◌∷◌, length, refl, sym, ap, subst, arith, slice_index_or, true≢false, Option, None}
+use Rattle.std.proofs.Common.{◌≡◌, ℕ, zero, suc, ◌<◌, ◌≤◌, Bool, true, List, [], ◌∷◌, length, refl, sym, ap, subst, arith, slice_index_or, Option, None}
 use Rattle.std.specs.Prelude.{◌&&◌, IfOk, Result, Ok, Err}
 use Rattle.std.specs.List.{list_all, All}
 use Rattle.std.proofs.lemmas.Bool.{and_parts}
@@ -15,10 +15,10 @@ use Rattle.qc_model.specs.declared.reports.SessionReport.{SessionReport}
 use Rattle.qc_model.specs.Journal.{Journal}
 use Rattle.qc_model.specs.Agrees.{Agrees}
 use Rattle.qc_script.specs.ShortNames.{HasShortNames, HasShortColumns, HasShortName, MakesShortColumns}
-use Rattle.qc_sessions.specs.Runs.{report_of}
+use Rattle.qc_laws.specs.runs.Runs.{report_of}
 use Rattle.qc_single.specs.Stage.{first_machine}
-use Rattle.qc_bounds.specs.Names.{is_short}
-use Rattle.qc_bounds.specs.Replies.{are_bounded_columns, is_bounded_column, is_bounded_kind, is_bounded_operation}
+use Rattle.qc_laws.specs.sizes.Names.{is_short}
+use Rattle.qc_laws.specs.sizes.Replies.{is_bounded_column, is_bounded_kind, is_bounded_operation}
 use Rattle.qc_single.specs.Sound.{is_simple, is_small_operation, makes_short_name}
 use Rattle.qc_app.specs.Ran.{IsReportOf}
 use Rattle.qc_single.proofs.Ends.{one_session, no_session}

@@ -12,8 +12,8 @@ use Rattle.qc_model.specs.declared.reports.ScriptRefusal.{ScriptRefusal}
 use Rattle.qc_model.specs.declared.reports.ScriptRefusal.TheVariants as refusal
 use Rattle.qc_model.specs.ScriptLines.{script_of, most_script, after_lines, lines_of, no_sessions}
 use Rattle.qc_model.specs.Agrees.{Agrees}
-use Rattle.qc_words.specs.Words.{options_of}
-use Rattle.qc_words.proofs.Rounding.{options_are_rounded}
+use Rattle.qc_app.specs.Arguments.{options_of}
+use Rattle.qc_app.proofs.Rounding.{options_are_rounded}
 use Rattle.qc_single.specs.Stage.{first_machine, HasWords}
 use Rattle.qc_app.specs.Reading.{ReadsEnough}
 use Rattle.qc_app.specs.Top.{ReadsAll, RefusesInput, TellsRefusal, IsRunOf}

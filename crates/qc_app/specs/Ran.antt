@@ -5,8 +5,8 @@ use Rattle.qc_types.specs.declared.memory.Or.TheVariants as or
 use Rattle.qc_types.specs.declared.options.Options.{Options}
 use Rattle.qc_sql.specs.declared.commands.Command.{Command}
 use Rattle.qc_model.specs.declared.reports.Report.{Report}
-use Rattle.qc_sessions.specs.Cuts.{Takes}
-use Rattle.qc_sessions.specs.Runs.{report_of}
+use Rattle.qc_laws.specs.runs.Cuts.{Takes}
+use Rattle.qc_laws.specs.runs.Runs.{report_of}
 use Rattle.qc_single.specs.Sound.{only_session}
 use Rattle.qc_model.specs.declared.reports.Ending.{Ending}
 use Rattle.qc_model.specs.Agrees.{commands_of}

@@ -9,7 +9,7 @@ abbrev pub ReadSoFar : Option (List ℕ) → Option (List ℕ) → List ℕ → 
 ReadSoFar None now bytes = now ≡ None
 ReadSoFar (Some left) now bytes = MatchOption now ⊥ (λ rest. left ≡ bytes ++ rest)
 
--- all of it was read, or a front that is already too long
+-- all of it was read, or a prefix that is already too long
 abbrev pub ReadsEnough : Option (List ℕ) → Option (List ℕ) → List ℕ → Type 0
 ReadsEnough None now bytes = now ≡ None
 ReadsEnough (Some left) now bytes = ReadsAll (Some left) now bytes ⊎ ((most_script < length bytes) × BeginsWith left bytes)

@@ -7,7 +7,7 @@ use Rattle.qc_model.specs.declared.reports.Script.{Script}
 use Rattle.qc_model.specs.declared.reports.ScriptRefusal.{ScriptRefusal}
 use Rattle.qc_model.specs.ScriptLines.{script_of}
 use Rattle.qc_model.specs.Agrees.{Agrees}
-use Rattle.qc_words.specs.Words.{options_of}
+use Rattle.qc_app.specs.Arguments.{options_of}
 use Rattle.qc_single.specs.Stage.{first_machine}
 
 -- a source was read to its end, and gave these bytes
@@ -40,7 +40,7 @@ abbrev pub HoldsMore : Option (List ℕ) → Option (List ℕ) → List ℕ → 
 HoldsMore None now text = now ≡ None
 HoldsMore (Some held) now text = now ≡ Some (held ++ text)
 
--- a sink holds a front of these bytes more
-abbrev pub HoldsFront : Option (List ℕ) → Option (List ℕ) → List ℕ → Type 0
-HoldsFront None now text = now ≡ None
-HoldsFront (Some held) now text = (front : List ℕ) × BeginsWith text front × (now ≡ Some (held ++ front))
+-- a sink holds a prefix of these bytes more
+abbrev pub HoldsPrefix : Option (List ℕ) → Option (List ℕ) → List ℕ → Type 0
+HoldsPrefix None now text = now ≡ None
+HoldsPrefix (Some held) now text = (prefix : List ℕ) × BeginsWith text prefix × (now ≡ Some (held ++ prefix))

@@ -27,7 +27,7 @@ impl From<AllocError> for Unread {
     }
 }
 
-/// The bytes of an input, or a front of them that is longer than a script may be. Each turn takes a byte at least; the cost is linear.
+/// The bytes of an input, or a prefix of them that is longer than a script may be. Each turn takes a byte at least; the cost is linear.
 pub fn read_input<S: Source>(alloc: Global, input: &mut S) -> Result<Vec<u8>, Unread>
     ensures bytes { IfOk result (λ bytes. ReadsEnough (S.left input.old) (S.left input.new) bytes.items) }
     ensures later { S.faults input.old ≤ S.faults input.new }

@@ -8,7 +8,7 @@ ghost use Rattle.qc_sql.specs.Packets.{most_payload};
 ghost use Rattle.qc_model.specs.Agrees as model;
 ghost use Rattle.qc_model.specs.Agrees.{Agrees};
 ghost use Rattle.qc_script.specs.ShortNames.{HasShortNames};
-ghost use Rattle.qc_sessions.specs.Runs as meant;
+ghost use Rattle.qc_laws.specs.runs.Runs as meant;
 ghost use Rattle.qc_app.specs.Inputs.{IsSmall};
 ghost use Rattle.qc_app.specs.Ran.{Advances, HasRun, IsReportOf};
 ghost use Rattle.qc_model.specs.Cache.{cache};

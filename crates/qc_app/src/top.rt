@@ -4,28 +4,17 @@ ghost use Rattle.std.specs.Prelude.{◌≡◌, ◌≤◌, ◌⊎◌, ◌==◌, t
 ghost use Rattle.qc_types.specs.Streams.{Rose};
 ghost use Rattle.qc_model.specs.ReportText.{text_of_report};
 ghost use Rattle.qc_script.specs.ShortNames.{HasShortNames};
-ghost use Rattle.qc_words.specs.Words.{begins_with_run, options_of};
-ghost use Rattle.qc_app.specs.Top.{RefusesInput, TellsRefusal, IsRunOf, HoldsMore, HoldsFront};
+ghost use Rattle.qc_app.specs.Arguments.{begins_with_run, options_of};
+ghost use Rattle.qc_app.specs.Outcomes.{ended_of};
+ghost use Rattle.qc_app.specs.Top.{RefusesInput, TellsRefusal, IsRunOf, HoldsMore, HoldsPrefix};
 
+use crate::arguments::read_words;
 use crate::reading::{Unread, read_input};
 use crate::run::run_script;
 use qc_model::reports::{Report, ScriptRefusal};
 use qc_script::{read_script, report_text};
 use qc_types::{Or, PutStep, Sink, Source};
-use qc_words::read_words;
 use std::alloc::Global;
-
-const DONE: u8 = 0;
-
-const USAGE: u8 = 1;
-
-const REFUSED: u8 = 2;
-
-const READ_FAULT: u8 = 3;
-
-const WRITE_FAULT: u8 = 4;
-
-const NO_MEMORY: u8 = 5;
 
 /// How a call of the program ended.
 #[derive(Drop)]
@@ -39,12 +28,50 @@ pub struct Ended {
     pub bad: Option<ScriptRefusal>,
 }
 
+/// What a call of the program ends with.
+#[derive(Drop)]
+enum Outcome {
+    /// The whole report was written.
+    Reported(Report),
+    /// The words aren't in the form.
+    WrongArguments,
+    /// The script is refused.
+    Refused(ScriptRefusal),
+    /// The input failed.
+    ReadFault,
+    /// The output failed. Of this report a prefix was written.
+    WriteFault(Report),
+    /// Memory was wanting: before there was a report, or when it was written.
+    NoMemory(Option<Report>),
+}
+
+impl Outcome {
+    /// The same as a status, with the report and the refusal.
+    fn ended(self) -> Ended
+        ensures { result ≡ ended_of self }
+    {
+        let (status, report, bad) = match self {
+            Outcome::Reported(report) => (0, Some(report), None),
+            Outcome::WrongArguments => (1, None, None),
+            Outcome::Refused(refusal) => (2, None, Some(refusal)),
+            Outcome::ReadFault => (3, None, None),
+            Outcome::WriteFault(report) => (4, Some(report), None),
+            Outcome::NoMemory(report) => (5, report, None),
+        };
+        Ended {
+            status,
+            report,
+            bad,
+        }
+    }
+}
+
 /// Does what the words behind the program's name ask for. `run` reads a script from the input to its end, or until it is too long for a
 /// script, runs its session, and puts the text of the report to the output. With `--size 0` there is no cache, `--limit` is the most
 /// bytes of a reply that is kept, and `--type` the cache type with which the session begins. Of `--unit`, the bytes of a block of the
 /// cache's memory, only the report tells so far.
 ///
-/// The words are judged first, then the input is read, then the script is judged, then it is run. Nothing is put before the run has ended.
+/// The words are validated first, then the input is read, then the script is validated, then it is run. Nothing is put before the run has ended.
 /// A source or a sink that doesn't tell what it has left or holds is promised less: the clauses then speak of some input of which the
 /// report is the run. The cost is linear in the input and the report, and besides each change costs what its table holds, and each
 /// SELECT the row combinations that it reads.
@@ -66,7 +93,7 @@ pub fn qcache_main<R, S: Source, K: Sink>(
     ensures report_lacks { is_some result.report ≡ true → (result.status ≡ 0) ⊎ (result.status ≡ 4) ⊎ (result.status ≡ 5) }
     ensures agrees { IfSome result.report (IsRunOf (map string_bytes words.now) (S.left input.old) (S.left input.new)) }
     ensures nothing_written { result.report ≡ None → out.new ≡ out.old }
-    ensures front_written { IfSome result.report (λ report. HoldsFront (K.held out.old) (K.held out.new) (text_of_report report)) }
+    ensures prefix_written { IfSome result.report (λ report. HoldsPrefix (K.held out.old) (K.held out.new) (text_of_report report)) }
     ensures all_written { result.status ≡ 0 → IfSome result.report (λ report. HoldsMore (K.held out.old) (K.held out.new) (text_of_report report)) }
     ensures read_fault { result.status ≡ 3 → Rose (S.faults input.old) (S.faults input.new) }
     ensures write_fault { result.status ≡ 4 → Rose (K.faults out.old) (K.faults out.new) }
@@ -77,70 +104,43 @@ pub fn qcache_main<R, S: Source, K: Sink>(
 {
     let options = match read_words(alloc, words) {
         Ok(Some(options)) => options,
-        Ok(None) => return Ended::without_report(USAGE),
-        Err(_) => return Ended::without_report(NO_MEMORY),
+        Ok(None) => return Outcome::WrongArguments.ended(),
+        Err(_) => return Outcome::NoMemory(None).ended(),
     };
     let bytes = match read_input(alloc, input) {
         Ok(bytes) => bytes,
-        Err(Unread::Failed) => return Ended::without_report(READ_FAULT),
-        Err(Unread::Memory) => return Ended::without_report(NO_MEMORY),
+        Err(Unread::Failed) => return Outcome::ReadFault.ended(),
+        Err(Unread::Memory) => return Outcome::NoMemory(None).ended(),
     };
     let script = match read_script(alloc, &bytes) {
         Ok(script) => script,
-        Err(Or::Other(refusal)) => return Ended::refused(refusal),
-        Err(Or::Memory) => return Ended::without_report(NO_MEMORY),
+        Err(Or::Other(refusal)) => return Outcome::Refused(refusal).ended(),
+        Err(Or::Memory) => return Outcome::NoMemory(None).ended(),
     };
     match run_script(alloc, options, &script) {
-        Ok(report) => write_report(alloc, report, out),
-        Err(_) => Ended::without_report(NO_MEMORY),
-    }
-}
-
-impl Ended {
-    fn without_report(status: u8) -> Ended
-        ensures { result ≡ record { status = status; report = None; bad = None } }
-    {
-        Ended {
-            status,
-            report: None,
-            bad: None,
-        }
-    }
-
-    fn refused(refusal: ScriptRefusal) -> Ended
-        ensures { result ≡ record { status = 2; report = None; bad = Some refusal } }
-    {
-        Ended {
-            status: REFUSED,
-            report: None,
-            bad: Some(refusal),
-        }
+        Ok(report) => write_report(alloc, report, out).ended(),
+        Err(_) => Outcome::NoMemory(None).ended(),
     }
 }
 
 /// Puts the text of a report at once, and ends.
-fn write_report<K: Sink>(alloc: Global, report: Report, out: &mut K) -> Ended
+fn write_report<K: Sink>(alloc: Global, report: Report, out: &mut K) -> Outcome
     requires { HasShortNames report }
-    ensures statuses { (result.status ≡ 0) ⊎ (result.status ≡ 4) ⊎ (result.status ≡ 5) }
-    ensures bad { result.bad ≡ None }
-    ensures there { (result.status ≡ 0) ⊎ (result.status ≡ 4) → is_some result.report ≡ true }
-    ensures same { IfSome result.report (λ r. r ≡ report) }
-    ensures nothing { result.report ≡ None → out.new ≡ out.old }
-    ensures front { IfSome result.report (λ r. HoldsFront (K.held out.old) (K.held out.new) (text_of_report r)) }
-    ensures all { result.status ≡ 0 → IfSome result.report (λ r. HoldsMore (K.held out.old) (K.held out.new) (text_of_report r)) }
-    ensures fault { result.status ≡ 4 → Rose (K.faults out.old) (K.faults out.new) }
+    ensures statuses { ((ended_of result).status ≡ 0) ⊎ ((ended_of result).status ≡ 4) ⊎ ((ended_of result).status ≡ 5) }
+    ensures bad { (ended_of result).bad ≡ None }
+    ensures there { ((ended_of result).status ≡ 0) ⊎ ((ended_of result).status ≡ 4) → is_some (ended_of result).report ≡ true }
+    ensures same { IfSome (ended_of result).report (λ r. r ≡ report) }
+    ensures nothing { (ended_of result).report ≡ None → out.new ≡ out.old }
+    ensures prefix { IfSome (ended_of result).report (λ r. HoldsPrefix (K.held out.old) (K.held out.new) (text_of_report r)) }
+    ensures all { (ended_of result).status ≡ 0 → IfSome (ended_of result).report (λ r. HoldsMore (K.held out.old) (K.held out.new) (text_of_report r)) }
+    ensures fault { (ended_of result).status ≡ 4 → Rose (K.faults out.old) (K.faults out.new) }
 {
     let Ok(text) = report_text(alloc, &report) else {
-        return Ended::without_report(NO_MEMORY);
+        return Outcome::NoMemory(None);
     };
-    let status = match out.put(text.bytes()) {
-        PutStep::Done => DONE,
-        PutStep::Failed => WRITE_FAULT,
-        PutStep::Memory => NO_MEMORY,
-    };
-    Ended {
-        status,
-        report: Some(report),
-        bad: None,
+    match out.put(text.bytes()) {
+        PutStep::Done => Outcome::Reported(report),
+        PutStep::Failed => Outcome::WriteFault(report),
+        PutStep::Memory => Outcome::NoMemory(Some(report)),
     }
 }

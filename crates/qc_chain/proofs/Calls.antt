@@ -1,48 +1,30 @@
 -- What the calls on chains leave, as the definitions say it.
 use Rattle.std.proofs.Common.{◌≡◌, ℕ, ◌+◌, ◌-◌, ◌*◌, ◌<◌, ◌≤◌, List, [], ◌∷◌, ◌++◌, length, set, refl, sym, ap, ◌∙◌, arith, inl, inr, Option, Some, None}
-use Rattle.std.specs.Prelude.{option_map, slice_get, Contains, IsTrue, nat_lt, ◌↔◌}
+use Rattle.std.specs.Prelude.{option_map, slice_get, ◌↔◌}
 use Rattle.std.specs.Int.{div_ceil}
 use Rattle.std.specs.List.{AllByRecursion}
-use Rattle.std.proofs.lemmas.Bool.{cases_lt, le-leb, lt-leb, lt-ltb, ltb-true}
+use Rattle.std.proofs.lemmas.Bool.{cases_lt, le-leb, lt-leb}
 use Rattle.qc_tiles.specs.declared.blocks.Block.{Block}
 use Rattle.qc_tiles.specs.declared.blocks.Tile.{Tile}
-use Rattle.qc_tiles.specs.Tiles.{trimmed, cut_words, raised, after_trim}
+use Rattle.qc_types.specs.Blocks.{raised}
+use Rattle.qc_tiles.specs.Tiles.{trimmed, cut_words, after_trim}
 use Rattle.qc_chain.specs.declared.names.Piece.{Piece}
 use Rattle.qc_chain.specs.Words.{words_of}
-use Rattle.qc_chain.specs.Chains.{Chain, Chained, EndsInLast, empty_chain, with_chain, whole_chain, after_append, but_last, words_for, used_words, cut_blocks, cut_chain, after_cut}
-use Rattle.qc_chain.specs.Pieces.{blocks_of, piece_at, chain_of, chains_from, chained, AreSound}
+use Rattle.qc_chain.specs.Chains.{Chain, EndsInLast, empty_chain, with_chain, whole_chain, after_append, but_last, words_for, used_words, cut_blocks, cut_chain, after_cut}
+use Rattle.qc_chain.specs.Pieces.{blocks_of, chain_of, chains_from, chained, AreFit}
 use Rattle.qc_chain.specs.Stored.{Removes}
 use Rattle.qc_chain.proofs.Words.{words_push}
-use Rattle.qc_chain.proofs.Pieces.{EndsWith, blocks_push_own, blocks_push_other, others, own_of_others, other_of_others}
-use Rattle.qc_chain.proofs.Views.{KeepsOthers, IsBegun, begun_fits, chains_set, sound_set, free_name, free_chain, none_there, free_has_none}
-
--- ---- beginning
-
-pub free_within : (ls : List (Option ℕ)) (ps : List Piece) (at : ℕ) → Contains (chains_from 0 ls ps) None → (length ls ≤ at → Contains ls None → ⊥) → at < length ls
-free_within ls ps at free none =
-    elim (cases_lt at (length ls)) [
-      | inl within ↦ within
-      | inr past ↦ absurd (none past (free_name ls ps free))
-    ]
-
-pub free_bool : (ls : List (Option ℕ)) (ps : List Piece) (at count room : ℕ) (v : Chained) → chained ls ps room ≡ v → count ≡ length ls → (at < length ls → slice_get ls at ≡ Some None) → (length ls ≤ at → Contains ls None → ⊥)
-    → IsTrue (nat_lt at count) ↔ Contains v.chains None
-free_bool ls ps at count room v view long free none = (
-  λ t.
-      let within : at < length ls = omega (arith, ltb-true at count t, long) in
-      rw (← view) (free_chain ls ps (none_there ls at within (free within))),
-  λ has. lt-ltb at count (omega (arith, long, free_within ls ps at (rw (← view) at has) none)),
-)
+use Rattle.qc_chain.proofs.Views.{KeepsOthers, IsBegun, begun_fits, chains_set, sound_set, free_has_none}
 
 same_others : (n : ℕ) (ps : List Piece) → KeepsOthers n ps ps
 same_others n ps m other = refl
 
-pub begins : (n room : ℕ) (ls : List (Option ℕ)) (ps : List Piece) → AreSound ls ps → slice_get ls n ≡ Some None → chained (set ls n (Some 0)) ps room ≡ with_chain n (Some empty_chain) (chained ls ps room)
+pub begins : (n room : ℕ) (ls : List (Option ℕ)) (ps : List Piece) → AreFit ls ps → slice_get ls n ≡ Some None → chained (set ls n (Some 0)) ps room ≡ with_chain n (Some empty_chain) (chained ls ps room)
 begins n room ls ps sound free =
     let made : chains_from 0 (set ls n (Some 0)) ps ≡ set (chains_from 0 ls ps) n (Some empty_chain) = chains_set n ls ps ps (Some 0) (same_others n ps) ∙ rw (free_has_none n ls ps sound free) refl in
     rw made refl
 
-pub begin_sound : (n : ℕ) (ls : List (Option ℕ)) (ps : List Piece) → n < length ls → AreSound ls ps → slice_get ls n ≡ Some None → AreSound (set ls n (Some 0)) ps
+pub begin_sound : (n : ℕ) (ls : List (Option ℕ)) (ps : List Piece) → n < length ls → AreFit ls ps → slice_get ls n ≡ Some None → AreFit (set ls n (Some 0)) ps
 begin_sound n ls ps within sound free =
     sound_set n ls ps ps (Some 0) within sound (same_others n ps) (rw (free_has_none n ls ps sound free) (record { most = omega arith; within = omega arith }))
 
@@ -53,12 +35,6 @@ pub record Appends (n : ℕ) (block : Block) (ps qs : List Piece) : Type 0 where
   pub own : blocks_of n qs ≡ blocks_of n ps ++ block ∷ []
   pub other : KeepsOthers n ps qs
 
-pub push_appends : (n : ℕ) (block : Block) (ps qs : List Piece) → qs ≡ ps ++ record { chain = n; block = block } ∷ [] → Appends n block ps qs
-push_appends n block ps qs is = record {
-  own = ap (blocks_of n) is ∙ blocks_push_own n ps (record { chain = n; block = block }) refl;
-  other = λ m other. ap (blocks_of m) is ∙ blocks_push_other m ps (record { chain = n; block = block }) (λ same. other (sym same));
-}
-
 pub appends : (n room words : ℕ) (block : Block) (ls : List (Option ℕ)) (ps qs : List Piece) (held : Chain) → IsBegun n ls ps held → Appends n block ps qs → words ≡ words_of (blocks_of n qs)
     → chained (set ls n (Some (8 * words))) qs (room - 1) ≡ after_append n block held (chained ls ps room)
 appends n room words block ls ps qs held begun more sum =
@@ -67,24 +43,16 @@ appends n room words block ls ps qs held begun more sum =
     let made : chains_from 0 (set ls n (Some (8 * words))) qs ≡ set (chains_from 0 ls ps) n (Some (whole_chain (held.blocks ++ block ∷ []))) = chains_set n ls ps qs (Some (8 * words)) more.other ∙ ap (set (chains_from 0 ls ps) n) chain in
     rw made refl
 
-pub append_words : (n : ℕ) (block : Block) (ls : List (Option ℕ)) (ps qs : List Piece) (held : Chain) → IsBegun n ls ps held → Appends n block ps qs → words_of (blocks_of n qs) ≡ words_of held.blocks + block.words
-append_words n block ls ps qs held begun more = ap words_of (more.own ∙ ap (λ bs. bs ++ block ∷ []) (sym begun.same)) ∙ words_push held.blocks block
-
-pub append_sound : (n words : ℕ) (block : Block) (ls : List (Option ℕ)) (ps qs : List Piece) (held : Chain) → IsBegun n ls ps held → Appends n block ps qs → words ≡ words_of (blocks_of n qs) → words ≤ 8388608 → AreSound ls ps
-    → AreSound (set ls n (Some (8 * words))) qs
+pub append_sound : (n words : ℕ) (block : Block) (ls : List (Option ℕ)) (ps qs : List Piece) (held : Chain) → IsBegun n ls ps held → Appends n block ps qs → words ≡ words_of (blocks_of n qs) → words ≤ 8388608 → AreFit ls ps
+    → AreFit (set ls n (Some (8 * words))) qs
 append_sound n words block ls ps qs held begun more sum most sound =
     sound_set n ls ps qs (Some (8 * words)) begun.within sound more.other (record { most = omega (arith, sum, most); within = omega (arith, sum) })
-
--- ---- releasing
-
-pub others_removed : (n : ℕ) (ps qs : List Piece) → qs ≡ others n ps → Removes n ps qs
-others_removed n ps qs is = record { own = ap (blocks_of n) is ∙ own_of_others n ps; other = λ m other. ap (blocks_of m) is ∙ other_of_others n m ps other }
 
 pub releases : (n room : ℕ) (ls : List (Option ℕ)) (ps qs : List Piece) → Removes n ps qs → chained (set ls n None) qs room ≡ record { chains = set (chains_from 0 ls ps) n None; room = room }
 releases n room ls ps qs less =
     rw (chains_set n ls ps qs None less.other) refl
 
-pub release_sound : (n : ℕ) (ls : List (Option ℕ)) (ps qs : List Piece) → n < length ls → Removes n ps qs → AreSound ls ps → AreSound (set ls n None) qs
+pub release_sound : (n : ℕ) (ls : List (Option ℕ)) (ps qs : List Piece) → n < length ls → Removes n ps qs → AreFit ls ps → AreFit (set ls n None) qs
 release_sound n ls ps qs within less sound = sound_set n ls ps qs None within sound less.other less.own
 
 -- ---- cutting
@@ -94,13 +62,6 @@ pub record Cuts (n : ℕ) (front : List Block) (last left : Block) (ps qs : List
   pub before : blocks_of n ps ≡ front ++ last ∷ []
   pub own : blocks_of n qs ≡ front ++ left ∷ []
   pub other : KeepsOthers n ps qs
-
-pub last_set : (n k : ℕ) (front : List Block) (left : Block) (ps qs : List Piece) → EndsWith ps n k front → qs ≡ set ps k (record { chain = n; block = left }) → Cuts n front (piece_at ps k).block left ps qs
-last_set n k front left ps qs ends is = record {
-  before = ends.blocks;
-  own = ap (blocks_of n) is ∙ ends.own left;
-  other = λ m other. ap (blocks_of m) is ∙ ends.other left m other;
-}
 
 but_last-push : (front : List Block) (b : Block) → but_last (front ++ b ∷ []) ≡ front
 but_last-push [] b = refl
@@ -169,8 +130,8 @@ pub cut_tiles : (n bytes used : ℕ) (ls : List (Option ℕ)) (front : List Bloc
 cut_tiles n bytes used ls front last ps held ts known used_is =
     ap (λ u. after_trim last.first u ts) (used_is ∙ sym known.used) ∙ (sym (after_cut-push (used_words held.blocks bytes) front last ts) ∙ ap (λ bs. after_cut (used_words held.blocks bytes) bs ts) (sym known.blocks))
 
-pub cut_sound : (n bytes used : ℕ) (ls : List (Option ℕ)) (front : List Block) (last left : Block) (ps qs : List Piece) (held : Chain) → IsBegun n ls ps held → IsCut n bytes ls front last ps held → Cuts n front last left ps qs → used ≡ words_for bytes - words_of front → left ≡ trimmed used last → AreSound ls ps
-    → AreSound (set ls n (Some bytes)) qs
+pub cut_sound : (n bytes used : ℕ) (ls : List (Option ℕ)) (front : List Block) (last left : Block) (ps qs : List Piece) (held : Chain) → IsBegun n ls ps held → IsCut n bytes ls front last ps held → Cuts n front last left ps qs → used ≡ words_for bytes - words_of front → left ≡ trimmed used last → AreFit ls ps
+    → AreFit (set ls n (Some bytes)) qs
 cut_sound n bytes used ls front last left ps qs held begun known cut used_is left_is sound =
     let fits = begun_fits n ls ps held sound begun in
     let bounds = left_words used last.words (omega (arith, known.most, used_is)) in

@@ -8,3 +8,4 @@ pub mod Listed
 pub mod Turns
 pub mod FreeNames
 pub mod Stores
+mod examples

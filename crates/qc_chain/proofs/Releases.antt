@@ -73,9 +73,6 @@ passes t ts us c other rest h =
       ]
     ] refl
 
-given : List Tile → ℕ → List Tile
-given ts first = replaced first (λ t. free_tile t.first t.words ∷ []) ts
-
 pub stays_in_hand : (first : ℕ) (ts : List Tile) (c : Block) → (c.first ≡ first → ⊥) → Contains (handed_out ts) c → Contains (handed_out (replaced first (λ t. free_tile t.first t.words ∷ []) ts)) c
 stays_in_hand first [] c other h = h
 stays_in_hand first (t ∷ ts) c other h =

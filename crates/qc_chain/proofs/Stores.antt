@@ -12,12 +12,12 @@ use Rattle.qc_tiles.specs.declared.blocks.Block.{Block}
 use Rattle.qc_tiles.specs.declared.blocks.Move.{Move}
 use Rattle.qc_chain.specs.declared.names.Extent.{Extent}
 use Rattle.qc_chain.specs.declared.members.Held.{Held}
-use Rattle.qc_chain.specs.declared.members.Standing.{Standing}
+use Rattle.qc_chain.specs.declared.members.PlacedBlock.{PlacedBlock}
 use Rattle.qc_chain.specs.declared.members.FreeName.{FreeName}
 use Rattle.qc_chain.specs.Words.{words_of}
-use Rattle.qc_tiles.specs.Tiles.{trimmed}
-use Rattle.qc_chain.specs.Chains.{Chain, Chained, Begun, chain_at, extent_of, no_chains, words_for, moved}
-use Rattle.qc_chain.specs.Pieces.{blocks_of, chained, bytes_at, moved_piece, AreSound}
+use Rattle.qc_tiles.specs.Tiles.{trimmed, moved}
+use Rattle.qc_chain.specs.Chains.{Chain, Chained, Begun, chain_at, extent_of, no_chains, words_for}
+use Rattle.qc_chain.specs.Pieces.{blocks_of, chained, bytes_at, moved_piece, AreFit}
 use Rattle.qc_chain.specs.Stored.{key_of, held_at, piece_of, pieces_in, blocks_in, indices, count_from, IsNumbered, moved_held, turned, AreTables, Removes, extent_at, lengths_of, free_from, IsCounted, IsStored}
 use Rattle.qc_chain.proofs.Words.{words_push}
 use Rattle.qc_chain.proofs.Pieces.{blocks_moved, words_moved}
@@ -73,21 +73,21 @@ known_by n es ms held e begun extent bytes counted =
       begun = begun;
     }
 
-pub known : (n room : ℕ) (es : List (Option Extent)) (pieces : Members Held) (places : Members Standing) (free : Members FreeName) (v : Chained) (held : Chain) → IsStored es pieces places free room → chained (lengths_of es) (pieces_in pieces.items) room ≡ v → Begun n v held → (e : Extent) × IsKnown n es pieces.items held e
+pub known : (n room : ℕ) (es : List (Option Extent)) (pieces : Members Held) (places : Members PlacedBlock) (free : Members FreeName) (v : Chained) (held : Chain) → IsStored es pieces places free room → chained (lengths_of es) (pieces_in pieces.items) room ≡ v → Begun n v held → (e : Extent) × IsKnown n es pieces.items held e
 known n room es pieces places free v held stored view h =
     let begun = begun_at n room (lengths_of es) (pieces_in pieces.items) v held view h in
     let (e, extent, bytes) = of_length (extent_at n es) held.bytes (sym (length_at n es) ∙ begun.length) in
     (e, known_by n es pieces.items held e begun extent bytes (subst (λ (o : Option Extent). IsCounted n o pieces.items) extent (stored.counted n)))
 
 -- the same of the extent that was read
-pub known_here : (n room : ℕ) (es read_of : List (Option Extent)) (pieces : Members Held) (places : Members Standing) (free : Members FreeName) (v : Chained) (held : Chain) (x : Extent) → IsStored es pieces places free room → chained (lengths_of es) (pieces_in pieces.items) room ≡ v → Begun n v held
+pub known_here : (n room : ℕ) (es read_of : List (Option Extent)) (pieces : Members Held) (places : Members PlacedBlock) (free : Members FreeName) (v : Chained) (held : Chain) (x : Extent) → IsStored es pieces places free room → chained (lengths_of es) (pieces_in pieces.items) room ≡ v → Begun n v held
     → Some x ≡ extent_at n read_of → read_of ≡ es → IsKnown n es pieces.items held x
 known_here n room es read_of pieces places free v held x stored view h read is =
     let (e, k) = known n room es pieces places free v held stored view h in
     let same : e ≡ x = same_Some e x (sym k.extent ∙ (ap (extent_at n) (sym is) ∙ sym read)) in
     subst (λ (y : Extent). IsKnown n es pieces.items held y) same k
 
-pub not_there : (n room : ℕ) (es read_of : List (Option Extent)) (pieces : Members Held) (places : Members Standing) (free : Members FreeName) (v : Chained) (held : Chain) → IsStored es pieces places free room → chained (lengths_of es) (pieces_in pieces.items) room ≡ v → Begun n v held
+pub not_there : (n room : ℕ) (es read_of : List (Option Extent)) (pieces : Members Held) (places : Members PlacedBlock) (free : Members FreeName) (v : Chained) (held : Chain) → IsStored es pieces places free room → chained (lengths_of es) (pieces_in pieces.items) room ≡ v → Begun n v held
     → None ≡ extent_at n read_of → read_of ≡ es → ⊥
 not_there n room es read_of pieces places free v held stored view h read is =
     let (e, k) = known n room es pieces places free v held stored view h in
@@ -141,7 +141,7 @@ extent_by n room es ms (Some e) h counted =
     let same : ◌≡◌ {A = Extent} (record { blocks = length (blocks_in n ms); words = words_of (blocks_in n ms); bytes = e.bytes }) e = rw (count_blocks n 0 e.blocks ms counted.0.each, ← counted.1) refl in
     sym (extent_is n room e.bytes (lengths_of es) (pieces_in ms) (length_at n es ∙ ap (option_map (λ (x : Extent). x.bytes)) h) ∙ ap (λ (x : Extent). Some x) same)
 
-pub extent_has : (n room : ℕ) (es : List (Option Extent)) (pieces : Members Held) (places : Members Standing) (free : Members FreeName) (v : Chained) (o : Option Extent) → IsStored es pieces places free room → chained (lengths_of es) (pieces_in pieces.items) room ≡ v → o ≡ extent_at n es → o ≡ option_map extent_of (chain_at n v)
+pub extent_has : (n room : ℕ) (es : List (Option Extent)) (pieces : Members Held) (places : Members PlacedBlock) (free : Members FreeName) (v : Chained) (o : Option Extent) → IsStored es pieces places free room → chained (lengths_of es) (pieces_in pieces.items) room ≡ v → o ≡ extent_at n es → o ≡ option_map extent_of (chain_at n v)
 extent_has n room es pieces places free v o stored view h =
     rw (← view) (h ∙ extent_by n room es pieces.items (extent_at n es) refl (stored.counted n))
 
@@ -168,7 +168,7 @@ empty_extent = record { blocks = 0; words = 0; bytes = 0 }
 free_numbered : (n : ℕ) (es : List (Option Extent)) (ms : List (Keyed Held)) → ((m : ℕ) → IsCounted m (extent_at m es) ms) → slice_get es n ≡ Some None → IsNumbered n 0 0 ms
 free_numbered n es ms counted h = subst (λ (o : Option Extent). IsCounted n o ms) (ap (option_and_then (λ x. x)) h) (counted n)
 
-pub begin_stored : (n room : ℕ) (es : List (Option Extent)) (pieces : Members Held) (places : Members Standing) (free new_free : Members FreeName) (x : Keyed FreeName) → IsStored es pieces places free room → IsTaken 0 es empty_extent x n → first_from (key_of 0 0) (free_from 0 es) ≡ Some x
+pub begin_stored : (n room : ℕ) (es : List (Option Extent)) (pieces : Members Held) (places : Members PlacedBlock) (free new_free : Members FreeName) (x : Keyed FreeName) → IsStored es pieces places free room → IsTaken 0 es empty_extent x n → first_from (key_of 0 0) (free_from 0 es) ≡ Some x
     → new_free.items ≡ without_first_from (key_of 0 0) free.items → new_free.room ≡ free.room + 1 → IsStored (set es n (Some empty_extent)) pieces places new_free room
 begin_stored n room es pieces places free new_free x stored taken first left more =
     let ls = lengths_of es in
@@ -179,7 +179,7 @@ begin_stored n room es pieces places free new_free x stored taken first left mor
     let long : n < length ls = omega (arith, taken.within, length-map es (option_map (λ (e : Extent). e.bytes))) in
     let lost : length new_free.items + 1 ≡ length free.items = ap (λ xs. length xs + 1) (left ∙ ap (without_first_from (key_of 0 0)) stored.names) ∙ (without-length (key_of 0 0) (free_from 0 es) x first ∙ ap length (sym stored.names)) in
     record {
-      sound = subst (λ (l : List (Option ℕ)). AreSound l ps) (sym (lengths_set es n (Some empty_extent))) (begin_sound n ls ps long stored.sound (no_length n es taken.free));
+      sound = subst (λ (l : List (Option ℕ)). AreFit l ps) (sym (lengths_set es n (Some empty_extent))) (begin_sound n ls ps long stored.sound (no_length n es taken.free));
       counted = counted_set n es pieces.items pieces.items (Some empty_extent) taken.within stored.counted (keeps_same n pieces.items) here;
       tables = stored.tables;
       names = left ∙ (ap (without_first_from (key_of 0 0)) stored.names ∙ taken.left);
@@ -233,7 +233,7 @@ added n count b ms qs ordered numbered is =
       long = omega (arith, ap length is, inserted-length x ms);
     }
 
-pub append_stored : (n room words : ℕ) (b : Block) (es : List (Option Extent)) (pieces new_pieces : Members Held) (places new_places : Members Standing) (free : Members FreeName) (held : Chain) (e : Extent) → IsStored es pieces places free room → IsKnown n es pieces.items held e → IsAdded n e.blocks b pieces.items new_pieces.items
+pub append_stored : (n room words : ℕ) (b : Block) (es : List (Option Extent)) (pieces new_pieces : Members Held) (places new_places : Members PlacedBlock) (free : Members FreeName) (held : Chain) (e : Extent) → IsStored es pieces places free room → IsKnown n es pieces.items held e → IsAdded n e.blocks b pieces.items new_pieces.items
     → new_pieces.room ≡ pieces.room - 1 → 0 < room → AreTables new_pieces new_places → words ≡ e.words + b.words → words ≤ 8388608
     → IsStored (set es n (Some (record { blocks = e.blocks + 1; words = words; bytes = 8 * words }))) new_pieces new_places free (room - 1)
 append_stored n room words b es pieces new_pieces places new_places free held e stored k more less some tables sum most =
@@ -241,7 +241,7 @@ append_stored n room words b es pieces new_pieces places new_places free held e 
     let ls = lengths_of es in
     let total : words ≡ words_of (blocks_in n new_pieces.items) = sum ∙ (ap (λ w. w + b.words) k.words ∙ sym (ap words_of more.appends.own ∙ words_push (blocks_in n pieces.items) b)) in
     record {
-      sound = subst (λ (l : List (Option ℕ)). AreSound l (pieces_in new_pieces.items)) (sym (lengths_set es n (Some new))) (append_sound n words b ls (pieces_in pieces.items) (pieces_in new_pieces.items) held k.begun more.appends total most stored.sound);
+      sound = subst (λ (l : List (Option ℕ)). AreFit l (pieces_in new_pieces.items)) (sym (lengths_set es n (Some new))) (append_sound n words b ls (pieces_in pieces.items) (pieces_in new_pieces.items) held k.begun more.appends total most stored.sound);
       counted = counted_set n es pieces.items new_pieces.items (Some new) k.within stored.counted more.keeps (more.numbered, total);
       tables = tables;
       names = stored.names ∙ still_named n 0 es e new k.there;
@@ -253,7 +253,7 @@ append_stored n room words b es pieces new_pieces places new_places free held e 
 
 -- ---- releasing
 
-pub release_stored : (n room : ℕ) (es : List (Option Extent)) (pieces new_pieces : Members Held) (places new_places : Members Standing) (free new_free : Members FreeName) (held : Chain) (e : Extent) → IsStored es pieces places free room → IsKnown n es pieces.items held e
+pub release_stored : (n room : ℕ) (es : List (Option Extent)) (pieces new_pieces : Members Held) (places new_places : Members PlacedBlock) (free new_free : Members FreeName) (held : Chain) (e : Extent) → IsStored es pieces places free room → IsKnown n es pieces.items held e
     → Removes n (pieces_in pieces.items) (pieces_in new_pieces.items) → ((m : ℕ) → (m ≡ n → ⊥) → indices m new_pieces.items ≡ indices m pieces.items) → IsNumbered n 0 0 new_pieces.items → new_pieces.room ≡ pieces.room + e.blocks → length new_pieces.items + e.blocks ≡ length pieces.items
     → AreTables new_pieces new_places → new_free ≡ record { items = inserted (name n) free.items; room = free.room - 1 } → IsStored (set es n None) new_pieces new_places new_free (room + e.blocks)
 release_stored n room es pieces new_pieces places new_places free new_free held e stored k less others none more left tables freed =
@@ -262,7 +262,7 @@ release_stored n room es pieces new_pieces places new_places free new_free held 
     let named : length free.items ≡ length (free_from 0 es) = ap length stored.names in
     let count : length new_free.items ≡ length free.items + 1 = ap (λ (f : Members FreeName). length f.items) freed ∙ inserted-length (name n) free.items in
     record {
-      sound = subst (λ (l : List (Option ℕ)). AreSound l (pieces_in new_pieces.items)) (sym (lengths_set es n None)) (release_sound n ls (pieces_in pieces.items) (pieces_in new_pieces.items) k.begun.within less stored.sound);
+      sound = subst (λ (l : List (Option ℕ)). AreFit l (pieces_in new_pieces.items)) (sym (lengths_set es n None)) (release_sound n ls (pieces_in pieces.items) (pieces_in new_pieces.items) k.begun.within less stored.sound);
       counted = counted_set n es pieces.items new_pieces.items None k.within stored.counted (record { blocks = less.other; each = others }) none;
       tables = tables;
       names = ap (λ (f : Members FreeName). f.items) freed ∙ (ap (inserted (name n)) stored.names ∙ given 0 n n es e (omega arith) k.there);
@@ -272,7 +272,7 @@ release_stored n room es pieces new_pieces places new_places free new_free held 
       small = omega (arith, stored.small, length-set es n None);
     }
 
-pub name_room : (n room : ℕ) (es : List (Option Extent)) (pieces : Members Held) (places : Members Standing) (free : Members FreeName) (held : Chain) (e : Extent) → IsStored es pieces places free room → IsKnown n es pieces.items held e → 0 < free.room
+pub name_room : (n room : ℕ) (es : List (Option Extent)) (pieces : Members Held) (places : Members PlacedBlock) (free : Members FreeName) (held : Chain) (e : Extent) → IsStored es pieces places free room → IsKnown n es pieces.items held e → 0 < free.room
 name_room n room es pieces places free held e stored k = omega (arith, stored.name_room, ap length stored.names, fewer_free 0 n es e k.there)
 
 -- ---- cutting
@@ -318,7 +318,7 @@ cut_to n i count left ms qs l m r f last is =
     }
 
 -- another block at the same word leaves the table by place as it is
-pub rewrite_tables : (n i : ℕ) (left : Block) (pieces new_pieces : Members Held) (places : Members Standing) (m : Keyed Held) → AreTables pieces places → first_from (key_of n i) pieces.items ≡ Some m → m.key ≡ key_of n i → left.first ≡ m.value.block.first
+pub rewrite_tables : (n i : ℕ) (left : Block) (pieces new_pieces : Members Held) (places : Members PlacedBlock) (m : Keyed Held) → AreTables pieces places → first_from (key_of n i) pieces.items ≡ Some m → m.key ≡ key_of n i → left.first ≡ m.value.block.first
     → new_pieces.items ≡ inserted (held_at n i left) (without_first_from (key_of n i) pieces.items) → new_pieces.room ≡ pieces.room → IsOrdered new_pieces.items → AreTables new_pieces places
 rewrite_tables n i left pieces new_pieces places m tables first key same made room by_chain =
     let turn : turned (held_at n i left) ≡ turned m = ap (λ (k : Key). record { key = key_of left.first k.major; value = record { index = k.minor } }) (sym key) ∙ ap (λ place. record { key = key_of place m.key.major; value = record { index = m.key.minor } }) same in
@@ -331,7 +331,7 @@ rewrite_tables n i left pieces new_pieces places m tables first key same made ro
       rooms = tables.rooms ∙ sym room;
     }
 
-pub cut_stored : (n room bytes used words : ℕ) (es : List (Option Extent)) (pieces new_pieces : Members Held) (places : Members Standing) (free : Members FreeName) (held : Chain) (e : Extent) (front : List Block) (last left : Block) → IsStored es pieces places free room → IsKnown n es pieces.items held e
+pub cut_stored : (n room bytes used words : ℕ) (es : List (Option Extent)) (pieces new_pieces : Members Held) (places : Members PlacedBlock) (free : Members FreeName) (held : Chain) (e : Extent) (front : List Block) (last left : Block) → IsStored es pieces places free room → IsKnown n es pieces.items held e
     → IsCutTo n front last left pieces.items new_pieces.items → IsCut n bytes (lengths_of es) front last (pieces_in pieces.items) held → used ≡ words_for bytes - words_of front → left ≡ trimmed used last → new_pieces.room ≡ pieces.room → AreTables new_pieces places → words ≡ words_of front + left.words
     → IsStored (set es n (Some (record { blocks = e.blocks; words = words; bytes = bytes }))) new_pieces places free room
 cut_stored n room bytes used words es pieces new_pieces places free held e front last left stored k cut is used_is left_is same tables sum =
@@ -339,7 +339,7 @@ cut_stored n room bytes used words es pieces new_pieces places free held e front
     let ls = lengths_of es in
     let total : words ≡ words_of (blocks_in n new_pieces.items) = sum ∙ sym (ap words_of cut.cuts.own ∙ words_push front left) in
     record {
-      sound = subst (λ (l : List (Option ℕ)). AreSound l (pieces_in new_pieces.items)) (sym (lengths_set es n (Some new))) (cut_sound n bytes used ls front last left (pieces_in pieces.items) (pieces_in new_pieces.items) held k.begun is cut.cuts used_is left_is stored.sound);
+      sound = subst (λ (l : List (Option ℕ)). AreFit l (pieces_in new_pieces.items)) (sym (lengths_set es n (Some new))) (cut_sound n bytes used ls front last left (pieces_in pieces.items) (pieces_in new_pieces.items) held k.begun is cut.cuts used_is left_is stored.sound);
       counted = counted_set n es pieces.items new_pieces.items (Some new) k.within stored.counted cut.keeps (record { each = cut.each ∙ k.numbered.each }, total);
       tables = tables;
       names = stored.names ∙ still_named n 0 es e new k.there;
@@ -361,10 +361,10 @@ moved_counted change n (Some e) ms qs is h =
     let blocks : blocks_in n qs ≡ map (moved change) (blocks_in n ms) = ap (blocks_in n) is ∙ (ap (blocks_of n) (pieces_moved change ms) ∙ blocks_moved change n (pieces_in ms)) in
     (record { each = indices_after change n ms qs is ∙ h.0.each }, h.1 ∙ sym (ap words_of blocks ∙ words_moved change (blocks_in n ms)))
 
-pub move_stored : (change : Move) (room : ℕ) (es : List (Option Extent)) (pieces new_pieces : Members Held) (places new_places : Members Standing) (free : Members FreeName) → IsStored es pieces places free room
+pub move_stored : (change : Move) (room : ℕ) (es : List (Option Extent)) (pieces new_pieces : Members Held) (places new_places : Members PlacedBlock) (free : Members FreeName) → IsStored es pieces places free room
     → new_pieces.items ≡ map (moved_held change) pieces.items → new_pieces.room ≡ pieces.room → AreTables new_pieces new_places → IsStored es new_pieces new_places free room
 move_stored change room es pieces new_pieces places new_places free stored is same tables = record {
-  sound = subst (λ ps. AreSound (lengths_of es) ps) (sym (ap pieces_in is ∙ pieces_moved change pieces.items)) (sound_moved change (lengths_of es) (pieces_in pieces.items) stored.sound);
+  sound = subst (λ ps. AreFit (lengths_of es) ps) (sym (ap pieces_in is ∙ pieces_moved change pieces.items)) (sound_moved change (lengths_of es) (pieces_in pieces.items) stored.sound);
   counted = λ n. moved_counted change n (extent_at n es) pieces.items new_pieces.items is (stored.counted n);
   tables = tables;
   names = stored.names;
@@ -393,7 +393,7 @@ length-named : (k n : ℕ) → length (free_from k (replicate n None)) ≡ n
 length-named k zero = refl
 length-named k (suc n) = ap suc (length-named (k + 1) n)
 
-pub no_chains_stored : (n : ℕ) (es : List (Option Extent)) (pieces : Members Held) (places : Members Standing) (free : Members FreeName) → es ≡ replicate n None → pieces ≡ record { items = []; room = n } → places ≡ record { items = []; room = n } → free.items ≡ free_from 0 (replicate n None) → free.room + n ≡ n → n < 2 ^ 32
+pub no_chains_stored : (n : ℕ) (es : List (Option Extent)) (pieces : Members Held) (places : Members PlacedBlock) (free : Members FreeName) → es ≡ replicate n None → pieces ≡ record { items = []; room = n } → places ≡ record { items = []; room = n } → free.items ≡ free_from 0 (replicate n None) → free.room + n ≡ n → n < 2 ^ 32
     → IsStored es pieces places free n
 no_chains_stored n es pieces places free is none nowhere names spare small =
     let length_names : length free.items ≡ n = ap length names ∙ length-named 0 n in

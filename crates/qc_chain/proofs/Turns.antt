@@ -15,8 +15,8 @@ use Rattle.qc_index.proofs.Orders.{before_itself, same_key, inserted-permutation
 use Rattle.qc_tiles.specs.declared.blocks.Block.{Block}
 use Rattle.qc_tiles.specs.declared.blocks.Move.{Move}
 use Rattle.qc_chain.specs.declared.members.Held.{Held}
-use Rattle.qc_chain.specs.declared.members.Standing.{Standing}
-use Rattle.qc_chain.specs.Chains.{moved}
+use Rattle.qc_chain.specs.declared.members.PlacedBlock.{PlacedBlock}
+use Rattle.qc_tiles.specs.Tiles.{moved}
 use Rattle.qc_chain.specs.Stored.{key_of, held_at, blocks_in, indices, count_from, IsNumbered, turned, moved_held, AreTables, NoneAt, IsAloneFirst, stands_at, IsElsewhere}
 use Rattle.qc_chain.proofs.Keys.{key_is, minor_below, major_above, major_order}
 use Rattle.qc_chain.proofs.Listed.{IsFound, found, found_blocks, found_before, at_index, count_blocks, no_blocks}
@@ -52,14 +52,14 @@ some_counted f (x ∷ xs) h =
 
 -- ---- one member in both tables
 
-is_it : Keyed Standing → Keyed Standing → ℕ
+is_it : Keyed PlacedBlock → Keyed PlacedBlock → ℕ
 is_it x y = cond (eqb x.key.major y.key.major) (cond (eqb x.key.minor y.key.minor) (cond (eqb x.value.index y.value.index) 1 0) 0) 0
 
-it_is : (x : Keyed Standing) → 0 < is_it x x
+it_is : (x : Keyed PlacedBlock) → 0 < is_it x x
 unfolding is_it
 it_is x = rw (eq-eqb x.key.major x.key.major refl, eq-eqb x.key.minor x.key.minor refl, eq-eqb x.value.index x.value.index refl) (omega arith)
 
-is_only : (x y : Keyed Standing) → 0 < is_it x y → x ≡ y
+is_only : (x y : Keyed PlacedBlock) → 0 < is_it x y → x ≡ y
 unfolding is_it
 is_only x y h =
     elim (cases_eq x.key.major y.key.major) [
@@ -73,16 +73,16 @@ is_only x y h =
       ]
     ]
 
-pub held_of : (pieces : Members Held) (places : Members Standing) (y : Keyed Standing) → AreTables pieces places → Contains places.items y → (m : Keyed Held) × Contains pieces.items m × (turned m ≡ y)
+pub held_of : (pieces : Members Held) (places : Members PlacedBlock) (y : Keyed PlacedBlock) → AreTables pieces places → Contains places.items y → (m : Keyed Held) × Contains pieces.items m × (turned m ≡ y)
 held_of pieces places y tables h =
     let (m, in_it, more) = some_counted (λ (x : Keyed Held). is_it y (turned x)) pieces.items (omega (arith, it_is y, counted_in (is_it y) places.items y h, tables.same (is_it y))) in
     (m, in_it, sym (is_only y (turned m) more))
 
-pub standing_of : (pieces : Members Held) (places : Members Standing) (m : Keyed Held) → AreTables pieces places → Contains pieces.items m → Contains places.items (turned m)
+pub standing_of : (pieces : Members Held) (places : Members PlacedBlock) (m : Keyed Held) → AreTables pieces places → Contains pieces.items m → Contains places.items (turned m)
 standing_of pieces places m tables h =
     let y = turned m in
     let (x, in_it, more) = some_counted (is_it y) places.items (omega (arith, it_is y, counted_in (λ (n : Keyed Held). is_it y (turned n)) pieces.items m h, tables.same (is_it y))) in
-    subst (λ (z : Keyed Standing). Contains places.items z) (sym (is_only y x more)) in_it
+    subst (λ (z : Keyed PlacedBlock). Contains places.items z) (sym (is_only y x more)) in_it
 
 -- ---- the first member at a key
 
@@ -118,18 +118,18 @@ first_at {T} key (z ∷ zs) x ordered (suc k, within, is) same =
 
 -- ---- putting in
 
-pub add_tables : (pieces new_pieces : Members Held) (places new_places : Members Standing) (chain index : ℕ) (b : Block) → AreTables pieces places
+pub add_tables : (pieces new_pieces : Members Held) (places new_places : Members PlacedBlock) (chain index : ℕ) (b : Block) → AreTables pieces places
     → new_pieces ≡ record { items = inserted (held_at chain index b) pieces.items; room = pieces.room - 1 } → IsOrdered new_pieces.items
     → new_places ≡ record { items = inserted (turned (held_at chain index b)) places.items; room = places.room - 1 } → IsOrdered new_places.items → AreTables new_pieces new_places
 add_tables pieces new_pieces places new_places chain index b tables made by_chain stood by_place = record {
   by_chain = by_chain;
   by_place = by_place;
   same = λ f.
-      ap (λ (p : Members Standing). sum_by f p.items) stood
+      ap (λ (p : Members PlacedBlock). sum_by f p.items) stood
       ∙ (sum_put f (turned (held_at chain index b)) places.items
       ∙ (ap (λ n. f (turned (held_at chain index b)) + n) (tables.same f)
       ∙ (sym (sum_put (λ (m : Keyed Held). f (turned m)) (held_at chain index b) pieces.items) ∙ ap (λ (p : Members Held). sum_by (λ (m : Keyed Held). f (turned m)) p.items) (sym made))));
-  rooms = ap (λ (p : Members Standing). p.room) stood ∙ (ap (λ n. n - 1) tables.rooms ∙ ap (λ (p : Members Held). p.room) (sym made));
+  rooms = ap (λ (p : Members PlacedBlock). p.room) stood ∙ (ap (λ n. n - 1) tables.rooms ∙ ap (λ (p : Members Held). p.room) (sym made));
 }
 
 -- ---- taking out
@@ -159,7 +159,7 @@ alone_index (x ∷ xs) (suc k) b d rest alone shape within same =
     absurd (none_at_place x.first xs k d alone (omega arith) (same ∙ ap (λ (y : Block). y.first) (sym first)))
 
 -- the member by place that belongs to a chain's first block
-pub first_standing : (n i count : ℕ) (pieces : Members Held) (places : Members Standing) (l : List (Keyed Held)) (m : Keyed Held) (r : List (Keyed Held)) → AreTables pieces places → IsNumbered n i count pieces.items → IsFound n i i count pieces.items l m r → IsAloneFirst (blocks_in n pieces.items)
+pub first_standing : (n i count : ℕ) (pieces : Members Held) (places : Members PlacedBlock) (l : List (Keyed Held)) (m : Keyed Held) (r : List (Keyed Held)) → AreTables pieces places → IsNumbered n i count pieces.items → IsFound n i i count pieces.items l m r → IsAloneFirst (blocks_in n pieces.items)
     → first_from (key_of m.value.block.first n) places.items ≡ Some (turned m)
 first_standing n i count pieces places l m r tables numbered f alone =
     let m_in : Contains pieces.items m = subst (λ ms. Contains ms m) (sym f.shape) (mid_in l m r) in
@@ -168,8 +168,8 @@ first_standing n i count pieces places l m r tables numbered f alone =
     let place_key : (turned m).key ≡ key_of m.value.block.first n = ap (key_of m.value.block.first) major in
     let (y, first, key) = first_at (key_of m.value.block.first n) places.items (turned m) tables.by_place stands place_key in
     let (q, q_in, turn) = held_of pieces places y tables (first_in (key_of m.value.block.first n) places.items y first) in
-    let q_major : q.key.major ≡ n = ap (λ (x : Keyed Standing). x.key.minor) turn ∙ ap (λ (k : Key). k.minor) key in
-    let q_first : q.value.block.first ≡ m.value.block.first = ap (λ (x : Keyed Standing). x.key.major) turn ∙ ap (λ (k : Key). k.major) key in
+    let q_major : q.key.major ≡ n = ap (λ (x : Keyed PlacedBlock). x.key.minor) turn ∙ ap (λ (k : Key). k.minor) key in
+    let q_first : q.value.block.first ≡ m.value.block.first = ap (λ (x : Keyed PlacedBlock). x.key.major) turn ∙ ap (λ (k : Key). k.major) key in
     let at = at_index n i count pieces.items q q.value.block numbered.each q_in q_major in
     let zero_more : i - i ≡ 0 = omega arith in
     let before : blocks_in n l ≡ [] = no_blocks n i l (f.lower ∙ ap (count_from i) zero_more) in
@@ -181,7 +181,7 @@ first_standing n i count pieces places l m r tables numbered f alone =
     let same : q ≡ m = same_member n i i count pieces.items l m r q numbered (omega arith) f q_in q_key in
     first ∙ ap (λ x. Some x) (sym turn ∙ ap turned same)
 
-pub take_tables : (n i : ℕ) (pieces new_pieces : Members Held) (places new_places : Members Standing) (m : Keyed Held) → AreTables pieces places → first_from (key_of n i) pieces.items ≡ Some m → first_from (key_of m.value.block.first n) places.items ≡ Some (turned m)
+pub take_tables : (n i : ℕ) (pieces new_pieces : Members Held) (places new_places : Members PlacedBlock) (m : Keyed Held) → AreTables pieces places → first_from (key_of n i) pieces.items ≡ Some m → first_from (key_of m.value.block.first n) places.items ≡ Some (turned m)
     → new_pieces.items ≡ without_first_from (key_of n i) pieces.items → new_pieces.room ≡ pieces.room + 1 → IsOrdered new_pieces.items
     → new_places.items ≡ without_first_from (key_of m.value.block.first n) places.items → new_places.room ≡ places.room + 1 → IsOrdered new_places.items → AreTables new_pieces new_places
 take_tables n i pieces new_pieces places new_places m tables first standing left room by_chain stood more by_place = record {
@@ -197,7 +197,7 @@ take_tables n i pieces new_pieces places new_places m tables first standing left
 -- ---- moving
 
 -- one block of another place under the same chain and index
-pub move_tables : (n i place : ℕ) (pieces mid_pieces new_pieces : Members Held) (places mid_places new_places : Members Standing) (m : Keyed Held) (b : Block) → AreTables pieces places → first_from (key_of n i) pieces.items ≡ Some m → first_from (key_of place 0) places.items ≡ Some (turned m)
+pub move_tables : (n i place : ℕ) (pieces mid_pieces new_pieces : Members Held) (places mid_places new_places : Members PlacedBlock) (m : Keyed Held) (b : Block) → AreTables pieces places → first_from (key_of n i) pieces.items ≡ Some m → first_from (key_of place 0) places.items ≡ Some (turned m)
     → mid_pieces.items ≡ without_first_from (key_of n i) pieces.items → mid_pieces.room ≡ pieces.room + 1
     → mid_places.items ≡ without_first_from (key_of place 0) places.items → mid_places.room ≡ places.room + 1
     → new_pieces ≡ record { items = inserted (held_at n i b) mid_pieces.items; room = mid_pieces.room - 1 } → IsOrdered new_pieces.items
@@ -211,11 +211,11 @@ move_tables n i place pieces mid_pieces new_pieces places mid_places new_places 
       let q = sum_out g (key_of n i) pieces.items m first in
       let u = sum_put f (turned (held_at n i b)) mid_places.items in
       let v = sum_put g (held_at n i b) mid_pieces.items in
-      omega (arith, p, q, u, v, tables.same f, ap (sum_by f) stood, ap (sum_by g) left, ap (λ (x : Members Standing). sum_by f x.items) made_places, ap (λ (x : Members Held). sum_by g x.items) made);
-  rooms = omega (arith, ap (λ (x : Members Standing). x.room) made_places, ap (λ (x : Members Held). x.room) made, room, more, tables.rooms);
+      omega (arith, p, q, u, v, tables.same f, ap (sum_by f) stood, ap (sum_by g) left, ap (λ (x : Members PlacedBlock). sum_by f x.items) made_places, ap (λ (x : Members Held). sum_by g x.items) made);
+  rooms = omega (arith, ap (λ (x : Members PlacedBlock). x.room) made_places, ap (λ (x : Members Held). x.room) made, room, more, tables.rooms);
 }
 
-pub fewer_stand : (place to n j : ℕ) (places mid new : List (Keyed Standing)) (y : Keyed Standing) → first_from (key_of place 0) places ≡ Some y → y.key.major ≡ place → (to ≡ place → ⊥) → mid ≡ without_first_from (key_of place 0) places
+pub fewer_stand : (place to n j : ℕ) (places mid new : List (Keyed PlacedBlock)) (y : Keyed PlacedBlock) → first_from (key_of place 0) places ≡ Some y → y.key.major ≡ place → (to ≡ place → ⊥) → mid ≡ without_first_from (key_of place 0) places
     → new ≡ inserted (record { key = key_of to n; value = record { index = j } }) mid → sum_by (stands_at place) new < sum_by (stands_at place) places
 fewer_stand place to n j places mid new y first here other left made =
     let one : stands_at place y ≡ 1 = rw (eq-eqb y.key.major place here) refl in
@@ -223,10 +223,10 @@ fewer_stand place to n j places mid new y first here other left made =
     omega (arith, sum_out (stands_at place) (key_of place 0) places y first, one, none, ap (sum_by (stands_at place)) left, ap (sum_by (stands_at place)) made, sum_put (stands_at place) (record { key = key_of to n; value = record { index = j } }) mid)
 
 -- where no member at a place is found, none stands there
-none_stands : (place : ℕ) (xs : List (Keyed Standing)) (x : Keyed Standing) → IsOrdered xs → IsElsewhere place (first_from (key_of place 0) xs) → Contains xs x → x.key.major ≡ place → ⊥
+none_stands : (place : ℕ) (xs : List (Keyed PlacedBlock)) (x : Keyed PlacedBlock) → IsOrdered xs → IsElsewhere place (first_from (key_of place 0) xs) → Contains xs x → x.key.major ≡ place → ⊥
 none_stands place [] x ordered h (k, within, is) here = omega arith
 none_stands place (z ∷ zs) x ordered h (zero, within, is) here =
-    let z_here : z.key.major ≡ place = ap (λ (w : Keyed Standing). w.key.major) is ∙ here in
+    let z_here : z.key.major ≡ place = ap (λ (w : Keyed PlacedBlock). w.key.major) is ∙ here in
     elim (is_before (key_of place 0) z) as (λ b. is_before (key_of place 0) z ≡ b → IsElsewhere place (cond b (first_from (key_of place 0) zs) (Some z)) → ⊥) [
       | true ↦ λ e g. omega (arith, minor_below z.key place 0 z_here e)
       | false ↦ λ e g. g z_here
@@ -248,29 +248,29 @@ map_same f [] h = refl
 map_same f (m ∷ ms) h = rw (h m (in_first m ms), map_same f ms (λ q k. h q (behind q m ms k))) refl
 
 -- where no member stands at a place, nothing moves from there
-pub none_moved : (change : Move) (pieces : Members Held) (places : Members Standing) → AreTables pieces places → IsElsewhere change.from (first_from (key_of change.from 0) places.items) → map (moved_held change) pieces.items ≡ pieces.items
+pub none_moved : (change : Move) (pieces : Members Held) (places : Members PlacedBlock) → AreTables pieces places → IsElsewhere change.from (first_from (key_of change.from 0) places.items) → map (moved_held change) pieces.items ≡ pieces.items
 none_moved change pieces places tables none =
     map_same (moved_held change) pieces.items (λ m h.
     let still = moved_alike change m.value.block (λ here. none_stands change.from places.items (turned m) tables.by_place none (standing_of pieces places m tables h) here) in
     rw still refl)
 
 -- a member that stood at a place and its block
-pub record IsMoving (change : Move) (pieces : Members Held) (y : Keyed Standing) (l : List (Keyed Held)) (m : Keyed Held) (r : List (Keyed Held)) : Type 0 where
+pub record IsMoving (change : Move) (pieces : Members Held) (y : Keyed PlacedBlock) (l : List (Keyed Held)) (m : Keyed Held) (r : List (Keyed Held)) : Type 0 where
   pub turn : turned m ≡ y
   pub shape : pieces.items ≡ l ++ m ∷ r
   pub first : first_from (key_of y.key.minor y.value.index) pieces.items ≡ Some m
   pub left : without_first_from (key_of y.key.minor y.value.index) pieces.items ≡ l ++ r
   pub put : (b : Block) → inserted (held_at y.key.minor y.value.index b) (l ++ r) ≡ l ++ held_at y.key.minor y.value.index b ∷ r
 
-pub moving : (change : Move) (pieces : Members Held) (places : Members Standing) (y : Keyed Standing) → AreTables pieces places → ((n : ℕ) → (count : ℕ) × IsNumbered n 0 count pieces.items) → first_from (key_of change.from 0) places.items ≡ Some y
+pub moving : (change : Move) (pieces : Members Held) (places : Members PlacedBlock) (y : Keyed PlacedBlock) → AreTables pieces places → ((n : ℕ) → (count : ℕ) × IsNumbered n 0 count pieces.items) → first_from (key_of change.from 0) places.items ≡ Some y
     → (l : List (Keyed Held)) × (m : Keyed Held) × (r : List (Keyed Held)) × IsMoving change pieces y l m r
 moving change pieces places y tables numbered first =
     let n = y.key.minor in
     let i = y.value.index in
     let (q, q_in, turn) = held_of pieces places y tables (first_in (key_of change.from 0) places.items y first) in
     let (count, each) = numbered n in
-    let q_major : q.key.major ≡ n = ap (λ (x : Keyed Standing). x.key.minor) turn in
-    let q_minor : q.key.minor ≡ i = ap (λ (x : Keyed Standing). x.value.index) turn in
+    let q_major : q.key.major ≡ n = ap (λ (x : Keyed PlacedBlock). x.key.minor) turn in
+    let q_minor : q.key.minor ≡ i = ap (λ (x : Keyed PlacedBlock). x.value.index) turn in
     let at = at_index n 0 count pieces.items q q.value.block each.each q_in q_major in
     let (l, m, r, f) = found n i 0 count pieces.items tables.by_chain each (omega arith) (omega (arith, at.1, q_minor)) in
     let q_key : q.key ≡ key_of n i = key_is q.key n i q_major q_minor in
@@ -278,12 +278,12 @@ moving change pieces places y tables numbered first =
     (l, m, r, record { turn = ap turned (sym same) ∙ turn; shape = f.shape; first = f.first; left = f.left; put = f.put })
 
 -- what moves and what has moved move to the same
-pub moves_same : (change : Move) (pieces : Members Held) (new : List (Keyed Held)) (y : Keyed Standing) (l : List (Keyed Held)) (m : Keyed Held) (r : List (Keyed Held)) → IsMoving change pieces y l m r → y.key.major ≡ change.from → (change.to ≡ change.from → ⊥)
+pub moves_same : (change : Move) (pieces : Members Held) (new : List (Keyed Held)) (y : Keyed PlacedBlock) (l : List (Keyed Held)) (m : Keyed Held) (r : List (Keyed Held)) → IsMoving change pieces y l m r → y.key.major ≡ change.from → (change.to ≡ change.from → ⊥)
     → new ≡ inserted (held_at y.key.minor y.value.index (record { first = change.to; words = m.value.block.words })) (l ++ r) → map (moved_held change) new ≡ map (moved_held change) pieces.items
 moves_same change pieces new y l m r h here other made =
     let b : Block = record { first = change.to; words = m.value.block.words } in
-    let first : m.value.block.first ≡ change.from = ap (λ (x : Keyed Standing). x.key.major) h.turn ∙ here in
-    let key : m.key ≡ key_of y.key.minor y.value.index = key_is m.key y.key.minor y.value.index (ap (λ (x : Keyed Standing). x.key.minor) h.turn) (ap (λ (x : Keyed Standing). x.value.index) h.turn) in
+    let first : m.value.block.first ≡ change.from = ap (λ (x : Keyed PlacedBlock). x.key.major) h.turn ∙ here in
+    let key : m.key ≡ key_of y.key.minor y.value.index = key_is m.key y.key.minor y.value.index (ap (λ (x : Keyed PlacedBlock). x.key.minor) h.turn) (ap (λ (x : Keyed PlacedBlock). x.value.index) h.turn) in
     let alike : moved_held change (held_at y.key.minor y.value.index b) ≡ moved_held change m =
     rw (moved_alike change b other, moved_to change m.value.block first, key) refl in
     ap (map (moved_held change)) (made ∙ h.put b)

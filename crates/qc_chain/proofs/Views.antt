@@ -7,8 +7,9 @@ use Rattle.qc_tiles.specs.declared.blocks.Block.{Block}
 use Rattle.qc_tiles.specs.declared.blocks.Move.{Move}
 use Rattle.qc_chain.specs.declared.names.Piece.{Piece}
 use Rattle.qc_chain.specs.Words.{words_of}
-use Rattle.qc_chain.specs.Chains.{Chain, Chained, Begun, IsFit, chain_at, extent_of, no_chains, after_shift, moved, moved_chain}
-use Rattle.qc_chain.specs.Pieces.{blocks_of, chain_of, chains_from, chained, moved_piece, bytes_at, IsSound, AreSound}
+use Rattle.qc_tiles.specs.Tiles.{moved}
+use Rattle.qc_chain.specs.Chains.{Chain, Chained, Begun, IsFit, chain_at, extent_of, no_chains, after_shift, moved_chain}
+use Rattle.qc_chain.specs.Pieces.{blocks_of, chain_of, chains_from, chained, moved_piece, bytes_at, IsFitAt, AreFit}
 use Rattle.qc_chain.proofs.Pieces.{blocks_moved, words_moved}
 
 -- ---- reading
@@ -128,32 +129,32 @@ get_set_other (x ∷ ls) zero (suc m) l h = refl
 get_set_other (x ∷ ls) (suc n) zero l h = refl
 get_set_other (x ∷ ls) (suc n) (suc m) l h = get_set_other ls n m l (λ e. h (ap suc e))
 
-same_sound : (n : ℕ) (l : Option ℕ) (ps qs : List Piece) → blocks_of n qs ≡ blocks_of n ps → IsSound n l ps → IsSound n l qs
+same_sound : (n : ℕ) (l : Option ℕ) (ps qs : List Piece) → blocks_of n qs ≡ blocks_of n ps → IsFitAt n l ps → IsFitAt n l qs
 same_sound n None ps qs h s = h ∙ s
 same_sound n (Some b) ps qs h s = subst (λ (bs : List Block). IsFit bs b) (sym h) s
 
-pub sound_set : (n : ℕ) (ls : List (Option ℕ)) (ps qs : List Piece) (l : Option ℕ) → n < length ls → AreSound ls ps → KeepsOthers n ps qs → IsSound n l qs → AreSound (set ls n l) qs
+pub sound_set : (n : ℕ) (ls : List (Option ℕ)) (ps qs : List Piece) (l : Option ℕ) → n < length ls → AreFit ls ps → KeepsOthers n ps qs → IsFitAt n l qs → AreFit (set ls n l) qs
 sound_set n ls ps qs l within sound others here m =
     elim (cases_eq m n) [
       | inl same ↦ rw (same, get_set_same ls n l within) here
       | inr other ↦ rw (get_set_other ls n m l other) (same_sound m (bytes_at m ls) ps qs (others m other) (sound m))
     ]
 
-pub length_fits : (n bytes : ℕ) (ls : List (Option ℕ)) (ps : List Piece) → AreSound ls ps → bytes_at n ls ≡ Some bytes → IsFit (blocks_of n ps) bytes
-length_fits n bytes ls ps sound h = subst (λ (l : Option ℕ). IsSound n l ps) h (sound n)
+pub length_fits : (n bytes : ℕ) (ls : List (Option ℕ)) (ps : List Piece) → AreFit ls ps → bytes_at n ls ≡ Some bytes → IsFit (blocks_of n ps) bytes
+length_fits n bytes ls ps sound h = subst (λ (l : Option ℕ). IsFitAt n l ps) h (sound n)
 
 -- a chain that was begun fits
-pub begun_fits : (n : ℕ) (ls : List (Option ℕ)) (ps : List Piece) (held : Chain) → AreSound ls ps → IsBegun n ls ps held → IsFit (blocks_of n ps) held.bytes
+pub begun_fits : (n : ℕ) (ls : List (Option ℕ)) (ps : List Piece) (held : Chain) → AreFit ls ps → IsBegun n ls ps held → IsFit (blocks_of n ps) held.bytes
 begun_fits n ls ps held sound h = length_fits n held.bytes ls ps sound h.length
 
 -- the same, of the chain as contracts see it
-pub held_fits : (n room : ℕ) (ls : List (Option ℕ)) (ps : List Piece) (v : Chained) (held : Chain) → AreSound ls ps → chained ls ps room ≡ v → Begun n v held → IsFit held.blocks held.bytes
+pub held_fits : (n room : ℕ) (ls : List (Option ℕ)) (ps : List Piece) (v : Chained) (held : Chain) → AreFit ls ps → chained ls ps room ≡ v → Begun n v held → IsFit held.blocks held.bytes
 held_fits n room ls ps v held sound view h =
     let known = begun_at n room ls ps v held view h in
     subst (λ (bs : List Block). IsFit bs held.bytes) (sym known.same) (begun_fits n ls ps held sound known)
 
-pub free_has_none : (n : ℕ) (ls : List (Option ℕ)) (ps : List Piece) → AreSound ls ps → slice_get ls n ≡ Some None → blocks_of n ps ≡ []
-free_has_none n ls ps sound h = subst (λ (l : Option ℕ). IsSound n l ps) (ap (option_and_then (λ x. x)) h) (sound n)
+pub free_has_none : (n : ℕ) (ls : List (Option ℕ)) (ps : List Piece) → AreFit ls ps → slice_get ls n ≡ Some None → blocks_of n ps ≡ []
+free_has_none n ls ps sound h = subst (λ (l : Option ℕ). IsFitAt n l ps) (ap (option_and_then (λ x. x)) h) (sound n)
 
 -- ---- moves
 
@@ -168,13 +169,13 @@ chains_moved_from change k (l ∷ ls) ps = rw (chain_moved change k ps l, chains
 pub chains_moved : (change : Move) (ls : List (Option ℕ)) (ps : List Piece) → chains_from 0 ls (map (moved_piece change) ps) ≡ map (option_map (moved_chain change)) (chains_from 0 ls ps)
 chains_moved change ls ps = chains_moved_from change 0 ls ps
 
-moved_sound : (change : Move) (n : ℕ) (l : Option ℕ) (ps : List Piece) → IsSound n l ps → IsSound n l (map (moved_piece change) ps)
+moved_sound : (change : Move) (n : ℕ) (l : Option ℕ) (ps : List Piece) → IsFitAt n l ps → IsFitAt n l (map (moved_piece change) ps)
 moved_sound change n None ps h = blocks_moved change n ps ∙ ap (map (moved change)) h
 moved_sound change n (Some b) ps h =
     let same : words_of (blocks_of n (map (moved_piece change) ps)) ≡ words_of (blocks_of n ps) = ap words_of (blocks_moved change n ps) ∙ words_moved change (blocks_of n ps) in
     record { most = omega (arith, same, h.most); within = omega (arith, same, h.within) }
 
-pub sound_moved : (change : Move) (ls : List (Option ℕ)) (ps : List Piece) → AreSound ls ps → AreSound ls (map (moved_piece change) ps)
+pub sound_moved : (change : Move) (ls : List (Option ℕ)) (ps : List Piece) → AreFit ls ps → AreFit ls (map (moved_piece change) ps)
 sound_moved change ls ps h = λ n. moved_sound change n (bytes_at n ls) ps (h n)
 
 moved_nowhere : (change : Move) (b : Block) → change.from ≡ change.to → moved change b ≡ b

@@ -1,7 +1,6 @@
 -- The words of blocks, where they end, and where a word stands.
-use Rattle.std.proofs.Common.{◌≡◌, ℕ, ◌+◌, ◌-◌, ◌%◌, ◌<◌, ◌≤◌, List, [], ◌∷◌, ◌++◌, length, get_or, refl, sym, ap, ◌∙◌, arith, zero, suc, inl, inr}
-use Rattle.std.specs.List.{AllByRecursion}
-use Rattle.std.proofs.lemmas.Bool.{lt-ltb, le-ltb, cases_lt}
+use Rattle.std.proofs.Common.{◌≡◌, ℕ, ◌+◌, ◌-◌, ◌%◌, ◌<◌, ◌≤◌, List, [], ◌∷◌, ◌++◌, length, get_or, refl, sym, ap, ◌∙◌, arith, zero, suc}
+use Rattle.std.proofs.lemmas.Bool.{lt-ltb, le-ltb}
 use Rattle.qc_tiles.specs.declared.blocks.Block.{Block}
 use Rattle.qc_chain.specs.Words.{words_of, word_at}
 use Rattle.qc_chain.specs.Ends.{ends_from, start_at}
@@ -13,15 +12,6 @@ words_push (x ∷ bs) b = omega (arith, words_push bs b)
 pub words_append : (bs cs : List Block) → words_of (bs ++ cs) ≡ words_of bs + words_of cs
 words_append [] cs = omega arith
 words_append (x ∷ bs) cs = omega (arith, words_append bs cs)
-
--- the region's word at an index stands where the blocks do
-pub word_within : (words : ℕ) (bs : List Block) (i : ℕ) → AllByRecursion (λ b. b.first + b.words ≤ words) bs → i < words_of bs → word_at i bs < words
-word_within words [] i h within = absurd (omega arith)
-word_within words (b ∷ bs) i h within =
-    elim (cases_lt i b.words) [
-      | inl below ↦ rw (lt-ltb i b.words below) (omega (arith, h.0))
-      | inr above ↦ rw (le-ltb i b.words above) (word_within words bs (i - b.words) h.1 (omega arith))
-    ]
 
 pub word_here : (i : ℕ) (b : Block) (bs : List Block) → i < b.words → word_at i (b ∷ bs) ≡ b.first + i
 word_here i b bs below = rw (lt-ltb i b.words below) refl
@@ -102,10 +92,6 @@ is_in n i (b ∷ bs) (suc at) block from to within before after =
 pub in_block : (bs : List Block) (ends : List ℕ) (i at : ℕ) (block : Block) → ends ≡ ends_from 0 bs → i < words_of bs → at ≤ length ends → ((k : ℕ) → k < at → get_or ends k 0 ≤ i) → ((k : ℕ) → at ≤ k → k < length ends → i < get_or ends k 0) → IsIn 0 i bs at block
 in_block bs ends i at block is index within before after =
     is_in 0 i bs at block (omega arith) (omega arith) (rw is at within) (λ k h. rw is at (before k h)) (λ k h l. let m : k < length ends = rw (← is) at l in rw is at (after k h m))
-
-pub start_is : (n : ℕ) (ends : List ℕ) (at : ℕ) → (at ≡ 0 → ⊥) → start_at n ends at ≡ get_or ends (at - 1) 0
-start_is n ends zero h = absurd (h refl)
-start_is n ends (suc k) h = let e : suc k - 1 ≡ k = omega arith in rw e refl
 
 -- a number that fits stays as it is
 pub wraps_to : (a b : ℕ) → a ≡ b → b < 4294967296 → a % 4294967296 ≡ b

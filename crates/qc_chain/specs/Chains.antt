@@ -4,7 +4,7 @@ use Rattle.std.specs.List.{AllByRecursion}
 use Rattle.qc_tiles.specs.declared.blocks.Block.{Block}
 use Rattle.qc_tiles.specs.declared.blocks.Move.{Move}
 use Rattle.qc_tiles.specs.declared.blocks.Tile.{Tile}
-use Rattle.qc_tiles.specs.Tiles.{handed_out, after_give_back, after_trim, trimmed}
+use Rattle.qc_tiles.specs.Tiles.{handed_out, moved, after_give_back, after_trim, trimmed}
 use Rattle.qc_chain.specs.declared.names.Extent.{Extent}
 use Rattle.qc_chain.specs.Words.{words_of}
 
@@ -50,10 +50,6 @@ whole_chain blocks = record { blocks = blocks; bytes = 8 * words_of blocks }
 
 abbrev pub after_append : ℕ → Block → Chain → Chained → Chained
 after_append n block chain c = record { chains = slice_set c.chains n (Some (whole_chain (chain.blocks ++ block ∷ []))); room = c.room - 1 }
-
--- a block that stood where something moved away stands where that went
-abbrev pub moved : Move → Block → Block
-moved change b = if b.first == change.from then record { first = change.to; words = b.words } else b
 
 abbrev pub moved_chain : Move → Chain → Chain
 moved_chain change chain = record chain { blocks = map (moved change) chain.blocks }

@@ -9,11 +9,11 @@ use Rattle.qc_tiles.specs.declared.blocks.Move.{Move}
 use Rattle.qc_chain.specs.declared.names.Extent.{Extent}
 use Rattle.qc_chain.specs.declared.names.Piece.{Piece}
 use Rattle.qc_chain.specs.declared.members.Held.{Held}
-use Rattle.qc_chain.specs.declared.members.Standing.{Standing}
+use Rattle.qc_chain.specs.declared.members.PlacedBlock.{PlacedBlock}
 use Rattle.qc_chain.specs.declared.members.FreeName.{FreeName}
 use Rattle.qc_chain.specs.Words.{words_of}
-use Rattle.qc_chain.specs.Chains.{moved}
-use Rattle.qc_chain.specs.Pieces.{blocks_of, AreSound}
+use Rattle.qc_tiles.specs.Tiles.{moved}
+use Rattle.qc_chain.specs.Pieces.{blocks_of, AreFit}
 
 abbrev pub key_of : ℕ → ℕ → Key
 key_of major minor = record { major = major; minor = minor }
@@ -53,14 +53,14 @@ moved_held change m = record { key = m.key; value = record { block = moved chang
 -- ---- the blocks by place
 
 -- a block of a chain as it stands under its place
-abbrev pub turned : Keyed Held → Keyed Standing
+abbrev pub turned : Keyed Held → Keyed PlacedBlock
 turned m = record { key = key_of m.value.block.first m.key.major; value = record { index = m.key.minor } }
 
 -- both tables have the same blocks: whatever is summed over one is the sum over the other
-pub record AreTables (pieces : Members Held) (places : Members Standing) : Type 0 where
+pub record AreTables (pieces : Members Held) (places : Members PlacedBlock) : Type 0 where
   pub by_chain : IsOrdered pieces.items
   pub by_place : IsOrdered places.items
-  pub same : (f : Keyed Standing → ℕ) → sum_by f places.items ≡ sum_by (λ m. f (turned m)) pieces.items
+  pub same : (f : Keyed PlacedBlock → ℕ) → sum_by f places.items ≡ sum_by (λ m. f (turned m)) pieces.items
   pub rooms : places.room ≡ pieces.room
 
 -- no two blocks of a list stand at one place
@@ -74,17 +74,17 @@ IsAloneFirst [] = Unit {0}
 IsAloneFirst (b ∷ bs) = NoneAt b.first bs
 
 -- how many members stand at a place, for each member 0 or 1
-abbrev pub stands_at : ℕ → Keyed Standing → ℕ
+abbrev pub stands_at : ℕ → Keyed PlacedBlock → ℕ
 stands_at place y = if y.key.major == place then 1 else 0
 
 -- a member, if any, stands at another place
-abbrev pub IsElsewhere : ℕ → Option (Keyed Standing) → Type 0
+abbrev pub IsElsewhere : ℕ → Option (Keyed PlacedBlock) → Type 0
 IsElsewhere place None = Unit {0}
 IsElsewhere place (Some y) = y.key.major ≡ place → ⊥
 
 -- a member is found that stands at a place
-pub record Stands (place : ℕ) (ys : List (Keyed Standing)) : Type 0 where
-  pub standing : Keyed Standing
+pub record Stands (place : ℕ) (ys : List (Keyed PlacedBlock)) : Type 0 where
+  pub standing : Keyed PlacedBlock
   pub first : first_from (key_of place 0) ys ≡ Some standing
   pub here : standing.key.major ≡ place
 
@@ -112,8 +112,8 @@ abbrev pub IsCounted : ℕ → Option Extent → List (Keyed Held) → Type 0
 IsCounted n None ms = IsNumbered n 0 0 ms
 IsCounted n (Some e) ms = IsNumbered n 0 e.blocks ms × (e.words ≡ words_of (blocks_in n ms))
 
-pub record IsStored (extents : List (Option Extent)) (pieces : Members Held) (places : Members Standing) (free : Members FreeName) (room : ℕ) : Type 0 where
-  pub sound : AreSound (lengths_of extents) (pieces_in pieces.items)
+pub record IsStored (extents : List (Option Extent)) (pieces : Members Held) (places : Members PlacedBlock) (free : Members FreeName) (room : ℕ) : Type 0 where
+  pub sound : AreFit (lengths_of extents) (pieces_in pieces.items)
   pub counted : (n : ℕ) → IsCounted n (extent_at n extents) pieces.items
   pub tables : AreTables pieces places
   pub names : free.items ≡ free_from 0 extents

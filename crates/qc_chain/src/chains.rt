@@ -6,7 +6,7 @@ ghost use Rattle.qc_chain.specs.Words.{words_of, word_at, spot_at};
 ghost use Rattle.qc_chain.specs.Chains.{Chain, Begun, IsFit, AreHandedOut, EndsInLast, no_chains, chain_at, extent_of, empty_chain, with_chain, after_append, after_shift, after_release, used_words, cut_chain, after_cut};
 ghost use Rattle.qc_chain.specs.Stored.{extent_at};
 
-use crate::members::{FreeName, Held, Standing, key};
+use crate::members::{FreeName, Held, PlacedBlock, key};
 use crate::names::{ChainName, Extent, Spot};
 use crate::ranges::Ranges;
 use crate::tables::{add, block_at, give_back_all, move_all, place_of, push_blocks, rewrite};
@@ -26,7 +26,7 @@ pub struct Chains {
     /// The blocks by chain and index.
     pieces: Index<Held>,
     /// The same blocks by place.
-    places: Index<Standing>,
+    places: Index<PlacedBlock>,
     room: u32,
 }
 

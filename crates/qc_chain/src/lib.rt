@@ -4,12 +4,10 @@
 mod chains;
 mod members;
 mod names;
-mod plain;
 mod ranges;
 mod tables;
 
 pub use chains::Chains;
 pub use names::{ChainName, Extent, Spot};
-pub use plain::PlainChains;
 pub use qc_tiles::{Block, Move, Tiles};
 pub use ranges::Ranges;

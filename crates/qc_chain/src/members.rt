@@ -14,7 +14,7 @@ pub(crate) struct Held {
 
 /// The index that a block has in its chain, under the block's place and the chain's number.
 #[derive(Debug, Drop)]
-pub(crate) struct Standing {
+pub(crate) struct PlacedBlock {
     pub(crate) index: u32,
 }
 
@@ -32,9 +32,9 @@ impl Blank for Held {
     }
 }
 
-impl Blank for Standing {
-    fn blank(_alloc: Global) -> Standing {
-        Standing { index: 0 }
+impl Blank for PlacedBlock {
+    fn blank(_alloc: Global) -> PlacedBlock {
+        PlacedBlock { index: 0 }
     }
 }
 

@@ -7,7 +7,7 @@ ghost use Rattle.qc_chain.specs.Words.{words_of, word_at};
 ghost use Rattle.qc_chain.specs.Chains.{AreHandedOut, after_release};
 ghost use Rattle.qc_chain.specs.Stored.{key_of, held_at, pieces_in, blocks_in, indices, IsNumbered, AreTables, IsAloneFirst, Removes, moved_held, stands_at, Stands, IsElsewhere};
 
-use crate::members::{Held, Standing, key};
+use crate::members::{Held, PlacedBlock, key};
 use crate::ranges::Ranges;
 use qc_index::{Index, Key, Keyed};
 use qc_tiles::{Block, Move, Tiles};
@@ -26,7 +26,7 @@ pub(crate) fn block_at(pieces: &Index<Held>, chain: u32, index: u32) -> Block
 /// Puts a block of a chain into both tables.
 pub(crate) fn add(
     pieces: &mut Index<Held>,
-    places: &mut Index<Standing>,
+    places: &mut Index<PlacedBlock>,
     chain: u32,
     index: u32,
     block: Block,
@@ -37,7 +37,7 @@ pub(crate) fn add(
     ensures tables { AreTables pieces.new places.new }
 {
     pieces.insert(key(chain, index), Held { block });
-    places.insert(key(block.first, chain), Standing { index });
+    places.insert(key(block.first, chain), PlacedBlock { index });
 }
 
 /// Puts another block in the place of the one with an index. It begins at the same word.
@@ -56,7 +56,7 @@ pub(crate) fn rewrite(pieces: &mut Index<Held>, chain: u32, index: u32, block: B
 /// Takes the first block of a chain that is left out of both tables, by its index.
 pub(crate) fn take_out(
     pieces: &mut Index<Held>,
-    places: &mut Index<Standing>,
+    places: &mut Index<PlacedBlock>,
     chain: u32,
     index: u32,
 ) -> Block
@@ -76,7 +76,7 @@ pub(crate) fn take_out(
 }
 
 /// Moves each block that stands where something moved away.
-pub(crate) fn move_all(pieces: &mut Index<Held>, places: &mut Index<Standing>, change: Move)
+pub(crate) fn move_all(pieces: &mut Index<Held>, places: &mut Index<PlacedBlock>, change: Move)
     requires tables { AreTables pieces.old places.old }
     requires numbered { (n : ℕ) → (count : ℕ) × IsNumbered n 0 count pieces.old.items }
     requires other { change.to ≡ change.from → ⊥ }
@@ -88,7 +88,7 @@ pub(crate) fn move_all(pieces: &mut Index<Held>, places: &mut Index<Standing>, c
 }
 
 /// Moves one block that stands where something moved away. False, with nothing changed, where there is none.
-fn move_one(pieces: &mut Index<Held>, places: &mut Index<Standing>, change: Move) -> bool
+fn move_one(pieces: &mut Index<Held>, places: &mut Index<PlacedBlock>, change: Move) -> bool
     requires tables { AreTables pieces.old places.old }
     requires numbered { (n : ℕ) → (count : ℕ) × IsNumbered n 0 count pieces.old.items }
     requires other { change.to ≡ change.from → ⊥ }
@@ -125,7 +125,7 @@ fn move_one(pieces: &mut Index<Held>, places: &mut Index<Standing>, change: Move
 }
 
 /// Whether a block stands at a place.
-fn any_at(places: &Index<Standing>, place: u32) -> bool
+fn any_at(places: &Index<PlacedBlock>, place: u32) -> bool
     ensures some { result ≡ true → Stands place places.now.items }
     ensures none { result ≡ false → IsElsewhere place (first_from (key_of place 0) places.now.items) }
 {
@@ -168,7 +168,7 @@ pub(crate) fn place_of(pieces: &Index<Held>, chain: u32, count: u32, word: u32) 
 /// Takes a chain's blocks out of the tables and gives them back, the first one first.
 pub(crate) fn give_back_all(
     pieces: &mut Index<Held>,
-    places: &mut Index<Standing>,
+    places: &mut Index<PlacedBlock>,
     chain: u32,
     count: u32,
     tiles: &mut Tiles,

@@ -16,7 +16,8 @@ use Rattle.qc_index.specs.Keys.{key_before, is_before}
 use Rattle.qc_index.specs.Ordered.{IsOrdered}
 use Rattle.qc_dir.specs.declared.entries.Entry.{Entry}
 use Rattle.qc_dir.specs.declared.tables.TableBlock.{TableBlock}
-use Rattle.qc_dir.specs.Directory.{Directory, has_serial, has_hash, entry_at, serials_under, changed, names_table, moved, moved_entry, moved_table, after_shift}
+use Rattle.qc_tiles.specs.Tiles.{moved}
+use Rattle.qc_dir.specs.Directory.{Directory, has_serial, has_hash, entry_at, serials_under, changed, names_table, moved_entry, moved_table, after_shift}
 use Rattle.qc_dir.specs.Keys.{Keys, total, bit, times, same_key, first_key, IsLeastFrom, IsStrict, HasMinors, is_under, minors_under}
 use Rattle.qc_dir.specs.Slots.{Numbered, IsInOrder, has_number, is_of, number_of, numbered_at, moved_numbered}
 use Rattle.qc_dir.specs.Uses.{placed_text}

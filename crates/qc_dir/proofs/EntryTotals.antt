@@ -11,9 +11,6 @@ use Rattle.qc_dir.proofs.Totals.{total-append}
 abbrev pub with : ℕ → List Entry → ℕ
 with n es = total (λ e. bit (has_serial n e)) es
 
-is_itself : (e : Entry) → has_serial e.serial e ≡ true
-is_itself e = grind (arith, nat_tests)
-
 pub entry-serial : (n : ℕ) (es : List Entry) (e : Entry) → entry_at n es ≡ Some e → e.serial ≡ n
 entry-serial n [] e h = absurd (none-some e h)
 entry-serial n (x ∷ xs) e h =

@@ -1,10 +1,7 @@
 pub mod Apart
-pub mod Changes
 pub mod DirCalls
 pub mod DirSteps
 pub mod EntryTotals
-pub mod Examples
-pub mod Frees
 pub mod Insertions
 pub mod KeyCounts
 pub mod Names
@@ -13,8 +10,8 @@ pub mod Removals
 pub mod SlotCalls
 pub mod SlotSteps
 pub mod Stamps
-pub mod Standing
 pub mod Totals
 pub mod UseCalls
 pub mod UseOrder
 pub mod UseSteps
+mod examples

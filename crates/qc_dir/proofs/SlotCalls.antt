@@ -305,9 +305,6 @@ pub record IsFresh (n : ℕ) (slots : List (Option TableBlock)) (free : List ℕ
   pub slots_len : length slots ≡ n
   pub free_len : length free ≡ n
 
-pub fresh_none : IsFresh 0 [] []
-fresh_none = record { empty = tt; below = tt; apart = λ k. omega arith; slots_len = refl; free_len = refl }
-
 pub fresh_more : (n : ℕ) (slots : List (Option TableBlock)) (free : List ℕ) → IsFresh n slots free → IsFresh (n + 1) (slots ++ None ∷ []) (free ++ n ∷ [])
 fresh_more n slots free h = record {
   empty = each_both (λ s. s ≡ None) slots (None ∷ []) h.empty (refl, tt);

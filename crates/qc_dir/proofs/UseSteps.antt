@@ -1,5 +1,5 @@
 -- What the lists of entries, of serials and of idle entries say of each other, when one entry is taken out or put in.
-use Rattle.std.proofs.Common.{◌≡◌, ◌≢◌, ℕ, ◌+◌, ◌-◌, ◌<◌, ◌≤◌, Bool, true, false, not, ◌&&◌, nat_lt, List, [], ◌∷◌, refl, sym, ap, ◌∙◌, subst, Option, Some, None, arith}
+use Rattle.std.proofs.Common.{◌≡◌, ◌≢◌, ℕ, ◌+◌, ◌-◌, ◌<◌, ◌≤◌, Bool, true, false, not, ◌&&◌, List, [], ◌∷◌, refl, sym, ap, ◌∙◌, subst, Option, Some, None, arith}
 use Rattle.std.specs.List.{AllByRecursion}
 use Rattle.std.specs.Option.{IsSome}
 use Rattle.std.proofs.lemmas.Option.{same_Some}
@@ -13,21 +13,6 @@ use Rattle.qc_dir.specs.Keys.{Keys, total, bit, same_key, times, IsLeastFrom}
 use Rattle.qc_dir.specs.Uses.{Use, stamp_key, use_at, IsUses, serial_key, use_key, with_serial}
 use Rattle.qc_dir.proofs.KeyCounts.{same_itself}
 use Rattle.qc_dir.proofs.Stamps.{values, total-inserted, total-without, rising-without, rising-inserted, at_stamp, length-without, length-inserted, there_counts, none_counts}
-
--- what counts for the sum counts for one member
-some_counts : {X : Type 0} (w : X → ℕ) (xs : List X) → 0 < total w xs → (x : X) × (0 < w x) × (w x ≤ total w xs)
-some_counts w [] h = absurd (omega (arith, h))
-some_counts {X = X} w (x ∷ xs) h =
-    elim (nat_lt 0 (w x)) as (λ v. nat_lt 0 (w x) ≡ v → (y : X) × (0 < w y) × (w y ≤ total w (x ∷ xs))) [
-      | true ↦ λ e. (x, grind (arith, nat_tests), omega arith)
-      | false ↦ λ e. later (some_counts w xs (rest e))
-    ] refl
-  where
-    rest : nat_lt 0 (w x) ≡ false → 0 < total w xs
-    rest e = let none : w x ≡ 0 = grind (arith, nat_tests) in omega (arith, h, none)
-
-    later : ((y : X) × (0 < w y) × (w y ≤ total w xs)) → (y : X) × (0 < w y) × (w y ≤ total w (x ∷ xs))
-    later found = (found.0, found.1, omega (arith, found.2))
 
 -- an entry with the serial n stands under some stamp, as the set of the serials has it
 serial_stands : (n : ℕ) (xs : List Use) → 0 < with_serial n xs → (s : ℕ) × (0 < total (λ m. bit (same_key (record { major = n; minor = s }) (serial_key m))) xs)

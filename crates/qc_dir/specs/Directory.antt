@@ -5,6 +5,7 @@ use Rattle.qc_types.specs.declared.names.TableName.{TableName}
 use Rattle.qc_sql.specs.Database.{same_table}
 use Rattle.qc_tiles.specs.declared.blocks.Block.{Block}
 use Rattle.qc_tiles.specs.declared.blocks.Move.{Move}
+use Rattle.qc_tiles.specs.Tiles.{moved}
 use Rattle.qc_dir.specs.declared.entries.Entry.{Entry}
 use Rattle.qc_dir.specs.declared.tables.TableBlock.{TableBlock}
 
@@ -119,10 +120,6 @@ pub record RemovesEntry (n : ℕ) (freed : List TableBlock) (old new : Directory
   pub table_room : new.table_room ≡ old.table_room + length freed
 
 -- ---- a block that moved
-
--- a block that stood where something moved away stands where that went
-abbrev pub moved : Move → Block → Block
-moved change b = if b.first == change.from then record { first = change.to; words = b.words } else b
 
 abbrev pub moved_entry : Move → Entry → Entry
 moved_entry change e = record e { text = moved change e.text }

@@ -2,6 +2,5 @@ pub mod Blocks
 pub mod Directory
 pub mod Indexed
 pub mod Keys
-pub mod Plain
 pub mod Slots
 pub mod Uses

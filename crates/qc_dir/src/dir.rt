@@ -92,7 +92,7 @@ impl Dir {
         self.hashes.under(hash)
     }
 
-    /// The entry with a serial, lent, if any.
+    /// The entry with a serial, borrowed, if any.
     pub fn entry(&self, serial: u64) -> Option<&Entry>
         ensures entry { option_copied result ≡ entry_at serial self.now.entries }
         ensures valid { IsDirectory self.now }

@@ -256,7 +256,7 @@ impl Uses {
         self.put_use(key.major, value);
     }
 
-    /// The entry with a serial, lent, if any.
+    /// The entry with a serial, borrowed, if any.
     pub(crate) fn entry(&self, serial: u64) -> Option<&Entry>
         ensures { option_copied result ≡ entry_at serial (entries_of self.now) }
     {

@@ -22,6 +22,12 @@ use Rattle.qc_eval.specs.Texts.{text_size}
 abbrev pub both_texts : Option (List ℕ) → Option (List ℕ) → Option (List ℕ)
 both_texts a b = option_and_then (λ t. option_map (λ ts. t ++ ts) b) a
 
+regroup : (a b c : Option (List ℕ)) → both_texts a (both_texts b c) ≡ both_texts (both_texts a b) c
+regroup None b c = refl
+regroup (Some a) None c = refl
+regroup (Some a) (Some b) None = refl
+regroup (Some a) (Some b) (Some c) = ap Some (sym (append_assoc a b c))
+
 pub concat-append : (xs ys : List Value) → concat_texts (xs ++ ys) ≡ both_texts (concat_texts xs) (concat_texts ys)
 concat-append [] ys = one (concat_texts ys)
   where
@@ -29,12 +35,6 @@ concat-append [] ys = one (concat_texts ys)
     one None = refl
     one (Some t) = refl
 concat-append (x ∷ xs) ys = ap (both_texts (text_of x)) (concat-append xs ys) ∙ regroup (text_of x) (concat_texts xs) (concat_texts ys)
-  where
-    regroup : (a b c : Option (List ℕ)) → both_texts a (both_texts b c) ≡ both_texts (both_texts a b) c
-    regroup None b c = refl
-    regroup (Some a) None c = refl
-    regroup (Some a) (Some b) None = refl
-    regroup (Some a) (Some b) (Some c) = ap Some (sym (append_assoc a b c))
 
 -- of texts together that are there, each is, and none is longer
 together : (a b : Option (List ℕ)) (n : ℕ) → option_map length a ≡ Some n → 65535 < n → text_size (concat_value (both_texts a b)) ≡ None
@@ -115,7 +115,7 @@ puts_joined (Some t) room put old new h p = by_size (nat_lt 65535 (length t)) re
     by_size true e =
         let over : nat_le (length t) room ≡ false = lt-leb (length t) room (omega (arith, ltb-true 65535 (length t) e)) in
         let no : put ≡ false = p.answer ∙ over in
-        rw e (record { answer = no; whole = λ yes. absurd (let both : true ≡ false = sym yes ∙ no in cc); front = p.front; within = p.within; capacity = p.capacity })
+        rw e (record { answer = no; whole = λ yes. absurd (let both : true ≡ false = sym yes ∙ no in cc); prefix = p.prefix; within = p.within; capacity = p.capacity })
 
 module _ {X : Type 0} (f : X → Value) where
   -- the texts of the first parts, and that of the next
@@ -130,12 +130,6 @@ module _ {X : Type 0} (f : X → Value) where
   pub texts_around : (xs : List X) (i : ℕ) (x : X) → i < length xs → x ≡ get_or xs i x → concat_texts (map f xs) ≡ both_texts (both_texts (concat_texts (map f (take i xs))) (text_of (f x))) (concat_texts (map f (drop (i + 1) xs)))
   texts_around xs i x h is =
       ap concat_texts (before_and_at f xs i x h is) ∙ concat-append (map f (take i xs)) (f x ∷ map f (drop (i + 1) xs)) ∙ regroup (concat_texts (map f (take i xs))) (text_of (f x)) (concat_texts (map f (drop (i + 1) xs)))
-    where
-      regroup : (a b c : Option (List ℕ)) → both_texts a (both_texts b c) ≡ both_texts (both_texts a b) c
-      regroup None b c = refl
-      regroup (Some a) None c = refl
-      regroup (Some a) (Some b) None = refl
-      regroup (Some a) (Some b) (Some c) = ap Some (sym (append_assoc a b c))
 
 -- nothing is put yet
 pub nothing_put : (room : ℕ) (old : Buffered) → HasPut (Some []) room room old old
@@ -165,7 +159,7 @@ put_all a room left old now h =
     record {
       answer = rw h.is (sym (le-leb (length h.text) room (omega arith)));
       whole = λ e. rw h.is h.behind;
-      front = rw h.behind (take-append_seam old.bytes h.text);
+      prefix = rw h.behind (take-append_seam old.bytes h.text);
       within = rw (h.behind, length-append old.bytes h.text) (omega arith);
       capacity = h.capacity;
     }
@@ -184,15 +178,15 @@ put_not a b c room left old now new h p =
     record {
       answer = sym (rw h.is (not_fitting h.text b c room left h.left_over p.answer));
       whole = λ e. absurd (let no : false ≡ true = e in cc);
-      front = front_of_front;
+      prefix = prefix_of_prefix;
       within = let w = p.within in omega (arith, long);
       capacity = let k = h.capacity in let m = p.capacity in omega arith;
     }
   where
-    front_of_front : take (length old.bytes) new.bytes ≡ old.bytes
-    front_of_front =
+    prefix_of_prefix : take (length old.bytes) new.bytes ≡ old.bytes
+    prefix_of_prefix =
         let now_long : length now.bytes ≡ length old.bytes + length h.text = ap length h.behind ∙ length-append old.bytes h.text in
-        ap (take (length old.bytes)) (sym (take-append-drop (length now.bytes) new.bytes)) ∙ ap (λ t. take (length old.bytes) (t ++ drop (length now.bytes) new.bytes)) p.front
+        ap (take (length old.bytes)) (sym (take-append-drop (length now.bytes) new.bytes)) ∙ ap (λ t. take (length old.bytes) (t ++ drop (length now.bytes) new.bytes)) p.prefix
         ∙ take-append-le (length old.bytes) now.bytes (drop (length now.bytes) new.bytes) (omega (arith, now_long))
         ∙ ap (take (length old.bytes)) h.behind ∙ take-append_seam old.bytes h.text
 

@@ -24,11 +24,11 @@ abbrev pub fits : ℕ → Option (List ℕ) → Bool
 fits room None = false
 fits room (Some t) = nat_le (length t) room
 
--- What a call did that puts a text behind a buffer where it fits: it is there then, and else some front of it may be.
+-- What a call did that puts a text behind a buffer where it fits: it is there then, and else some prefix of it may be.
 pub record Puts (text : Option (List ℕ)) (room : ℕ) (put : Bool) (old new : Buffered) : Type 0 where
   pub answer : put ≡ fits room text
   pub whole : put ≡ true → new.bytes ≡ old.bytes ++ unwrap_or text []
-  pub front : take (length old.bytes) new.bytes ≡ old.bytes
+  pub prefix : take (length old.bytes) new.bytes ≡ old.bytes
   pub within : length new.bytes ≤ length old.bytes + room
   pub capacity : old.capacity ≤ new.capacity
 

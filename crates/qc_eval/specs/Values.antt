@@ -1,10 +1,10 @@
 -- What cells stand for.
 use Rattle.qc_types.specs.declared.names.Value.{Value}
 use Rattle.qc_types.specs.declared.names.Value.TheVariants as value
-use Rattle.qc_wire.specs.declared.cells.Cell.{Cell}
-use Rattle.qc_wire.specs.declared.cells.Cell.TheVariants as cell
-use Rattle.qc_wire.specs.declared.cells.StoredCell.{StoredCell}
-use Rattle.qc_wire.specs.declared.cells.StoredCell.TheVariants as stored
+use Rattle.qc_sql.specs.declared.cells.Cell.{Cell}
+use Rattle.qc_sql.specs.declared.cells.Cell.TheVariants as cell
+use Rattle.qc_sql.specs.declared.cells.StoredCell.{StoredCell}
+use Rattle.qc_sql.specs.declared.cells.StoredCell.TheVariants as stored
 
 -- the value that a cell shows
 abbrev pub cell_value : Cell → Value

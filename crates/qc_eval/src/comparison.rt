@@ -5,8 +5,8 @@ ghost use Rattle.qc_types.specs.declared.names.Value.TheVariants as value;
 ghost use Rattle.qc_sql.specs.Rows as meant;
 ghost use Rattle.qc_eval.specs.Values.{cell_value};
 
+use qc_sql::cells::Cell;
 use qc_sql::statements::Op;
-use qc_wire::Cell;
 use std::cmp::Ordering;
 
 /// The order of two values: NULL is the lowest, numbers go by their value, and texts by their bytes.

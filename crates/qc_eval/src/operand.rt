@@ -10,8 +10,8 @@ use crate::scene::Scene;
 use crate::sizes::size;
 use crate::values::{length_cell, literal, present_cell};
 use qc_resolve::Formula;
+use qc_sql::cells::Cell;
 use qc_types::Steps;
-use qc_wire::Cell;
 use std::sync::ledger::Ledger;
 
 /// A value that is compared.

@@ -12,12 +12,12 @@ use crate::sizes::size;
 use crate::values::{length_cell, literal, present_cell};
 use itoa::Buffer;
 use qc_resolve::Formula;
+use qc_sql::cells::Cell;
 use qc_types::Steps;
-use qc_wire::Cell;
 use std::sync::ledger::Ledger;
 
 /// Puts the text of a formula's value behind a buffer, and says whether it is there: it isn't where the value is NULL or has more than `room` bytes, and
-/// then some front of it may have been put. Linear in the formula and in the texts that it reads.
+/// then some prefix of it may have been put. Linear in the formula and in the texts that it reads.
 #[tactic(auto, using(qc_resolve::specs::Folding::formula_laws))]
 #[cycle(texts)]
 pub fn append<L: Ledger>(

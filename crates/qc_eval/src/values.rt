@@ -5,8 +5,8 @@ ghost use Rattle.qc_eval.specs.Values.{cell_value, stored_value};
 ghost use Rattle.qc_eval.specs.Texts.{text_size, size_value, present_size};
 
 use itoa::Buffer;
+use qc_sql::cells::{Cell, StoredCell};
 use qc_types::Value;
-use qc_wire::{Cell, StoredCell};
 
 /// The most bytes of a joined text.
 pub(crate) const MOST_TEXT: usize = 65_535;
@@ -22,8 +22,8 @@ pub(crate) fn literal(value: &Value) -> Cell<'_>
     }
 }
 
-/// A cell of its own, lent.
-pub(crate) fn lent(cell: &StoredCell) -> Cell<'_>
+/// A cell of its own, borrowed.
+pub(crate) fn borrowed(cell: &StoredCell) -> Cell<'_>
     ensures { cell_value result ≡ stored_value cell.now }
 {
     match cell {

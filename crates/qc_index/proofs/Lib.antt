@@ -1,5 +1,5 @@
-mod Cuts
 pub mod Orders
 mod Halves
 mod TreeCuts
 mod TreeEdits
+mod examples

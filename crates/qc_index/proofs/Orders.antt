@@ -1,5 +1,5 @@
 -- Lists in the order of their keys: what putting in, looking up and taking out make of them.
-use Rattle.std.proofs.Common.{◌≡◌, ◌+◌, true, false, cond, List, [], ◌∷◌, ◌++◌, length, refl, ap, subst, Some, None, arith}
+use Rattle.std.proofs.Common.{◌≡◌, ◌+◌, true, false, cond, List, [], ◌∷◌, ◌++◌, length, refl, ap, Some, None, arith}
 use Rattle.std.specs.List.{AllByRecursion}
 use Rattle.std.specs.List.Sorted.{IsPermutation}
 use Rattle.std.proofs.lemmas.List.Sorted.{IsPermutation-refl, IsPermutation-cons, IsPermutation-trans}
@@ -18,28 +18,14 @@ before_itself a = grind (arith, nat_tests)
 pub not_both : (a b : Key) → key_before a b ≡ true → key_before b a ≡ false
 not_both a b h = grind (arith, nat_tests)
 
-pub before_still : (a b c : Key) → key_before a b ≡ true → key_before c b ≡ false → key_before a c ≡ true
-before_still a b c h k = grind (arith, nat_tests)
-
 pub not_before_still : (a b c : Key) → key_before b a ≡ false → key_before c b ≡ false → key_before c a ≡ false
 not_before_still a b c h k = grind (arith, nat_tests)
-
-pub before_then : (a b c : Key) → key_before a b ≡ true → key_before b c ≡ true → key_before a c ≡ true
-before_then a b c h k = grind (arith, nat_tests)
 
 pub same_key : (a b : Key) → key_before a b ≡ false → key_before b a ≡ false → a ≡ b
 same_key a b h k =
     let major : a.major ≡ b.major = grind (arith, nat_tests) in
     let minor : a.minor ≡ b.minor = grind (arith, nat_tests) in
     rw (major, minor) refl
-
--- ---- one more member
-
-pub inserted_behind : {T : Type 0} (x y : Keyed T) (ys : List (Keyed T)) → is_before x.key y ≡ true → inserted x (y ∷ ys) ≡ y ∷ inserted x ys
-inserted_behind x y ys e = rw e refl
-
-pub inserted_front : {T : Type 0} (x y : Keyed T) (ys : List (Keyed T)) → is_before x.key y ≡ false → inserted x (y ∷ ys) ≡ x ∷ y ∷ ys
-inserted_front x y ys e = rw e refl
 
 each_inserted : {T : Type 0} (P : Keyed T → Type 0) (x : Keyed T) (xs : List (Keyed T)) → P x → AllByRecursion P xs → AllByRecursion P (inserted x xs)
 each_inserted P x [] here h = (here, tt)
@@ -104,38 +90,6 @@ without-ordered key (y ∷ ys) h =
       | true ↦ (each_without (λ z. is_before y.key z ≡ false) key ys h.0, without-ordered key ys h.1)
       | false ↦ h.1
     ]
-
-pub first-not_before : {T : Type 0} (key : Key) (xs : List (Keyed T)) (y : Keyed T) → first_from key xs ≡ Some y → is_before key y ≡ false
-first-not_before key [] y h = absurd (none-some y h)
-first-not_before key (x ∷ xs) y h =
-    elim (is_before key x) as (λ v. is_before key x ≡ v → cond v (first_from key xs) (Some x) ≡ Some y → is_before key y ≡ false) [
-      | true ↦ λ e k. first-not_before key xs y k
-      | false ↦ λ e k. subst (λ z. is_before key z ≡ false) (same_Some x y k) e
-    ] refl h
-
-pub first-least : {T : Type 0} (key : Key) (xs : List (Keyed T)) (y : Keyed T) → IsOrdered xs → first_from key xs ≡ Some y → AllByRecursion (λ z. is_before key z ≡ false → is_before y.key z ≡ false) xs
-first-least key [] y ordered h = tt
-first-least {T = T} key (x ∷ xs) y ordered h =
-    elim (is_before key x) as (λ v. is_before key x ≡ v → cond v (first_from key xs) (Some x) ≡ Some y → AllByRecursion (λ z. is_before key z ≡ false → is_before y.key z ≡ false) (x ∷ xs)) [
-      | true ↦ λ e k. (λ f. absurd (cc (e, f)), first-least key xs y ordered.1 k)
-      | false ↦ λ e k. subst (λ (w : Keyed T). AllByRecursion (λ z. is_before key z ≡ false → is_before w.key z ≡ false) (x ∷ xs)) (same_Some x y k) (λ f. before_itself x.key, weaker xs ordered.0)
-    ] refl h
-  where
-    weaker : (zs : List (Keyed T)) → AllByRecursion (λ z. is_before x.key z ≡ false) zs → AllByRecursion (λ z. is_before key z ≡ false → is_before x.key z ≡ false) zs
-    weaker [] k = tt
-    weaker (z ∷ zs) k = (λ f. k.0, weaker zs k.1)
-
-pub none-all_before : {T : Type 0} (key : Key) (xs : List (Keyed T)) → first_from key xs ≡ None → AllByRecursion (λ z. is_before key z ≡ true) xs
-none-all_before key [] h = tt
-none-all_before key (x ∷ xs) h =
-    elim (is_before key x) as (λ v. is_before key x ≡ v → cond v (first_from key xs) (Some x) ≡ None → AllByRecursion (λ z. is_before key z ≡ true) (x ∷ xs)) [
-      | true ↦ λ e k. (e, none-all_before key xs k)
-      | false ↦ λ e k. absurd (cc k)
-    ] refl h
-
-pub all_before-none : {T : Type 0} (key : Key) (xs : List (Keyed T)) → AllByRecursion (λ z. is_before key z ≡ true) xs → first_from key xs ≡ None
-all_before-none key [] h = refl
-all_before-none key (x ∷ xs) h = rw h.0 (all_before-none key xs h.1)
 
 pub without-permutation : {T : Type 0} (key : Key) (xs : List (Keyed T)) (y : Keyed T) → first_from key xs ≡ Some y → IsPermutation xs (y ∷ without_first_from key xs)
 without-permutation key [] y h = absurd (none-some y h)

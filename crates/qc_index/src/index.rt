@@ -92,7 +92,7 @@ impl<T: Blank> Index<T> {
         Some(member)
     }
 
-    /// The first member that doesn't stand before a key, lent.
+    /// The first member that doesn't stand before a key, borrowed.
     pub fn first_from(&self, key: Key) -> Option<&Keyed<T>>
         ensures member { option_copied result ≡ first_from key self.now.items }
         ensures ordered { IsOrdered self.now.items }
@@ -100,7 +100,7 @@ impl<T: Blank> Index<T> {
         self.tree.first_from(key)
     }
 
-    /// The last member, lent.
+    /// The last member, borrowed.
     pub fn last(&self) -> Option<&Keyed<T>>
         ensures member { option_copied result ≡ last_of self.now.items }
         ensures ordered { IsOrdered self.now.items }

@@ -3,9 +3,7 @@
 
 mod index;
 mod keys;
-mod plain;
 mod tree;
 
 pub use index::Index;
 pub use keys::{Blank, Key, Keyed};
-pub use plain::PlainIndex;

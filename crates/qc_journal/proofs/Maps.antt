@@ -1,55 +1,18 @@
--- Maps from names, held as entries whose keys have a name each, and what a name has after a change.
-use Rattle.std.proofs.Common.{◌≡◌, Bool, true, false, cond, List, [], ◌∷◌, map, refl, ap, sym, ◌∙◌}
+-- What a name has in a map after a change.
+use Rattle.std.proofs.Common.{◌≡◌, Bool, true, false, cond, [], ◌∷◌, refl, ap, sym, ◌∙◌}
 use Rattle.std.specs.Prelude.{Option, Some, None, IsSome, bytes_eq}
 use Rattle.std.specs.Ordering.{is_eq, match_ordering}
-use Rattle.std.specs.declared.cmp.Ordering.{Ordering}
 use Rattle.std.specs.declared.cmp.Ordering.TheVariants.{Less, Equal, Greater}
 use Rattle.std.specs.BTreeMap.{insert_entry, is_at}
-use Rattle.std.specs.Map.{lookup, set_value}
+use Rattle.std.specs.Map.{set_value}
 use Rattle.std.proofs.lemmas.Bool.{false≢true}
 use Rattle.std.proofs.lemmas.Map.Lookups.{exact_bytes}
 use Rattle.std.proofs.lemmas.Map.Text.{is_eq-slice_cmp}
 use Rattle.qc_sql.specs.Database.{Name, MapOf, name_cmp, at_name}
+use Rattle.qc_table.proofs.Maps.{equal_is}
 
 abbrev at : Name → Name → Bool
 at n k = is_at (name_cmp n) k
-
-module _ {K : Type 0} (f : K → Name) where
-  abbrev cmp : K → K → Ordering
-  cmp a b = name_cmp (f a) (f b)
-
-module _ {K X : Type 0} (f : K → Name) where
-  abbrev pub named : List (K × X) → MapOf Name X
-  named es = map (λ e. (f e.0, e.1)) es
-
-  pub lookup-named : (name : Name) (es : List (K × X)) → lookup (λ k. at name (f k)) es ≡ at_name name (named es)
-  lookup-named name [] = refl
-  lookup-named name (e ∷ es) = ap (cond (at name (f e.0)) (Some e.1)) (lookup-named name es)
-
-  pub insert_entry-named : (es : List (K × X)) (k : K) (v : X) → named (insert_entry (cmp f) es k v) ≡ insert_entry name_cmp (named es) (f k) v
-  insert_entry-named [] k v = refl
-  insert_entry-named (e ∷ es) k v =
-      elim (cmp f k e.0) as (λ r. named (match_ordering r ((k, v) ∷ e ∷ es) ((e.0, v) ∷ es) (e ∷ insert_entry (cmp f) es k v))
-      ≡ match_ordering r ((f k, v) ∷ (f e.0, e.1) ∷ named es) ((f e.0, v) ∷ named es) ((f e.0, e.1) ∷ insert_entry name_cmp (named es) (f k) v)) [
-        | Less ↦ refl
-        | Equal ↦ refl
-        | Greater ↦ ap (λ rest. (f e.0, e.1) ∷ rest) (insert_entry-named es k v)
-      ]
-
-  pub set_value-named : (name : Name) (es : List (K × X)) (w : X) → named (set_value (λ k. at name (f k)) es w) ≡ set_value (at name) (named es) w
-  set_value-named name [] w = refl
-  set_value-named name (e ∷ es) w =
-      elim (at name (f e.0)) as (λ b. named (cond b ((e.0, w) ∷ es) (e ∷ set_value (λ k. at name (f k)) es w)) ≡ cond b ((f e.0, w) ∷ named es) ((f e.0, e.1) ∷ set_value (at name) (named es) w)) [
-        | true ↦ refl
-        | false ↦ ap (λ rest. (f e.0, e.1) ∷ rest) (set_value-named name es w)
-      ]
-
--- ---- names that are equal
-
-equal_is : (r : Ordering) → is_eq r ≡ true → r ≡ Equal
-equal_is Less e = absurd cc
-equal_is Equal e = refl
-equal_is Greater e = absurd cc
 
 -- what finds a key is its name
 same_name : (n k : Name) → at n k ≡ true → n ≡ k

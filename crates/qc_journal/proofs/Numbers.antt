@@ -38,9 +38,9 @@ last_after-push changes journal e t within same =
     ∙ (ap (cond (test e) (1 + length journal)) same
     ∙ sym (last_number-push test 0 1 journal e))))
 
--- no operation of a front passes where none of the list does
-pub none_in_front : {X : Type 0} (test : X → Bool) (xs : List X) (i : ℕ) → list_any test xs ≡ false → list_any test (take i xs) ≡ false
-none_in_front test xs i none =
+-- no operation of a prefix passes where none of the list does
+pub none_in_prefix : {X : Type 0} (test : X → Bool) (xs : List X) (i : ℕ) → list_any test xs ≡ false → list_any test (take i xs) ≡ false
+none_in_prefix test xs i none =
     (or_parts (list_any test (take i xs)) (list_any test (drop i xs)) (sym (list_any-append test (take i xs) (drop i xs)) ∙ (ap (list_any test) (take-append-drop i xs) ∙ none))).0
 
 -- two choices of one number

@@ -1,5 +1,4 @@
-pub mod Room
-pub mod Lent
 pub mod Counting
 pub mod Indexed
 pub mod Kept
+pub mod Room

@@ -7,10 +7,10 @@ ghost use Rattle.qc_sql.specs.Database.{Name, at_name, same_table, touches};
 ghost use Rattle.qc_model.specs.Journal as journal;
 ghost use Rattle.qc_journal.specs.Indexed.{found, last_after, number_in};
 
-use crate::name_map::NameMap;
 use crate::touching::touches_table;
 use qc_model::events::Event;
 use qc_sql::tables::RowOp;
+use qc_table::NameMap;
 use qc_types::{NoMemory, TableName};
 use std::alloc::Global;
 

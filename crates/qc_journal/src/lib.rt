@@ -4,10 +4,7 @@
 mod changes;
 mod counts;
 mod journal;
-mod name_map;
 mod replicas;
-#[cfg(test)]
-mod tests;
 mod touching;
 
 pub use journal::Journal;

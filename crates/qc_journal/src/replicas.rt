@@ -3,7 +3,8 @@
 ghost use Rattle.std.specs.Prelude.{◌≡◌, IfOk};
 
 use qc_model::events::{Event, How, Reason};
-use qc_sql::tables::{Column, RowOp};
+use qc_sql::tables::RowOp;
+use qc_table::copy_of_columns;
 use qc_types::{Duplicate, NoMemory, OwnedList};
 use std::alloc::Global;
 
@@ -25,17 +26,6 @@ pub(crate) fn replicas<T: Replicate>(alloc: Global, items: &[T]) -> Result<Owned
     Ok(list)
 }
 
-impl Replicate for Column {
-    fn replicate(&self, alloc: Global) -> Result<Column, NoMemory> {
-        Ok(Column {
-            name: self.name.copy(alloc)?,
-            kind: self.kind,
-            not_null: self.not_null,
-            primary: self.primary,
-        })
-    }
-}
-
 impl Replicate for RowOp {
     fn replicate(&self, alloc: Global) -> Result<RowOp, NoMemory> {
         match self {
@@ -43,7 +33,7 @@ impl Replicate for RowOp {
             RowOp::Del(table, key) => Ok(RowOp::Del(table.duplicate(alloc)?, *key)),
             RowOp::CreateTable(table, columns) => Ok(RowOp::CreateTable(
                 table.duplicate(alloc)?,
-                replicas(alloc, columns.items())?,
+                copy_of_columns(alloc, columns)?,
             )),
             RowOp::DropTable(table) => Ok(RowOp::DropTable(table.duplicate(alloc)?)),
             RowOp::CreateDb(name) => Ok(RowOp::CreateDb(name.copy(alloc)?)),

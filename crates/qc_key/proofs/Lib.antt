@@ -1,4 +1,4 @@
 pub mod FlagBytes
 pub mod OneSpelling
 pub mod ReadKeys
-mod Examples
+mod examples

@@ -1,14 +1,10 @@
 -- A key determines what it is made of.
-use Rattle.std.proofs.Common.{◌≡◌, ℕ, ◌^◌, ◌<◌, inl, inr, List, ◌++◌, length, get_or, take, drop, refl, sym, ap, subst, ◌∙◌, arith, append_assoc}
+use Rattle.std.proofs.Common.{◌≡◌, ℕ, List, ◌++◌, length, get_or, take, drop, refl, sym, ap, subst, ◌∙◌, append_assoc}
 use Rattle.std.proofs.lemmas.List.{take_at, append_cancel_left}
-use Rattle.qc_sql.specs.declared.session.Flags.{Flags}
 use Rattle.qc_sql.specs.Keys.{flag_bytes, key_bytes}
-use Rattle.qc_key.specs.Keyed.{CanBeKeyed}
+use Rattle.qc_sql.proofs.Keys.{charset_fits}
 use Rattle.qc_key.specs.Laws.{HasOneSpelling}
 use Rattle.qc_key.proofs.FlagBytes.{flag_bytes_same}
-
-pub charset_fits : (f : Flags) (db : List ℕ) → CanBeKeyed f db → f.charset < 2 ^ 16
-charset_fits f db can = elim can.charset [ inl e ↦ omega (arith, e) | inr e ↦ omega (arith, e) ]
 
 pub one_spelling : HasOneSpelling
 one_spelling key f g d e t u kf kg =

@@ -1,10 +1,10 @@
 //! Keys: a byte with the length of the database name, the name, 15 bytes of flags, and the text to the end.
 
-ghost use Rattle.std.specs.Prelude.{◌≡◌, ◌<◌, ◌^◌, ◌++◌, ◌↔◌, Bool, List, [], ◌∷◌, ℕ, length, IfOk, OnOk, IfSome, IsTrue, Some};
+ghost use Rattle.std.specs.Prelude.{◌≡◌, ◌<◌, ◌^◌, ◌++◌, Bool, List, [], ◌∷◌, ℕ, length, IfOk, OnOk, IfSome, IsTrue, Some};
 ghost use Rattle.std.specs.Int.{w16, w64, to_le_bytes};
 ghost use Rattle.qc_sql.specs.Keys as meant;
 ghost use Rattle.qc_sql.specs.declared.session.Flags.{Flags};
-ghost use Rattle.qc_key.specs.Keyed.{CanBeKeyed, IsKeyOf, read_as};
+ghost use Rattle.qc_key.specs.Keyed.{IsKeyOf, read_as};
 
 use byteorder::{ByteOrder, LittleEndian};
 use qc_sql::session::Flags;
@@ -17,7 +17,7 @@ const MOST_NAME: usize = 64;
 /// The bytes of flags.
 const FLAG_BYTES: usize = 15;
 
-/// What a key is made of: the flags of a session, and its database name and the text of its statement, lent from the key.
+/// What a key is made of: the flags of a session, and its database name and the text of its statement, borrowed from the key.
 #[derive(Clone, Copy, Debug, PartialEq, Eq)]
 pub struct KeyParts<'a> {
     /// The flags of the session.
@@ -31,7 +31,7 @@ pub struct KeyParts<'a> {
 /// Whether these flags and this database name can stand in a key: the name has at most 64 bytes, the character set is 33 (`utf8`) or 45
 /// (`utf8mb4`), and both forms of the reply are 0. Constant time.
 pub fn can_be_keyed(flags: &Flags, db: &[u8]) -> bool
-    ensures { IsTrue result ↔ CanBeKeyed flags.now db.now }
+    ensures { result ≡ meant.can_be_keyed flags.now db.now }
 {
     db.len() <= MOST_NAME
         && (flags.charset == 33 || flags.charset == 45)
@@ -45,7 +45,7 @@ pub fn can_be_keyed(flags: &Flags, db: &[u8]) -> bool
 /// version, the same default character set and the same other flags. So all of these are in the key. Whether they can be, `can_be_keyed` says.
 /// Linear in the bytes.
 pub fn key_bytes(alloc: Global, flags: &Flags, db: &[u8], text: &[u8]) -> Result<Text, NoMemory>
-    requires { CanBeKeyed flags.now db.now }
+    requires { IsTrue (meant.can_be_keyed flags.now db.now) }
     ensures { IfOk result (λ key. key ≡ meant.key_bytes flags.now db.now text.now) }
 {
     let mut key = Vec::with_capacity(alloc, 1 + db.len() + FLAG_BYTES + text.len())?;

@@ -4,8 +4,6 @@
 mod hashing;
 mod keys;
 mod laws;
-#[cfg(test)]
-mod tests;
 
 pub use hashing::{hash, table_hash};
 pub use keys::{KeyParts, can_be_keyed, key_bytes, read_key};

@@ -13,7 +13,7 @@ use Rattle.qc_lex.specs.declared.token.TokenKind.{TokenKind}
 use Rattle.qc_lex.specs.declared.token.TokenKind.TheVariants as kind
 use Rattle.qc_lex.specs.Seen.{kind_of}
 use Rattle.qc_lex.specs.Fronts.{Shown, Skips, Gives, shown}
-use Rattle.qc_lex.specs.Heads.{lexemes, leading}
+use Rattle.qc_lex.specs.Heads.{lexemes_in, leading}
 use Rattle.qc_lex.proofs.Meanings.{Reads, front_reads}
 use Rattle.qc_lex.proofs.LexLoop.{lexed_at, lexed_first}
 
@@ -48,34 +48,34 @@ anywhere (suc n) ansi at place text =
     (λ k. anywhere n ansi (at + k) (place + k) (drop k text))
     ∙ sym (whats_on (front ansi text) place (λ k. lexed_from n ansi (place + k) (drop k text)))
 
-pub lexemes_first : (text : List ℕ) → lexemes text ≡ on_front (front false text) (λ k. lexemes (drop k text))
+pub lexemes_first : (text : List ℕ) → lexemes_in text ≡ on_front (front false text) (λ k. lexemes_in (drop k text))
 unfolding lexed
 lexemes_first text =
     ap whats (lexed_first false 0 text)
     ∙ whats_on (front false text) 0 (λ k. lexed_at false (0 + k) (drop k text))
-    ∙ on_same (front false text) (λ k. whats (lexed_at false (0 + k) (drop k text))) (λ k. lexemes (drop k text))
+    ∙ on_same (front false text) (λ k. whats (lexed_at false (0 + k) (drop k text))) (λ k. lexemes_in (drop k text))
     (λ k. anywhere (length (drop k text) + 1) false (0 + k) 0 (drop k text))
 
 -- ---- the first word
 
 abbrev Skipped : Shown → List ℕ → List Lexeme → Type 0
-Skipped (Skips k) text ls = ls ≡ lexemes (drop k text)
+Skipped (Skips k) text ls = ls ≡ lexemes_in (drop k text)
 Skipped f text ls = Unit {0}
 
-skipped_by : (f : Front) (text : List ℕ) → Skipped (shown f) text (on_front f (λ k. lexemes (drop k text)))
+skipped_by : (f : Front) (text : List ℕ) → Skipped (shown f) text (on_front f (λ k. lexemes_in (drop k text)))
 skipped_by meaning.Ends text = tt
 skipped_by (meaning.Skips k) text = refl
 skipped_by (meaning.Gives k what) text = tt
 skipped_by (meaning.Faults f) text = tt
 
-pub skipped : (k : ℕ) (rest : List ℕ) (total : List Lexeme) → Skips k ≡ shown (front false rest) → lexemes rest ≡ total → lexemes (take (length rest - k) (drop k rest)) ≡ total
+pub skipped : (k : ℕ) (rest : List ℕ) (total : List Lexeme) → Skips k ≡ shown (front false rest) → lexemes_in rest ≡ total → lexemes_in (take (length rest - k) (drop k rest)) ≡ total
 skipped k rest total e so_far =
-    let there : Skipped (Skips k) rest (on_front (front false rest) (λ j. lexemes (drop j rest))) = subst (λ f. Skipped f rest (on_front (front false rest) (λ j. lexemes (drop j rest)))) (sym e) (skipped_by (front false rest) rest) in
+    let there : Skipped (Skips k) rest (on_front (front false rest) (λ j. lexemes_in (drop j rest))) = subst (λ f. Skipped f rest (on_front (front false rest) (λ j. lexemes_in (drop j rest)))) (sym e) (skipped_by (front false rest) rest) in
     rw (take_rest rest k) (sym there ∙ sym (lexemes_first rest) ∙ so_far)
 
 -- what a front gives, by its kind
 abbrev pub ByKind : TokenKind → ℕ → List ℕ → List Lexeme → Type 0
-ByKind kind.Word k text ls = ls ≡ Word (take k text) ∷ lexemes (drop k text)
+ByKind kind.Word k text ls = ls ≡ Word (take k text) ∷ lexemes_in (drop k text)
 ByKind other k text ls = leading ls ≡ None
 
 abbrev pub Led : Shown → List ℕ → List Lexeme → Type 0
@@ -83,23 +83,23 @@ Led (Gives k kind) text ls = ByKind kind k text ls
 Led (Skips k) text ls = Unit {0}
 Led f text ls = leading ls ≡ None
 
-led_token : (what : Lexeme) (k : ℕ) (text : List ℕ) → Reads (meaning.Gives k what) text → ByKind (kind_of what) k text (what ∷ lexemes (drop k text))
-led_token (Word w) k text h = ap (λ w. Word w ∷ lexemes (drop k text)) h
+led_token : (what : Lexeme) (k : ℕ) (text : List ℕ) → Reads (meaning.Gives k what) text → ByKind (kind_of what) k text (what ∷ lexemes_in (drop k text))
+led_token (Word w) k text h = ap (λ w. Word w ∷ lexemes_in (drop k text)) h
 led_token (Quoted w) k text h = refl
 led_token (Words w) k text h = refl
 led_token (Digits n) k text h = refl
 led_token (Sign s) k text h = refl
 
-led_by : (f : Front) (text : List ℕ) → Reads f text → Led (shown f) text (on_front f (λ k. lexemes (drop k text)))
+led_by : (f : Front) (text : List ℕ) → Reads f text → Led (shown f) text (on_front f (λ k. lexemes_in (drop k text)))
 led_by meaning.Ends text h = refl
 led_by (meaning.Skips k) text h = tt
 led_by (meaning.Gives k what) text h = led_token what k text h
 led_by (meaning.Faults f) text h = refl
 
-pub led : (f : Shown) (rest : List ℕ) → f ≡ shown (front false rest) → Led f rest (lexemes rest)
+pub led : (f : Shown) (rest : List ℕ) → f ≡ shown (front false rest) → Led f rest (lexemes_in rest)
 led f rest e =
     subst (Led f rest) (sym (lexemes_first rest))
-    (subst (λ f. Led f rest (on_front (front false rest) (λ j. lexemes (drop j rest)))) (sym e) (led_by (front false rest) rest (front_reads false rest)))
+    (subst (λ f. Led f rest (on_front (front false rest) (λ j. lexemes_in (drop j rest)))) (sym e) (led_by (front false rest) rest (front_reads false rest)))
 
 -- ---- the head
 
@@ -138,24 +138,24 @@ head_by (t ∷ ts) = by t.what ts
     by (Digits n) ts = refl
     by (Sign w) ts = refl
 
-pub head_is : (text : List ℕ) → head_of text ≡ first_of_two (leading (lexemes text)) (leading (behind (lexemes text)))
+pub head_is : (text : List ℕ) → head_of text ≡ first_of_two (leading (lexemes_in text)) (leading (behind (lexemes_in text)))
 unfolding head_of
 head_is text = head_by (lexed text false).0
 
-pub not_word : (text : List ℕ) → leading (lexemes text) ≡ None → head.NotSelect ≡ head_of text
-not_word text e = sym (head_is text ∙ ap (λ w. first_of_two w (leading (behind (lexemes text)))) e)
+pub not_word : (text : List ℕ) → leading (lexemes_in text) ≡ None → head.NotSelect ≡ head_of text
+not_word text e = sym (head_is text ∙ ap (λ w. first_of_two w (leading (behind (lexemes_in text)))) e)
 
-module _ (text first later : List ℕ) (e : lexemes text ≡ Word first ∷ lexemes later) where
-  word_first : head_of text ≡ first_of_two (Some first) (leading (lexemes later))
+module _ (text first later : List ℕ) (e : lexemes_in text ≡ Word first ∷ lexemes_in later) where
+  word_first : head_of text ≡ first_of_two (Some first) (leading (lexemes_in later))
   word_first = head_is text ∙ ap (λ ls. first_of_two (leading ls) (leading (behind ls))) e
 
   pub not_select : false ≡ same_word (codes "SELECT") first → head.NotSelect ≡ head_of text
-  not_select h = sym (word_first ∙ ap (λ t. cond (not t) head.NotSelect (second_of (leading (lexemes later)))) (sym h))
+  not_select h = sym (word_first ∙ ap (λ t. cond (not t) head.NotSelect (second_of (leading (lexemes_in later)))) (sym h))
 
-  pub select : true ≡ same_word (codes "SELECT") first → head_of text ≡ second_of (leading (lexemes later))
-  select h = word_first ∙ ap (λ t. cond (not t) head.NotSelect (second_of (leading (lexemes later)))) (sym h)
+  pub select : true ≡ same_word (codes "SELECT") first → head_of text ≡ second_of (leading (lexemes_in later))
+  select h = word_first ∙ ap (λ t. cond (not t) head.NotSelect (second_of (leading (lexemes_in later)))) (sym h)
 
-pub second_word : (text word later : List ℕ) → lexemes text ≡ Word word ∷ lexemes later → second_of (leading (lexemes text)) ≡ second_of (Some word)
+pub second_word : (text word later : List ℕ) → lexemes_in text ≡ Word word ∷ lexemes_in later → second_of (leading (lexemes_in text)) ≡ second_of (Some word)
 second_word text word later e = ap (λ ls. second_of (leading ls)) e
 
 -- no kind but a word's leads
@@ -166,7 +166,7 @@ led_none kind.Text k text ls n h = h
 led_none kind.Number k text ls n h = h
 led_none kind.Sign k text ls n h = h
 
-pub word_there : (k : ℕ) (other : TokenKind) (rest : List ℕ) (total : List Lexeme) → other ≡ kind.Word → Gives k other ≡ shown (front false rest) → lexemes rest ≡ total
-    → total ≡ Word (take k rest) ∷ lexemes (take (length rest - k) (drop k rest))
+pub word_there : (k : ℕ) (other : TokenKind) (rest : List ℕ) (total : List Lexeme) → other ≡ kind.Word → Gives k other ≡ shown (front false rest) → lexemes_in rest ≡ total
+    → total ≡ Word (take k rest) ∷ lexemes_in (take (length rest - k) (drop k rest))
 word_there k other rest total is e so_far =
-    rw (take_rest rest k) (sym so_far ∙ subst (λ (a : TokenKind). ByKind a k rest (lexemes rest)) is (led (Gives k other) rest e))
+    rw (take_rest rest k) (sym so_far ∙ subst (λ (a : TokenKind). ByKind a k rest (lexemes_in rest)) is (led (Gives k other) rest e))

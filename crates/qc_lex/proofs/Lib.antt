@@ -10,3 +10,4 @@ pub mod Meanings
 pub mod FirstWords
 pub mod Places
 pub mod NextTokens
+mod examples

@@ -6,12 +6,12 @@ use Rattle.qc_sql.specs.Tokens.{Front, Lexed, LexFault, front, goes_on, with_tok
 use Rattle.qc_sql.specs.Tokens as meaning
 use Rattle.qc_lex.specs.declared.token.TokenKind.{TokenKind}
 use Rattle.qc_lex.specs.declared.front.Fault.{Fault}
-use Rattle.qc_lex.specs.declared.front.Fault.TheVariants as lent
+use Rattle.qc_lex.specs.declared.front.Fault.TheVariants as told
 use Rattle.qc_lex.specs.Seen.{kind_of, refusal_of}
 use Rattle.qc_lex.specs.Fronts.{Shown, Ends, Skips, Gives, Faults, shown, fault_of}
 use Rattle.qc_lex.specs.Laws.{Means}
-use Rattle.qc_lex.specs.declared.ahead.Lexeme as lent_as
-use Rattle.qc_lex.specs.Ahead.{lexeme_of, fault, IsLent}
+use Rattle.qc_lex.specs.declared.ahead.Lexeme as declared
+use Rattle.qc_lex.specs.Ahead.{lexeme_of, fault, Borrows}
 use Rattle.qc_lex.proofs.Meanings.{Reads, front_reads}
 use Rattle.qc_lex.proofs.LexLoop.{lexed_at, lexed_first}
 
@@ -63,13 +63,13 @@ module _ (ansi : Bool) (at : ℕ) (text : List ℕ) where
   faulted f e = goes_at (Faults (fault_of f)) e ∙ ap (λ x. ([], Some x)) (same f)
     where
       same : (f : Fault) → fault_of f at ≡ fault (refusal_of (fault_of f at))
-      same lent.BadByte = refl
-      same lent.OpenQuote = refl
-      same lent.OpenComment = refl
-      same lent.NumberTooLarge = refl
-      same lent.TextTooLong = refl
-      same lent.LongName = refl
-      same lent.Executable = refl
+      same told.BadByte = refl
+      same told.OpenQuote = refl
+      same told.OpenComment = refl
+      same told.NumberTooLarge = refl
+      same told.TextTooLong = refl
+      same told.LongName = refl
+      same told.Executable = refl
 
 -- ---- where the bytes stand
 
@@ -81,7 +81,7 @@ farther at start k text rest on e =
     let on_by : (at + k) - start ≡ (at - start) + k = omega (arith, on) in
     take_rest rest k ∙ ap (drop k) e ∙ drop-drop k (at - start) text ∙ ap (λ n. drop n text) (sym on_by)
 
-pub lends : (at start k : ℕ) (text rest : List ℕ) → rest ≡ drop (at - start) text → (what : lent_as.Lexeme) → IsLent what (take k rest) → IsLent what (take ((at + k) - at) (drop (at - start) text))
-lends at start k text rest e what h =
+pub borrows : (at start k : ℕ) (text rest : List ℕ) → rest ≡ drop (at - start) text → (what : declared.Lexeme) → Borrows what (take k rest) → Borrows what (take ((at + k) - at) (drop (at - start) text))
+borrows at start k text rest e what h =
     let bytes : (at + k) - at ≡ k = omega arith in
-    rw bytes (subst (λ xs. IsLent what (take k xs)) e h)
+    rw bytes (subst (λ xs. Borrows what (take k xs)) e h)

@@ -57,17 +57,17 @@ with_ahead (ahead.Token what from to) later = with_token (record { what = said w
 with_ahead ahead.End later = ([], None)
 with_ahead (ahead.Refused r) later = ([], Some (fault r))
 
--- what a token lends are these bytes
-abbrev pub IsLent : Lexeme → List ℕ → Type 0
-IsLent (lexeme.Word lent) bytes = lent.now ≡ bytes
-IsLent (lexeme.QuotedName lent) bytes = lent.now ≡ bytes
-IsLent (lexeme.Text lent) bytes = lent.now ≡ bytes
-IsLent (lexeme.Number n) bytes = Unit {0}
-IsLent (lexeme.Sign lent) bytes = lent.now ≡ bytes
+-- the bytes that a token borrows are these
+abbrev pub Borrows : Lexeme → List ℕ → Type 0
+Borrows (lexeme.Word borrowed) bytes = borrowed.now ≡ bytes
+Borrows (lexeme.QuotedName borrowed) bytes = borrowed.now ≡ bytes
+Borrows (lexeme.Text borrowed) bytes = borrowed.now ≡ bytes
+Borrows (lexeme.Number n) bytes = Unit {0}
+Borrows (lexeme.Sign borrowed) bytes = borrowed.now ≡ bytes
 
--- a token that stands next lends the bytes of its span, which is not in front of the lexer
+-- a token that stands next borrows the bytes of its span, which is not in front of the lexer
 abbrev pub HasBytes : Ahead → Lexer → Type 0
-HasBytes (ahead.Token what from to) l = (l.at ≤ from) × IsLent what (take (to - from) (drop (from - l.at) l.rest.now))
+HasBytes (ahead.Token what from to) l = (l.at ≤ from) × Borrows what (take (to - from) (drop (from - l.at) l.rest.now))
 HasBytes _ l = Unit {0}
 
 -- at the front of a text, with ANSI quotes on or off

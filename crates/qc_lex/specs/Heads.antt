@@ -1,11 +1,10 @@
 -- The words in front of a text.
-use Rattle.std.specs.Prelude.{List, ℕ, ◌∷◌, map, Option, Some, None, false}
+use Rattle.std.specs.Prelude.{ℕ, false, List, ◌∷◌, Option, Some, None}
 use Rattle.qc_sql.specs.Database.{Name}
-use Rattle.qc_sql.specs.Tokens.{Lexeme, Word, lexed}
+use Rattle.qc_sql.specs.Tokens.{Lexeme, Word, lexed, lexemes}
 
--- what the tokens of a text are, wherever they stand
-abbrev pub lexemes : List ℕ → List Lexeme
-lexemes text = map (λ t. t.what) (lexed text false).0
+abbrev pub lexemes_in : List ℕ → List Lexeme
+lexemes_in text = lexemes (lexed text false).0
 
 -- the first of these, where it is a word
 abbrev pub leading : List Lexeme → Option Name

@@ -2,7 +2,7 @@
 
 ghost use Rattle.std.specs.Prelude.{◌≡◌, ◌<◌, ◌^◌, length};
 ghost use Rattle.qc_sql.specs.Tokens.{lexed};
-ghost use Rattle.qc_lex.specs.Ahead.{said, left, with_ahead, IsAtFront, GoesBehind, HasBytes, IsLent, lexeme_of};
+ghost use Rattle.qc_lex.specs.Ahead.{said, left, with_ahead, IsAtFront, GoesBehind, HasBytes, Borrows, lexeme_of};
 
 use crate::front::{Front, front_of};
 use crate::number::number_value;
@@ -91,7 +91,7 @@ impl<'a> Lexer<'a> {
 /// What a token of this kind is. Linear in its bytes.
 fn said_by(kind: TokenKind, bytes: &[u8]) -> Lexeme<'_>
     ensures says { said result ≡ lexeme_of kind bytes.now }
-    ensures lent { IsLent result bytes.now }
+    ensures borrowed { Borrows result bytes.now }
 {
     match kind {
         TokenKind::Word => Lexeme::Word(bytes),

@@ -8,7 +8,7 @@ use crate::token::Token;
 use qc_types::{NoMemory, Text};
 use std::alloc::Global;
 
-/// The bytes of a token in its text, lent. Those of a word are the word, in the case in which it is written. Constant time.
+/// The bytes of a token, borrowed from its text. Those of a word are the word, in the case in which it is written. Constant time.
 pub fn token_bytes(text: &[u8], token: Token) -> &[u8]
     requires order { token.from ≤ token.to }
     requires within { token.to ≤ length text.now }

@@ -3,7 +3,7 @@
 ghost use Rattle.std.specs.Prelude.{◌≡◌, ◌∷◌, None, MatchOption};
 ghost use Rattle.qc_sql.specs.Grammar.{head_of};
 ghost use Rattle.qc_sql.specs.Tokens.{Word};
-ghost use Rattle.qc_lex.specs.Heads.{lexemes, leading};
+ghost use Rattle.qc_lex.specs.Heads.{leading, lexemes_in};
 
 use crate::front::{Front, front_of};
 use crate::token::TokenKind;
@@ -35,7 +35,7 @@ pub fn head(text: &[u8]) -> Head
 
 /// The first token and what stands behind it, or none where the first token is no word, or there is none.
 fn first_word(text: &[u8]) -> Option<(&[u8], &[u8])>
-    ensures { MatchOption result (leading (lexemes text.now) ≡ None) (λ w. lexemes text.now ≡ Word w.0.now ∷ lexemes w.1.now) }
+    ensures { MatchOption result (leading (lexemes_in text.now) ≡ None) (λ w. lexemes_in text.now ≡ Word w.0.now ∷ lexemes_in w.1.now) }
 {
     let mut rest = text;
     loop {

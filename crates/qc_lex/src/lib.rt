@@ -25,4 +25,4 @@ pub use place::Lexer;
 pub use qc_sql::statements::Head;
 pub use token::{LexRefusal, Token, TokenKind, Tokens};
 pub use trim::trimmed;
-pub use word::is_same_word;
+pub use word::{is_one_of, is_same_word, named_in};

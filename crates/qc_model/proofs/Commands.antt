@@ -1,4 +1,4 @@
--- What commands give that need no text: the state in which they are judged, the ends of transactions, and SET.
+-- What commands give that need no text: the state in which they are validated, the ends of transactions, and SET.
 use Rattle.std.proofs.Common.{◌≡◌, ℕ, List, [], ◌∷◌, Option, refl, true, false}
 use Rattle.std.specs.Prelude.{codes, Some, None, pos, Ok, Err, Result}
 use Rattle.qc_types.specs.declared.sql_error.SqlError.{SqlError}
@@ -18,7 +18,7 @@ use Rattle.qc_model.specs.declared.events.Event.{Event}
 use Rattle.qc_model.specs.declared.events.Event.TheVariants as event
 use Rattle.qc_model.specs.declared.events.How.TheVariants as how
 use Rattle.qc_model.specs.Journal.{Journal}
-use Rattle.qc_model.specs.Session.{State, Transaction, none_open, flags_of, status_of, base, starting, arrived}
+use Rattle.qc_model.specs.Session.{State, Transaction, just_opened, flags_of, status_of, base, starting, arrived}
 use Rattle.qc_model.specs.Settings.{set_to}
 use Rattle.qc_model.specs.Machine.{Given, changed_rows, changed_form, ended_with, begun, used, set_autocommit, local}
 use Rattle.qc_model.proofs.Journals.{t, u, row, a, made, only}
@@ -35,7 +35,7 @@ taken place ops = Some (record { snapshot = Some place; operations = ops })
 abbrev pub delete : Statement
 delete = statement.Delete (record { table = record { db = None; name = codes "t" }; cond = None })
 
--- ---- the state in which a statement is judged
+-- ---- the state in which a statement is validated
 
 -- with autocommit on nothing opens by itself
 stays_free : arrived 7 delete free ≡ free
@@ -46,7 +46,7 @@ opens : arrived 7 delete (manual None) ≡ manual (taken 7 [])
 opens = refl
 
 -- the first statement behind BEGIN takes the snapshot, and a later one keeps it
-takes_snapshot : arrived 7 delete (in_d (Some none_open)) ≡ since 7 []
+takes_snapshot : arrived 7 delete (in_d (Some just_opened)) ≡ since 7 []
 takes_snapshot = refl
 
 -- the snapshot 5 stays, and so do the operations
@@ -58,7 +58,7 @@ opens_none : arrived 7 (statement.UseDb (codes "d")) (manual None) ≡ manual No
 opens_none = refl
 
 -- CREATE DATABASE takes no snapshot in a transaction that has none
-takes_none : arrived 7 (statement.CreateDb (codes "e")) (in_d (Some none_open)) ≡ in_d (Some none_open)
+takes_none : arrived 7 (statement.CreateDb (codes "e")) (in_d (Some just_opened)) ≡ in_d (Some just_opened)
 takes_none = refl
 
 -- 2 is autocommit, and 1 an open transaction
@@ -92,7 +92,7 @@ sees_own : base (since 5 (op.Put u (row 8) ∷ op.Del t (pos 1) ∷ [])) told �
 sees_own = refl
 
 -- a transaction without snapshot sees the present
-sees_all : base (in_d (Some none_open)) told ≡ only (1 ∷ []) []
+sees_all : base (in_d (Some just_opened)) told ≡ only (1 ∷ []) []
 sees_all = refl
 
 -- ---- statements that change rows
@@ -147,11 +147,11 @@ commit_in_conflict : ended_with (a 6) writing met free ≡ gives (event.Run (a 6
 commit_in_conflict = refl
 
 -- BEGIN commits what is open and opens anew; where that meets a conflict it opens nothing
-begin_of_none : ended_with (a 6) free calm (begun free) ≡ gives (others 6) (reply.Ok 0 3) (in_d (Some none_open))
+begin_of_none : ended_with (a 6) free calm (begun free) ≡ gives (others 6) (reply.Ok 0 3) (in_d (Some just_opened))
 begin_of_none = refl
 
 -- its operations become a commit, and the new transaction has no snapshot
-begin_of_some : ended_with (a 6) writing calm (begun writing) ≡ gives (event.Commit (a 6) (op.Put t (row 9) ∷ [])) (reply.Ok 0 3) (in_d (Some none_open))
+begin_of_some : ended_with (a 6) writing calm (begun writing) ≡ gives (event.Commit (a 6) (op.Put t (row 9) ∷ [])) (reply.Ok 0 3) (in_d (Some just_opened))
 begin_of_some = refl
 
 -- after the conflict none is open, since nothing else of BEGIN is done

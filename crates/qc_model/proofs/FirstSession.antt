@@ -27,7 +27,7 @@ use Rattle.qc_model.specs.Cache.{counters}
 use Rattle.qc_model.specs.Licence.{IsLawful}
 use Rattle.qc_sql.specs.Tokens.{lexed, trimmed}
 use Rattle.qc_sql.specs.Reading.{is_reserved, opened}
-use Rattle.qc_sql.specs.Grammar.{create_statement, meaning, head_of, alias, any_statement, any_text, at_end, cache_word, call_word, column, condition, create, create_table, dotted, ends_value, from, from_part, insert, item, items, joined, key_part, limit_part, literal, lock_part, look, member_at, names_part, no_option, null_part, one_too_many, order_part, part, part_kind, primary_key, select, signed, source, table, tuple, where_part, whole, call_at, bare_literal, column_part, key_of_table, other_statement, one_word, is_unsupported, is_aggregate_word, is_plain_call, is_uncached_call}
+use Rattle.qc_sql.specs.Grammar.{meaning, head_of, alias, any_statement, any_text, at_end, cache_word, call_word, column, condition, create, create_table, dotted, ends_value, from, from_part, insert, item, items, joined, key_part, limit_part, literal, lock_part, look, member_at, names_part, no_option, null_part, one_too_many, order_part, part, part_kind, primary_key, select, signed, source, table, tuple, where_part, whole, call_at, bare_literal, column_part, key_of_table, other_statement, one_word, is_unsupported, is_aggregate_word, is_plain_call, is_uncached_call}
 use Rattle.qc_sql.specs.Rows.{rows, rows_over}
 use Rattle.qc_sql.specs.Effects.{effect}
 use Rattle.qc_model.proofs.FirstRun.{t, id, who, key, journal, id_def}
@@ -48,7 +48,7 @@ in_d : State
 in_d = record { session = 1; db = codes "d"; autocommit = true; charset = 33; ansi = false; row_limit = 18446744073709551615; kind = 1; transaction = None }
 
 first : Executes options (who 1) (starting 1 1) (command.Query (codes "CREATE DATABASE d")) (before 1 journal) (event.Commit (who 1) (op.CreateDb (codes "d") ∷ [])) (reply.Ok 1 2) (starting 1 1)
-unfolding options who journal meaning lexed any_text whole any_statement other_statement one_word is_unsupported create create_statement at_end look trimmed effect is_reserved opened
+unfolding options who journal meaning lexed any_text whole any_statement other_statement one_word is_unsupported create at_end look trimmed effect is_reserved opened
 first = (refl, refl, refl)
 
 second : Executes options (who 2) (starting 1 1) (command.InitDb (codes "d")) (before 2 journal) (event.Run (who 2) how.Other) (reply.Ok 0 2) in_d
@@ -60,7 +60,7 @@ unfolding options who journal in_d t id id_def key meaning lexed any_text whole 
 fifth = record { chosen = (how.Start 1 key (t ∷ []), refl, inl refl); answered = refl; same = refl }
 
 third : Executes options (who 3) in_d (command.Query (codes "CREATE TABLE t (id BIGINT PRIMARY KEY)")) (before 3 journal) (event.Commit (who 3) (op.CreateTable t (id ∷ []) ∷ [])) (reply.Ok 0 2) in_d
-unfolding options who journal in_d t id meaning lexed any_text whole any_statement other_statement one_word is_unsupported create create_statement create_table table dotted part part_kind column_part key_of_table null_part key_part primary_key no_option at_end look trimmed effect is_reserved opened
+unfolding options who journal in_d t id meaning lexed any_text whole any_statement other_statement one_word is_unsupported create create_table table dotted part part_kind column_part key_of_table null_part key_part primary_key no_option at_end look trimmed effect is_reserved opened
 third = (refl, refl, refl)
 
 fourth : Executes options (who 4) in_d (command.Query (codes "INSERT INTO t VALUES (7)")) (before 4 journal) (event.Commit (who 4) (op.Put t (value.Int (pos 7) ∷ []) ∷ [])) (reply.Ok 1 2) in_d
@@ -84,13 +84,13 @@ fourth_lines = (reply.Ok 1 2, in_d, fourth, refl, tt, last_lines)
 third_lines : AreLines whole_machine options journal (command.Query (codes "CREATE TABLE t (id BIGINT PRIMARY KEY)") ∷ command.Query (codes "INSERT INTO t VALUES (7)") ∷ command.Query (codes "SELECT id FROM t") ∷ [])
     (line 3 word.Other (reply.Ok 0 2) ∷ line 4 word.Other (reply.Ok 1 2) ∷ line 5 word.Start rows_reply ∷ []) in_d 2 2
     ((3, event.Commit (who 3) (op.CreateTable t (id ∷ []) ∷ [])) ∷ (4, event.Commit (who 4) (op.Put t (value.Int (pos 7) ∷ []) ∷ [])) ∷ (5, event.Run (who 5) (how.Start 1 key (t ∷ []))) ∷ [])
-unfolding who meaning lexed any_text whole any_statement other_statement one_word is_unsupported create create_statement create_table table dotted part part_kind column_part key_of_table null_part key_part primary_key no_option at_end look trimmed in_d is_reserved opened
+unfolding who meaning lexed any_text whole any_statement other_statement one_word is_unsupported create create_table table dotted part part_kind column_part key_of_table null_part key_part primary_key no_option at_end look trimmed in_d is_reserved opened
 third_lines = (reply.Ok 0 2, in_d, third, refl, tt, fourth_lines)
 
 all_lines : AreLines whole_machine options journal commands
     (line 1 word.Other (reply.Ok 1 2) ∷ line 2 word.Other (reply.Ok 0 2) ∷ line 3 word.Other (reply.Ok 0 2) ∷ line 4 word.Other (reply.Ok 1 2) ∷ line 5 word.Start rows_reply ∷ [])
     (starting 1 1) 0 0 (numbered_events 1 1 journal)
-unfolding who meaning lexed any_text whole any_statement other_statement one_word is_unsupported create create_statement at_end look trimmed commands journal is_reserved opened
+unfolding who meaning lexed any_text whole any_statement other_statement one_word is_unsupported create at_end look trimmed commands journal is_reserved opened
 all_lines = (reply.Ok 1 2, starting 1 1, first, refl, tt, (reply.Ok 0 2, in_d, second, refl, tt, third_lines))
 
 -- ---- the journal

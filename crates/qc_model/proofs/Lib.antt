@@ -8,3 +8,4 @@ pub mod Transactions
 pub mod Licences
 pub mod Draws
 pub mod Commands
+mod examples

@@ -25,8 +25,9 @@ use Rattle.qc_model.specs.declared.events.Reason.TheVariants as reason
 use Rattle.qc_model.specs.declared.events.GoneWhy.TheVariants as gone
 use Rattle.qc_model.specs.Journal.{Journal, present}
 use Rattle.qc_model.specs.Session.{answer_packets, key_of_text}
-use Rattle.qc_model.specs.Licence.{words_of_bytes, region_words, unit_words, value_fits, row_fits, columns_fit, op_fits, ops_fit, is_within_rows, named_by, hit_by, last_named, is_busy, most_blocks, holders, Started, block_bound, word_bound, IsCrowded, LacksRoom, IsFilling, IsComplete, tables_of_key, MayStart, starts_serial, IsRivalOf, MayHaveReason, IsCommitOn, MayDecide, MayCommit, front_above, MayGiveUp, before_entry, MayPrune, IsLicensed, IsLawful}
-use Rattle.qc_model.specs.Needs.{raised, is_need, next_other, PruneHasNeed, HasNeeds, front_needs, HasOwnNeeds}
+use Rattle.qc_model.specs.Licence.{words_of_bytes, region_words, unit_words, value_fits, row_fits, columns_fit, op_fits, ops_fit, is_within_rows, named_by, hit_by, last_named, is_busy, most_blocks, holders, Started, block_bound, word_bound, IsCrowded, LacksRoom, IsFilling, IsComplete, tables_of_key, MayStart, starts_serial, IsRivalOf, MayHaveReason, IsCommitOn, MayDecide, MayCommit, prefix_above, MayGiveUp, before_entry, MayPrune, IsLicensed, IsLawful}
+use Rattle.qc_model.specs.Needs.{is_need, next_other, PruneHasNeed, HasNeeds, leading_needs, HasOwnNeeds}
+use Rattle.qc_types.specs.Blocks.{raised}
 use Rattle.qc_model.specs.Cache.{cache}
 use Rattle.qc_model.proofs.Journals.{t, u, far, keys, row, a, b, made, formed, filled, story}
 use Rattle.qc_model.proofs.Caches.{entry, one, two, last, three}
@@ -215,7 +216,7 @@ make_again = refl
 drop_without_database : op_fits (op.DropDb (codes "e")) (present at_four) ≡ false
 drop_without_database = refl
 
--- each is judged on what those before it made
+-- each is validated on what those before it made
 in_turn : ops_fit (op.CreateDb (codes "e") ∷ op.CreateTable far keys ∷ op.Put far (row 1) ∷ op.Del far (pos 1) ∷ []) (present at_four) ≡ true
 in_turn = refl
 
@@ -576,24 +577,24 @@ commit_of_nothing_there = λ h. let e : false ≡ true = h.fit in cc
 
 -- ---- fills that are given up
 
--- packets of 3, 2 and 4 bytes: the first front that is longer than the limit, whole packets counted
+-- packets of 3, 2 and 4 bytes: the first prefix that is longer than the limit, whole packets counted
 abbrev pub lengths : List (List ℕ)
 lengths = replicate 3 0 ∷ replicate 2 0 ∷ replicate 4 0 ∷ []
 
 -- no packet isn't longer than 0, and the first is
-above_none : front_above 0 0 lengths ≡ 3
+above_none : prefix_above 0 0 lengths ≡ 3
 above_none = refl
 
 -- 3 bytes are longer than 2
-above_two : front_above 2 0 lengths ≡ 3
+above_two : prefix_above 2 0 lengths ≡ 3
 above_two = refl
 
 -- 3 aren't longer than 3, and 5 are
-above_three : front_above 3 0 lengths ≡ 5
+above_three : prefix_above 3 0 lengths ≡ 5
 above_three = refl
 
 -- 5 aren't longer than 5, and 9 are
-above_five : front_above 5 0 lengths ≡ 9
+above_five : prefix_above 5 0 lengths ≡ 9
 above_five = refl
 
 -- of 5, 36, 45, 51, 57 and 66 bytes 51 are the first above 45
@@ -606,10 +607,10 @@ whole_is_too_large : MayGiveUp (sized 1024 512 65) filling 1 (gone.TooLarge 66 6
 unfolding meaning lexed any_text whole any_statement other_statement one_word is_unsupported select cache_word items item call_at call_word is_aggregate_word is_plain_call is_uncached_call column dotted ends_value alias from_part from source table joined where_part condition member_at order_part limit_part lock_part at_end look literal bare_literal signed one_too_many head_of trimmed rows rows_over is_reserved opened answer_packets packet encoded_integer encoded_string digits
 whole_is_too_large = (refl, omega arith, refl)
 
--- a longer front isn't the first, another limit isn't the option's, and the whole answer is not above its own length
-not_the_first_front : MayGiveUp (sized 1024 512 45) filling 1 (gone.TooLarge 57 45) → ⊥
+-- a longer prefix isn't the first, another limit isn't the option's, and the whole answer is not above its own length
+not_the_first_prefix : MayGiveUp (sized 1024 512 45) filling 1 (gone.TooLarge 57 45) → ⊥
 unfolding meaning lexed any_text whole any_statement other_statement one_word is_unsupported select cache_word items item call_at call_word is_aggregate_word is_plain_call is_uncached_call column dotted ends_value alias from_part from source table joined where_part condition member_at order_part limit_part lock_part at_end look literal bare_literal signed one_too_many head_of trimmed rows rows_over is_reserved opened answer_packets packet encoded_integer encoded_string digits
-not_the_first_front = λ h. let e : 57 ≡ 51 = h.2 in omega (arith, e)
+not_the_first_prefix = λ h. let e : 57 ≡ 51 = h.2 in omega (arith, e)
 
 -- the limit that is told is 45, and the option's is 46
 other_limit : MayGiveUp (sized 1024 512 46) filling 1 (gone.TooLarge 51 45) → ⊥
@@ -954,16 +955,16 @@ needs_too_little = λ h. let e : 64 ≤ 63 = h.0 in omega (arith, e)
 -- ---- the needs before a plain run, the last first
 
 -- two prunes stand in front; the one behind another event isn't theirs
-front_of_two : front_needs (prune 2 65 ∷ prune 1 64 ∷ event.Done 1 ∷ prune 3 512 ∷ []) ≡ 65 ∷ 64 ∷ []
-front_of_two = refl
+needs_of_two : leading_needs (prune 2 65 ∷ prune 1 64 ∷ event.Done 1 ∷ prune 3 512 ∷ []) ≡ 65 ∷ 64 ∷ []
+needs_of_two = refl
 
 -- another event stands in front
-front_of_none : front_needs (event.Done 1 ∷ prune 3 512 ∷ []) ≡ []
-front_of_none = refl
+no_leading_needs : leading_needs (event.Done 1 ∷ prune 3 512 ∷ []) ≡ []
+no_leading_needs = refl
 
--- a list of prunes alone is all front
-front_of_all : front_needs (prune 2 65 ∷ []) ≡ 65 ∷ []
-front_of_all = refl
+-- a list of prunes alone is needs alone
+needs_of_all : leading_needs (prune 2 65 ∷ []) ≡ 65 ∷ []
+needs_of_all = refl
 
 -- its own key has 513 bytes: 64, 512 and 65 are its needs, and those of the prunes just before it
 own_needs : HasOwnNeeds (sized 1024 4096 62) (prune 9 99 ∷ event.Done 1 ∷ prune 1 64 ∷ prune 2 512 ∷ []) (replicate 513 7) (no_room 65)

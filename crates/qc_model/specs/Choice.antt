@@ -62,17 +62,25 @@ stale_reason state journal (Some t) = since (snapshot_of state)
     since None = None
     since (Some place) = Some (reason.NotVisible t (last_change journal t) place)
 
+-- why the options, the cache type and the text keep a select out
+abbrev pub rule_reason : Options → State → List ℕ → Select → Option Reason
+rule_reason options state text select =
+    when (options.size == 0 || state.kind == 0) reason.Off
+    or_else when (not (is_asked (asks (head_of (trimmed text)) state.kind))) reason.NotAsked
+    or_else option_map reason.Rule (why_not state.db select)
+
+-- why a session may not see these tables as they are
+abbrev pub unseen_reason : State → Journal → List TableName → Option Reason
+unseen_reason state journal tables =
+    option_map reason.Written (find (wrote state) tables)
+    or_else stale_reason state journal (find (is_stale state journal) tables)
+
 -- the first reason for which a select has a plain run, but for want of room
 abbrev pub plain_reason : Options → State → List ℕ → Select → Journal → Option Reason
 plain_reason options state text select journal =
-    let tables = select_tables state.db select in
-    let answer = asks (head_of (trimmed text)) state.kind in
     refusal_reason (rows select (base state journal) state.db (flags_of state) state.session)
-    or_else when (options.size == 0 || state.kind == 0) reason.Off
-    or_else when (not (is_asked answer)) reason.NotAsked
-    or_else option_map reason.Rule (why_not state.db select)
-    or_else option_map reason.Written (find (wrote state) tables)
-    or_else stale_reason state journal (find (is_stale state journal) tables)
+    or_else rule_reason options state text select
+    or_else unseen_reason state journal (select_tables state.db select)
     or_else option_map (λ entry. reason.Rival entry.serial) (rival journal (key_of_text state text))
 
 abbrev pub start_count : Journal → ℕ

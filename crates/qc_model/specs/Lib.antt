@@ -3,6 +3,7 @@ pub mod Cache
 pub mod Session
 pub mod Choice
 pub mod Licence
+pub mod Sound
 pub mod Needs
 pub mod Conflicts
 pub mod Settings

@@ -21,7 +21,7 @@ use Rattle.qc_model.specs.declared.events.GoneWhy.{GoneWhy}
 use Rattle.qc_model.specs.declared.events.GoneWhy.TheVariants as gone
 use Rattle.qc_sql.specs.declared.statements.Statement.{Statement}
 use Rattle.qc_sql.specs.declared.statements.Statement.TheVariants as statement
-use Rattle.qc_sql.specs.Database.{Name, Database, Table, tables_of, table_of, apply, apply_one}
+use Rattle.qc_sql.specs.Database.{Name, Database, Table, tables_of, table_of, apply, apply_one, most_rows}
 use Rattle.std.specs.BTreeMap.{is_at}
 use Rattle.std.specs.Ordering.{int_cmp}
 use Rattle.std.specs.Map.{lookup}
@@ -32,6 +32,9 @@ use Rattle.qc_model.specs.Session.{parts_of, answer, answer_packets}
 use Rattle.qc_model.specs.Choice.{has_key, start_count}
 use Rattle.qc_sql.specs.Grammar.{meaning, ParseFault}
 use Rattle.std.specs.Prelude.{Result, Ok}
+use Rattle.qc_sql.specs.Words.{greatest, is_among}
+use Rattle.qc_sql.specs.Rows.{is_null}
+use Rattle.qc_types.specs.Blocks.{least_block}
 
 -- ---- sizes of the region
 
@@ -44,10 +47,6 @@ region_words options = options.size / 8
 abbrev pub unit_words : Options → ℕ
 unit_words options = options.unit / 8
 
--- the least words of a block
-abbrev pub least_block : ℕ
-least_block = 64
-
 -- ---- operations that fit
 
 abbrev pub kind_fits : Kind → Value → Bool
@@ -56,10 +55,6 @@ kind_fits kind.Int (value.Int n) = true
 kind_fits kind.Int (value.Str t) = false
 kind_fits (kind.Str n) (value.Int m) = false
 kind_fits (kind.Str n) (value.Str t) = nat_le (length t) n
-
-abbrev pub is_null : Value → Bool
-is_null value.Null = true
-is_null _ = false
 
 abbrev pub value_fits : Column → Value → Bool
 value_fits c v = kind_fits c.kind v && not ((c.not_null || c.primary) && is_null v)
@@ -113,9 +108,6 @@ abbrev pub ops_fit : List RowOp → Database → Bool
 ops_fit [] d = true
 ops_fit (o ∷ os) d = op_fits o d && ops_fit os (apply_one o d)
 
-abbrev pub most_rows : ℕ
-most_rows = 1048576
-
 -- no table has more rows than that
 abbrev pub is_within_rows : Database → Bool
 is_within_rows d = list_all (λ tables. list_all (λ entry. nat_le (length entry.1.rows) most_rows) tables.1) d
@@ -163,9 +155,6 @@ abbrev pub last_named : (Event → Option ℕ) → Journal → List ℕ
 last_named f [] = []
 last_named f (e ∷ es) = if is_last (decider e) es then cons_option (f e) (last_named f es) else last_named f es
 
-abbrev pub is_among : List ℕ → ℕ → Bool
-is_among ns n = list_any (λ m. m == n) ns
-
 -- an entry that some session's last event hit
 abbrev pub is_busy : Journal → ℕ → Bool
 is_busy journal serial = is_among (last_named hit_by journal) serial
@@ -187,10 +176,6 @@ most_blocks options journal s = 2 + length s.1.tables + length (answer_at_start 
 -- the most blocks that are handed out; 9 are those of an entry that is being started
 abbrev pub block_bound : Options → Journal → ℕ
 block_bound options journal = sum_by (most_blocks options journal) (holders journal) + 9
-
-abbrev pub greatest : List ℕ → ℕ
-greatest [] = 0
-greatest (n ∷ ns) = max n (greatest ns)
 
 -- the most words of a block
 abbrev pub word_bound : Options → Journal → ℕ → ℕ
@@ -271,15 +256,15 @@ pub record MayCommit (journal : Journal) (ops : List RowOp) : Type 0 where
   pub fit : ops_fit ops (present journal) ≡ true
   pub not_full : is_within_rows (apply ops (present journal)) ≡ true
 
--- the length of the shortest front of whole packets that is longer than a limit
-abbrev pub front_above : ℕ → ℕ → List (List ℕ) → ℕ
-front_above limit sum [] = sum
-front_above limit sum (p ∷ ps) = if nat_lt limit sum then sum else front_above limit (sum + length p) ps
+-- the length of the shortest prefix of whole packets that is longer than a limit
+abbrev pub prefix_above : ℕ → ℕ → List (List ℕ) → ℕ
+prefix_above limit sum [] = sum
+prefix_above limit sum (p ∷ ps) = if nat_lt limit sum then sum else prefix_above limit (sum + length p) ps
 
 abbrev pub MayGiveUp : Options → Journal → ℕ → GoneWhy → Type 0
 MayGiveUp options journal serial (gone.TooLarge bytes limit) =
     (limit ≡ options.limit) × (limit < bytes)
-    × HasEntry journal serial (λ entry. IsSomeAnd (answer_packets entry.key (present journal)) (λ ps. bytes ≡ front_above limit 0 ps))
+    × HasEntry journal serial (λ entry. IsSomeAnd (answer_packets entry.key (present journal)) (λ ps. bytes ≡ prefix_above limit 0 ps))
 MayGiveUp options journal serial (gone.NoRoom need largest) = (need ≡ unit_words options) × LacksRoom options journal need largest
 MayGiveUp options journal serial gone.Ended = Unit {0}
 

@@ -19,19 +19,18 @@ use Rattle.qc_model.specs.declared.events.Counters.{Counters}
 use Rattle.qc_sql.specs.declared.statements.Statement.{Statement}
 use Rattle.qc_sql.specs.declared.statements.Statement.TheVariants as statement
 use Rattle.qc_sql.specs.declared.statements.Select.{Select}
-use Rattle.qc_sql.specs.Database.{Name, Database, Table, tables_of, apply}
+use Rattle.qc_sql.specs.Database.{Name, Database, Table, tables_of, apply, most_rows}
 use Rattle.qc_model.specs.Journal.{Journal, present}
 use Rattle.qc_model.specs.Cache.{counters}
 use Rattle.qc_sql.specs.Errors.{unknown_command, unknown_database, syntax_error, not_supported, too_many_tables, write_conflict, table_full}
 use Rattle.qc_sql.specs.Rows.{rows}
 use Rattle.qc_sql.specs.Effects.{Effect, effect}
-use Rattle.qc_model.specs.Session.{State, Transaction, none_open, flags_of, status_of, base, own_operations, with_transaction, arrived, select_reply}
+use Rattle.qc_model.specs.Session.{State, Transaction, just_opened, flags_of, status_of, base, own_operations, with_transaction, arrived, select_reply}
 use Rattle.qc_model.specs.Choice.{Allows}
 use Rattle.qc_model.specs.Conflicts.{Conflict, conflict_of}
 use Rattle.qc_model.specs.Settings.{set_to, is_autocommit}
 use Rattle.qc_sql.specs.Grammar.{meaning, trimmed, ParseFault, Syntax, Unsupported, TooManyTables}
 use Rattle.qc_sql.specs.Words.{◌or_else◌, when}
-use Rattle.qc_model.specs.Licence.{most_rows}
 
 -- what a command leaves behind: the event, the reply and the next state
 pub record Given : Type 0 where
@@ -63,17 +62,17 @@ conflict_in state journal = of_transaction state.transaction
     of_transaction None = None
     of_transaction (Some t) = conflict_of t journal
 
--- Judges the transaction that a command ends, for conflict first and then for a full table; where neither comes, goes on with its operations.
+-- Validates the transaction that a command ends, for conflict first and then for a full table; where neither comes, goes on with its operations.
 abbrev pub ending : Who → State → Journal → (List RowOp → Given) → Given
-ending who state journal go = judged (conflict_in state journal)
+ending who state journal go = validated (conflict_in state journal)
   where
     filled : Option TableName → Given
     filled (Some t) = record { event = event.Run who how.Other; reply = refused (table_full t); next = with_transaction state None }
     filled None = go (own_operations state)
 
-    judged : Option Conflict → Given
-    judged (Some c) = record { event = event.Run who (how.Conflict c.table c.key c.by); reply = refused write_conflict; next = with_transaction state None }
-    judged None = filled (full_table (apply (own_operations state) (present journal)))
+    validated : Option Conflict → Given
+    validated (Some c) = record { event = event.Run who (how.Conflict c.table c.key c.by); reply = refused write_conflict; next = with_transaction state None }
+    validated None = filled (full_table (apply (own_operations state) (present journal)))
 
 -- a commit of these operations, or another event where there are none
 abbrev pub committed : Who → List RowOp → Event
@@ -91,14 +90,15 @@ changed_rows who state (Ok x) = in_transaction state.transaction
     in_transaction None = record { event = committed who x.operations; reply = ok_reply state x.affected; next = state }
     in_transaction (Some t) = record { event = event.Run who how.Other; reply = ok_reply state x.affected; next = with_transaction state (Some (record { snapshot = t.snapshot; operations = t.operations ++ x.operations })) }
 
--- a statement that changes tables or databases commits the open transaction, with itself
+-- a statement that changes tables or databases, behind these operations of the transaction that it ends
+abbrev pub form_given : Who → State → List RowOp → Result Effect SqlError → Given
+form_given who state own (Err e) = record { event = event.Run who how.Other; reply = refused e; next = state }
+form_given who state own (Ok x) = record { event = event.Commit who (own ++ x.operations); reply = ok_reply (with_transaction state None) x.affected; next = with_transaction state None }
+
+-- it commits the open transaction, with itself
 abbrev pub changed_form : Who → State → Journal → Statement → Given
 changed_form who state journal s =
-    ending who state journal (λ own. judged own (effect s (apply own (present journal)) state.db state.session))
-  where
-    judged : List RowOp → Result Effect SqlError → Given
-    judged own (Err e) = record { event = event.Run who how.Other; reply = refused e; next = state }
-    judged own (Ok x) = record { event = event.Commit who (own ++ x.operations); reply = ok_reply (with_transaction state None) x.affected; next = with_transaction state None }
+    ending who state journal (λ own. form_given who state own (effect s (apply own (present journal)) state.db state.session))
 
 -- a command that ends the open transaction, and leaves this state
 abbrev pub ended_with : Who → State → Journal → State → Given
@@ -158,9 +158,9 @@ pub record Selects (options : Options) (who : Who) (state : State) (text : List 
 
 -- the state before a transaction that BEGIN opens
 abbrev pub begun : State → State
-begun state = with_transaction state (Some none_open)
+begun state = with_transaction state (Some just_opened)
 
--- a statement that has a deciding event, in the state in which it is judged
+-- a statement that has a deciding event, in the state in which it is validated
 abbrev pub ExecutesStatement : Options → Who → State → List ℕ → Journal → Statement → Event → Reply → State → Type 0
 ExecutesStatement options who state text journal (statement.Select s) e r next = Selects options who state text s journal e r next
 ExecutesStatement options who state text journal (statement.Insert i) e r next = Gives (changed_rows who state (effect (statement.Insert i) (base state journal) state.db state.session)) e r next

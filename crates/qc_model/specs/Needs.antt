@@ -8,10 +8,8 @@ use Rattle.qc_model.specs.declared.events.How.TheVariants as how
 use Rattle.qc_model.specs.declared.events.Reason.TheVariants as reason
 use Rattle.qc_model.specs.Journal.{Journal}
 use Rattle.qc_model.specs.Cache.{cache}
-use Rattle.qc_model.specs.Licence.{unit_words, least_block, words_of_bytes}
-
-abbrev pub raised : ℕ → ℕ
-raised n = max least_block n
+use Rattle.qc_model.specs.Licence.{unit_words, words_of_bytes}
+use Rattle.qc_types.specs.Blocks.{least_block, raised}
 
 -- what a start with this key asks for: a table's block, a block of its result, or one for its key
 abbrev pub is_need : Options → List ℕ → ℕ → Bool
@@ -40,12 +38,12 @@ abbrev pub HasNeeds : Options → Journal → Type 0
 HasNeeds options journal = NeedsFrom options [] journal
 
 -- the needs of the prunes at the front
-abbrev pub front_needs : List Event → List ℕ
-front_needs (event.Prune n need largest ∷ es) = need ∷ front_needs es
-front_needs _ = []
+abbrev pub leading_needs : List Event → List ℕ
+leading_needs (event.Prune n need largest ∷ es) = need ∷ leading_needs es
+leading_needs _ = []
 
 -- a plain run for want of room, after these events, asked for what its own key needs, and so did the prunes just before it
 abbrev pub HasOwnNeeds : Options → Journal → List ℕ → Event → Type 0
 HasOwnNeeds options earlier key (event.Run who (how.Plain (reason.NoRoom need largest))) =
-    IsTrue (list_all (is_need options key) (need ∷ front_needs (reverse earlier)))
+    IsTrue (list_all (is_need options key) (need ∷ leading_needs (reverse earlier)))
 HasOwnNeeds options earlier key e = Unit {0}

@@ -13,7 +13,7 @@ use Rattle.qc_sql.specs.declared.statements.Statement.TheVariants as statement
 use Rattle.qc_sql.specs.Database.{Name, Database, apply}
 use Rattle.qc_model.specs.Journal.{Journal, present, before}
 use Rattle.qc_sql.specs.Packets.{packet_list}
-use Rattle.qc_sql.specs.Keys.{key_bytes}
+use Rattle.qc_sql.specs.Keys.{can_be_keyed, key_bytes}
 use Rattle.qc_sql.specs.Rules.{why_not}
 use Rattle.qc_sql.specs.Rows.{Rows, rows, text_of}
 use Rattle.qc_sql.specs.Grammar.{meaning, ParseFault, trimmed}
@@ -57,7 +57,7 @@ abbrev pub seen_in : Option Transaction → Journal → Database
 seen_in None journal = present journal
 seen_in (Some t) journal = apply t.operations (at_snapshot t.snapshot journal)
 
--- the database that a session's next statement is judged on
+-- the database that a session's next statement is validated on
 abbrev pub base : State → Journal → Database
 base state journal = seen_in state.transaction journal
 
@@ -79,8 +79,8 @@ uses_rows (statement.Update u) = true
 uses_rows (statement.Delete d) = true
 uses_rows _ = false
 
-abbrev pub none_open : Transaction
-none_open = record { snapshot = None; operations = [] }
+abbrev pub just_opened : Transaction
+just_opened = record { snapshot = None; operations = [] }
 
 -- with autocommit off, a transaction opens by itself
 abbrev pub opened : State → Option Transaction
@@ -88,7 +88,7 @@ opened state = by_transaction state.transaction
   where
     by_transaction : Option Transaction → Option Transaction
     by_transaction (Some t) = Some t
-    by_transaction None = if state.autocommit then None else Some none_open
+    by_transaction None = if state.autocommit then None else Some just_opened
 
 abbrev pub snapshot_taken : ℕ → Transaction → Transaction
 snapshot_taken place t = by_snapshot t.snapshot
@@ -97,7 +97,7 @@ snapshot_taken place t = by_snapshot t.snapshot
     by_snapshot (Some p) = t
     by_snapshot None = record { snapshot = Some place; operations = t.operations }
 
--- the state in which a statement at this place is judged
+-- the state in which a statement at this place is validated
 abbrev pub arrived : ℕ → Statement → State → State
 arrived place s state =
     if uses_rows s then with_transaction state (option_map (snapshot_taken place) (opened state)) else state
@@ -132,9 +132,7 @@ parts_of (n ∷ rest) = record { flags = flags_from (take 15 (drop n rest)); db 
 -- whether bytes are the key of these parts, and each part is one that a key may have
 abbrev pub is_key_of : KeyParts → List ℕ → Bool
 is_key_of parts key =
-    nat_le (length parts.db) 64 && (parts.flags.charset == 33 || parts.flags.charset == 45)
-    && parts.flags.protocol_form == 0 && parts.flags.row_form == 0
-    && bytes_eq (key_bytes parts.flags parts.db parts.text) key
+    can_be_keyed parts.flags parts.db && bytes_eq (key_bytes parts.flags parts.db parts.text) key
 
 -- the reply that rows make
 abbrev pub rows_reply : Flags → Rows → Reply

@@ -5,10 +5,10 @@ use Rattle.std.specs.Prelude.{◌&&◌, codes, nat_le, is_some, option_map}
 use Rattle.qc_sql.specs.declared.statements.Item.{Item}
 use Rattle.qc_sql.specs.declared.statements.Expr.{Expr}
 use Rattle.qc_sql.specs.declared.statements.Statement.{Statement}
-use Rattle.qc_sql.specs.Tokens.{Lexeme, Token, LexFault, BadByte, OpenQuote, OpenComment, NumberTooLarge, TextTooLong, LongName, Executable, Lexed, lexed}
+use Rattle.qc_sql.specs.Tokens.{Lexeme, Token, LexFault, BadByte, OpenQuote, OpenComment, NumberTooLarge, TextTooLong, LongName, Executable, Lexed, lexed, lexemes}
 use Rattle.qc_sql.specs.Reading.{ParseFault, Syntax, Unsupported, TooManyTables, of_lexer, Unread, Stop, Before, Refused, Reader, pure, then_read, ◌>>=◌, stop, read_as, read_first, next, next_is, branch, at_most, many, separated, with_word, with_words, in_place_of_syntax, at_word}
 use Rattle.qc_sql.specs.Grammar.{value_at, most_open, alias, item, spanned, span_text, place, token_place, look, any_text, whole, unsupported_at, fault_before, end_fault, statement_of, from_front, meaning}
-use Rattle.qc_parse.specs.Laws.{lexemes, kind, fault_place, end_place, place_of, SameMeaning, TokensDecide}
+use Rattle.qc_parse.specs.Laws.{kind, fault_place, end_place, place_of, SameMeaning, TokensDecide}
 use Rattle.qc_parse.proofs.Congruence.{Congruence, next_two, Sees, sees_next, Each, SameItem, SameTree, good_text}
 
 -- ---- lists

@@ -16,10 +16,9 @@ use Rattle.qc_sql.specs.declared.statements.ColumnName.{ColumnName}
 use Rattle.qc_sql.specs.Database.{Name}
 use Rattle.qc_sql.specs.Words.{when}
 use Rattle.qc_sql.specs.Rules.{same_word, in_capitals, uncached_words}
-use Rattle.qc_sql.specs.Tokens.{Lexeme, Word, Quoted, Words, Digits, Sign, Token}
+use Rattle.qc_sql.specs.Tokens.{Lexeme, Word, Quoted, Words, Digits, Sign, Token, lexemes}
 use Rattle.qc_sql.specs.Reading.{Unread, Reader, pure, then_read, ◌>>=◌, refuse, past, read_as, read_first, reads, next, token_is, next_is, is_word, is_sign, word, sign, branch, passed, at_most, many, separated, listed, opened, bracketed, with_words, in_place_of_syntax, reserved, is_reserved, is_among, name_in, digits_in, words_in, word_in, name}
 use Rattle.qc_sql.specs.Grammar.{dotted, column, ends_value, is_arithmetic, signed, bare_literal, literal, tuple, is_known_call, is_aggregate_word, is_plain_call, is_uncached_call, is_aggregate, at_aggregate, call_word, at_literal, begins_call, at_call, column_argument, counted, arguments, call_of, call_at, value_at, too_deep, op_in, op_first, op_ahead, null_test, in_test, list_or_range, test_behind, test_of, negated, joined_by, all_of, any_of, member_of, member_at, most_open, condition}
-use Rattle.qc_parse.specs.Laws.{lexemes}
 use Rattle.qc_parse.proofs.Sound.{Counting, all_rows, of_value}
 use Rattle.qc_parse.specs.Productions.{Keyword, keyword, Mark, mark, Named, Passed, there, absent, Separated, one, more, Listed, Bracketed, brackets, Dotted, bare, IsColumn, IsLiteral, negative, text, null, IsTuple, Arguments, IsCall, ValueOf, CallAt, ValueAt, Compares, equal, unequal, not_equal, less, at_most as or_less, greater, at_least, denied, IsTest, Joined, AnyOf, MemberOf, MemberAt, Nothing, IsCondition}
 

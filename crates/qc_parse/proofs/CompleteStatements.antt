@@ -23,10 +23,10 @@ use Rattle.qc_sql.specs.declared.statements.Setting.{Setting}
 use Rattle.qc_sql.specs.declared.statements.SetValue.{SetValue}
 use Rattle.qc_sql.specs.Database.{Name}
 use Rattle.qc_sql.specs.Rules.{same_word}
-use Rattle.qc_sql.specs.Tokens.{Lexeme, Word, Quoted, Words, Sign, Token, lexed}
+use Rattle.qc_sql.specs.Tokens.{Lexeme, Word, Quoted, Words, Sign, Token, lexed, lexemes}
 use Rattle.qc_sql.specs.Reading.{Unread, Reader, stop, pure, then_read, ◌>>=◌, token_is, next, next_is, is_word, at_word, is_sign, word, branch, at_most, many, listed, bracketed, reserved, is_reserved, name_in, digits_in, words_in, name, number, any_word}
-use Rattle.qc_sql.specs.Grammar.{table, alias, item, items, span_text, place, most_open, cache_word, source, Joined as JoinedSo, joined, at_further, with_source, join_words, further_source, where_part, order, order_part, from, from_part, Behind, limit, limit_part, lock_part, select, names_part, insert, right_side, assignment, update, delete, truncate, part_kind, null_part, primary_key, key_part, part, no_option, create_table, create_statement, create, drop_statement, dropped, use_database, start_transaction, flush, reset, is_pattern, show_status, show, set_value, set_variable, setting_of, set, any_statement, look, at_end, whole, any_text, unsupported_at, statement_of, from_front, meaning, length_part, key_of_table, column_part, no_second, one_word, other_statement}
-use Rattle.qc_parse.specs.Laws.{lexemes, without_span, without_spans}
+use Rattle.qc_sql.specs.Grammar.{table, alias, item, items, span_text, place, most_open, cache_word, source, Joined as JoinedSo, joined, at_further, with_source, join_words, further_source, where_part, order, order_part, from, from_part, Behind, limit, limit_part, lock_part, select, names_part, insert, right_side, assignment, update, delete, truncate, part_kind, null_part, primary_key, key_part, part, no_option, create_table, create, dropped, use_database, start_transaction, flush, reset, is_pattern, show_status, show, set_value, set_variable, setting_of, set, any_statement, look, at_end, whole, any_text, unsupported_at, statement_of, from_front, meaning, length_part, key_of_table, column_part, no_second, one_word, other_statement}
+use Rattle.qc_parse.specs.Laws.{without_span, without_spans}
 use Rattle.qc_parse.specs.Productions.{Keyword, keyword, Mark, Named, Passed, there, absent, one, more, Listed, Bracketed, Dotted, IsTable, IsLiteral, IsTuple, IsName, IsNumber, digits, IsAlias, behind_as, IsItem, IsItems, star, IsCacheWord, cache, no_cache, IsSource, IsFurther, comma, join, AreFurther, IsWhere, where_holds, IsDirection, down, up, IsOrder, AreOrders, order_by, IsFrom, IsLimit, skip_and_limit, limit_and_offset, IsLock, for_update, in_share_mode, brackets, negative, text, null, AreNames, IsRight, IsAssignment, IsKind, big_int, var_char, IsNull, not_null, IsKey, IsPart, IsSetValue, IsSetting, IsStatement}
 use Rattle.qc_parse.specs.Trees.{SpelledAreTrees, OneStatement}
 use Rattle.qc_parse.proofs.Congruence.{each_item, Each, SameItem, SameTree}
@@ -661,22 +661,21 @@ create_table_reads {ls = ls} {ms = ms} j d b u s =
 
 create_table_all : {t : TableRef} {ps : List Part} {l m : Lexeme} {ls ms : List Lexeme} → Keyword (codes "CREATE") l → Keyword (codes "TABLE") m → IsTable t ls → Bracketed (Listed IsPart) ps ms → (u : Unread) → Stands u (l ∷ m ∷ (ls ++ ms))
     → Run create u (statement.CreateTable t ps) []
-unfolding create create_statement
-create_table_all k j d b u s =
-    run_in_place _ (run_then _ (run_word k s) (λ v t. no_next _ _ (word_as j (codes "DATABASE")) t (yes_next _ _ (is_keyword _ _ j) t (create_table_reads j d b v t))))
+unfolding create
+create_table_all k j d b u s = run_then _ (run_word k s) (λ v t. no_next _ _ (word_as j (codes "DATABASE")) t (yes_next _ _ (is_keyword _ _ j) t (create_table_reads j d b v t)))
 
 create_database_reads : {n : Name} {l m o : Lexeme} → Keyword (codes "CREATE") l → Keyword (codes "DATABASE") m → Named n o → (u : Unread) → Stands u (l ∷ m ∷ o ∷ []) → Run create u (statement.CreateDb n) []
-unfolding create create_statement
-create_database_reads k j n u s = run_in_place _ (run_then _ (run_word k s) (λ v t. yes_next _ _ (is_keyword _ _ j) t (run_then _ (run_word j t) (λ w r. run_then _ (run_named n r) (λ z q. run_pure q)))))
+unfolding create
+create_database_reads k j n u s = run_then _ (run_word k s) (λ v t. yes_next _ _ (is_keyword _ _ j) t (run_then _ (run_word j t) (λ w r. run_then _ (run_named n r) (λ z q. run_pure q))))
 
 drop_database_reads : {n : Name} {l m o : Lexeme} → Keyword (codes "DROP") l → Keyword (codes "DATABASE") m → Named n o → (u : Unread) → Stands u (l ∷ m ∷ o ∷ []) → Run dropped u (statement.DropDb n) []
-unfolding dropped drop_statement
-drop_database_reads k j n u s = run_in_place _ (run_then _ (run_word k s) (λ v t. yes_next _ _ (is_keyword _ _ j) t (run_then _ (run_word j t) (λ w r. run_then _ (run_named n r) (λ z q. run_pure q)))))
+unfolding dropped
+drop_database_reads k j n u s = run_then _ (run_word k s) (λ v t. yes_next _ _ (is_keyword _ _ j) t (run_then _ (run_word j t) (λ w r. run_then _ (run_named n r) (λ z q. run_pure q))))
 
 drop_table_reads : {t : TableRef} {l m : Lexeme} {ls : List Lexeme} → Keyword (codes "DROP") l → Keyword (codes "TABLE") m → IsTable t ls → (u : Unread) → Stands u (l ∷ m ∷ ls) → Run dropped u (statement.DropTable t) []
-unfolding dropped drop_statement
+unfolding dropped
 drop_table_reads k j d u s =
-    run_in_place _ (run_then _ (run_word k s) (λ v t. no_next _ _ (word_as j (codes "DATABASE")) t (yes_next _ _ (is_keyword _ _ j) t (run_then _ (run_word j t) (λ w r. run_then _ (plain_table d w r) (λ z q. run_pure q))))))
+    run_then _ (run_word k s) (λ v t. no_next _ _ (word_as j (codes "DATABASE")) t (yes_next _ _ (is_keyword _ _ j) t (run_then _ (run_word j t) (λ w r. run_then _ (plain_table d w r) (λ z q. run_pure q)))))
 
 use_reads : {n : Name} {l o : Lexeme} → Keyword (codes "USE") l → Named n o → (u : Unread) → Stands u (l ∷ o ∷ []) → Run use_database u (statement.UseDb n) []
 unfolding use_database

@@ -13,8 +13,8 @@ use Rattle.qc_sql.specs.Words.{when}
 use Rattle.qc_sql.specs.Rules.{same_word}
 use Rattle.qc_sql.specs.Database.{Name}
 use Rattle.qc_sql.specs.Tokens.{Lexeme, Word, Token}
-use Rattle.qc_sql.specs.Reading.{TooManyTables, Unread, Refused, Reader, refuse_any, pure, ◌>>=◌, stop, refuse, token_is, next_is, reads, next, branch, passed, separated, listed, opened, bracketed, in_place_of_syntax, is_word, is_sign, word_in, name_in, at_word, at_token}
-use Rattle.qc_sql.specs.Grammar.{dotted, table, column, ends_value, signed, bare_literal, literal, tuple, at_literal, begins_call, at_call, call_word, is_known_call, column_argument, call_of, value_of, call_at, value_at, null_test, in_test, op_first, op_in, op_ahead, like_at, negated, grouped, joined_by, any_of, member_of, test_of, test_behind, member_at, most_open, condition, alias, item, source, look, one_too_many, join_words, at_further, further_source, too_many, joined, with_source, Joined, order, limit, cache_word, items, where_part, order_part, from, from_part, limit_part, lock_part, select, names_part, insert, right_side, assignment, update, delete, truncate, part_kind, null_part, primary_key, key_part, part, no_option, create_table, create_statement, other_create, create, drop_statement, other_drop, dropped, use_database, start_transaction, flush, reset, show_status, other_show, show, set_value, set_variable, setting_of, set, simple, unsupported_lexeme, unsupported_first, any_statement, at_end, whole, unsupported_at, other_type, length_part, key_of_table, column_part, no_second, one_word, other_statement}
+use Rattle.qc_sql.specs.Reading.{TooManyTables, Unread, Refused, Reader, refuse_any, pure, ◌>>=◌, stop, refuse, token_is, next_is, reads, next, branch, passed, separated, listed, opened, bracketed, in_place_of_syntax, is_word, is_sign, word_in, name_in}
+use Rattle.qc_sql.specs.Grammar.{dotted, table, column, ends_value, signed, bare_literal, literal, tuple, at_literal, begins_call, at_call, call_word, is_known_call, column_argument, call_of, value_of, call_at, value_at, null_test, in_test, op_first, op_in, op_ahead, like_at, negated, grouped, joined_by, any_of, member_of, test_of, test_behind, member_at, most_open, condition, alias, item, source, look, one_too_many, join_words, at_further, further_source, too_many, joined, with_source, Joined, order, limit, cache_word, items, where_part, order_part, from, from_part, limit_part, lock_part, select, names_part, insert, right_side, assignment, update, delete, truncate, part_kind, null_part, primary_key, key_part, part, no_option, create_table, create, dropped, use_database, start_transaction, flush, reset, show_status, other_show, show, set_value, set_variable, setting_of, set, simple, unsupported_lexeme, unsupported_first, any_statement, at_end, whole, unsupported_at, other_type, length_part, key_of_table, column_part, no_second, one_word, other_statement}
 use Rattle.qc_parse.specs.Laws.{without_span, without_spans}
 
 -- ---- what looks at the next two tokens at most, and only at what they are
@@ -75,16 +75,6 @@ sees_like u v e = ap (λ t. when t (codes "LIKE")) (sees_next _ u v e)
 
 pub sees_further : Sees at_further
 sees_further = sees_either _ _ (sees_next _) (sees_either _ _ (sees_next _) (sees_next _))
-
-pub sees_other_create : Sees other_create
-sees_other_create u v e =
-    let a : at_word (codes "AUTO_INCREMENT") u ≡ at_word (codes "AUTO_INCREMENT") v = sees_next _ u v e in
-    let b : at_word (codes "DEFAULT") u ≡ at_word (codes "DEFAULT") v = sees_next _ u v e in
-    let c : at_token u ≡ at_token v = sees_next _ u v e in
-    cc
-
-pub sees_other_drop : Sees other_drop
-sees_other_drop u v e = ap (λ t. when t (codes "DROP")) (sees_next _ u v e)
 
 pub sees_other_show : Sees other_show
 sees_other_show u v e = ap (λ t. when t (codes "SHOW")) (sees_next _ u v e)
@@ -465,21 +455,13 @@ module _ (law : Congruence) where
   fine_refuse_any : {A : Type 0} (what : List ℕ) → Fine (refuse_any {A = A} what)
   fine_refuse_any what = if_next _ (refuses _) stops
 
-  fine_create_statement : Fine create_statement
-  unfolding create_statement
-  fine_create_statement = after (takes _) (if_next _ (after (takes _) (maps _ (reads_same _))) (if_next _ fine_create_table (fine_refuse_any _)))
-
   fine_create : Fine create
   unfolding create
-  fine_create = in_place sees_other_create fine_create_statement
-
-  fine_drop_statement : Fine drop_statement
-  unfolding drop_statement
-  fine_drop_statement = after (takes _) (if_next _ (after (takes _) (maps _ (reads_same _))) (if_next _ (after (takes _) (maps _ fine_table)) (fine_refuse_any _)))
+  fine_create = after (takes _) (if_next _ (after (takes _) (maps _ (reads_same _))) (if_next _ fine_create_table (fine_refuse_any _)))
 
   fine_dropped : Fine dropped
   unfolding dropped
-  fine_dropped = in_place sees_other_drop fine_drop_statement
+  fine_dropped = after (takes _) (if_next _ (after (takes _) (maps _ (reads_same _))) (if_next _ (after (takes _) (maps _ fine_table)) (fine_refuse_any _)))
 
   -- ---- the others
 

@@ -2,8 +2,8 @@
 use Rattle.std.proofs.Common.{◌≡◌, ℕ, zero, suc, ◌+◌, Bool, true, false, cond, List, [], ◌∷◌, ◌++◌, length, drop, Option, Some, None, refl, sym, ap, ◌∙◌, append_assoc}
 use Rattle.std.specs.Prelude.{◌&&◌, ◌||◌, ◌==◌, ◌^◌, codes, nat_lt, bytes_eq, take, take_while, option_map}
 use Rattle.std.specs.List.{list_any}
-use Rattle.qc_sql.specs.Tokens.{Front, Ends, Skips, Gives, Faults, Lexeme, Words, Quoted, Word, Digits, Sign, LexFault, BadByte, NumberTooLarge, TextTooLong, LongName, Executable, Lexed, Content, front, goes_on, lexed, lexed_from, is_space, is_dashed, is_digit, begins_word, goes_on_word, line_bytes, comment, comment_bytes, quoted, quoted_text, name_token, text_token, word_token, number_token, number_from, sign_token, two_signs}
-use Rattle.qc_parse.specs.Laws.{lexemes, kind, Lexes, nothing, skip, token, GapsDoNotMatter}
+use Rattle.qc_sql.specs.Tokens.{Front, Ends, Skips, Gives, Faults, Lexeme, Words, Quoted, Word, Digits, Sign, LexFault, BadByte, NumberTooLarge, TextTooLong, LongName, Executable, Lexed, Content, front, goes_on, lexed, lexed_from, is_space, is_dashed, is_digit, begins_word, goes_on_word, line_bytes, comment, comment_bytes, quoted, quoted_text, name_token, text_token, word_token, number_token, number_from, sign_token, two_signs, lexemes}
+use Rattle.qc_parse.specs.Laws.{kind, Lexes, nothing, skip, token, GapsDoNotMatter}
 use Rattle.qc_lex.proofs.LexLoop.{lexed_at, lexed_first}
 use Rattle.qc_parse.proofs.Alike.{tokens_decide}
 

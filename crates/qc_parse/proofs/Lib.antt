@@ -9,3 +9,4 @@ pub mod SoundStatements
 pub mod Gaps
 pub mod Complete
 pub mod CompleteStatements
+mod examples

@@ -7,10 +7,10 @@ use Rattle.qc_sql.specs.declared.statements.Item.{Item}
 use Rattle.qc_sql.specs.declared.statements.Expr.{Expr}
 use Rattle.qc_sql.specs.declared.statements.Statement.{Statement}
 use Rattle.qc_sql.specs.Database.{Name}
-use Rattle.qc_sql.specs.Tokens.{Lexeme, Token, LexFault, BadByte, OpenQuote, OpenComment, NumberTooLarge, TextTooLong, LongName, Executable, Lexed, lexed}
+use Rattle.qc_sql.specs.Tokens.{Lexeme, Token, LexFault, BadByte, OpenQuote, OpenComment, NumberTooLarge, TextTooLong, LongName, Executable, Lexed, lexed, lexemes}
 use Rattle.qc_sql.specs.Reading.{ParseFault, Syntax, Unsupported, TooManyTables, of_lexer, Unread, Stop, Before, Refused, Reader, pure, then_read, ◌>>=◌, stop, read_as, read_first, reads, next, next_is, branch, at_most, many, separated, with_word, with_words, in_place_of_syntax, at_word}
 use Rattle.qc_sql.specs.Grammar.{value_at, most_open, alias, item, spanned, span_text, place, token_place, look, any_text, whole, unsupported_at, fault_before, end_fault, statement_of, from_front, meaning}
-use Rattle.qc_parse.specs.Laws.{lexemes, fault_place, end_place, place_of, SameFirst, FirstTokensRefuse}
+use Rattle.qc_parse.specs.Laws.{fault_place, end_place, place_of, SameFirst, FirstTokensRefuse}
 use Rattle.qc_parse.proofs.Congruence.{Congruence, next_two, Sees, sees_next, Each, each_refl, SameItem, SameTree, good_text}
 use Rattle.qc_parse.proofs.Alike.{AlikeResult, rest_of, steady_text}
 

@@ -14,10 +14,9 @@ use Rattle.qc_sql.specs.declared.statements.ColumnName.{ColumnName}
 use Rattle.qc_sql.specs.Database.{Name}
 use Rattle.qc_sql.specs.Words.{when}
 use Rattle.qc_sql.specs.Rules.{same_word, in_capitals}
-use Rattle.qc_sql.specs.Tokens.{Lexeme, Word, Quoted, Words, Digits, Sign, Token}
+use Rattle.qc_sql.specs.Tokens.{Lexeme, Word, Quoted, Words, Digits, Sign, Token, lexemes}
 use Rattle.qc_sql.specs.Reading.{Unread, Stop, Before, Refused, Reader, pure, then_read, ◌>>=◌, stop, refuse, past, read_as, read_first, reads, next, token_is, next_is, is_word, is_sign, word, sign, branch, passed, at_most, many, separated, listed, opened, bracketed, with_words, in_place_of_syntax, is_reserved, name_in, digits_in, words_in, word_in, name, number, words, any_word}
 use Rattle.qc_sql.specs.Grammar.{dotted, table, column, ends_value, signed, bare_literal, literal, tuple, is_known_call, is_aggregate_word, is_aggregate, call_word, column_argument, counted, arguments, call_of, value_of, call_at, value_at, op_in, null_test, in_test, list_or_range, test_behind, test_of, negated, grouped, joined_by, any_of, member_of, member_at, most_open, condition}
-use Rattle.qc_parse.specs.Laws.{lexemes}
 use Rattle.qc_parse.specs.Productions.{Keyword, keyword, Mark, mark, Named, Passed, there, absent, Separated, one, more, Listed, Bracketed, brackets, Dotted, bare, IsTable, IsColumn, IsLiteral, negative, text, null, IsTuple, Arguments, is_other_call, IsCall, ValueOf, CallAt, ValueAt, Compares, equal, unequal, not_equal, less, at_most as or_less, greater, at_least, denied, IsTest, Joined, AnyOf, MemberOf, MemberAt, IsCondition}
 
 -- what is given is spelled by the tokens in front of what is left

@@ -12,10 +12,9 @@ use Rattle.qc_sql.specs.declared.statements.Statement.{Statement}
 use Rattle.qc_sql.specs.declared.statements.Statement.TheVariants as statement
 use Rattle.qc_sql.specs.Database.{Name}
 use Rattle.qc_sql.specs.Rules.{same_word}
-use Rattle.qc_sql.specs.Tokens.{Lexeme, Word, Quoted, Words, Digits, Sign, Token, LexFault, Lexed, lexed}
+use Rattle.qc_sql.specs.Tokens.{Lexeme, Word, Quoted, Words, Digits, Sign, Token, LexFault, Lexed, lexed, lexemes}
 use Rattle.qc_sql.specs.Reading.{Unread, Stop, Before, Refused, Reader, pure, then_read, ◌>>=◌, stop, refuse_any, past, read_as, read_first, token_is, is_word, at_word, word, branch, with_words, word_in, name, number, any_word}
-use Rattle.qc_sql.specs.Grammar.{condition, at_further, alias, item, items, spanned, span_text, place, value_at, most_open, cache_word, source, Joined as JoinedSo, joined, with_source, too_many, one_too_many, join_words, further_source, look, where_part, order, order_part, from, from_part, all_conds, limit, limit_part, lock_part, select, names_part, insert, right_side, assignment, update, delete, truncate, part_kind, null_part, primary_key, key_part, part, no_option, create_table, create_statement, create, drop_statement, dropped, use_database, start_transaction, flush, reset, is_pattern, show_status, show, set_value, set_variable, setting_of, set, simple, any_statement, at_end, whole, any_text, unsupported_at, statement_of, from_front, meaning, other_type, length_part, key_of_table, column_part, no_second, one_word, other_statement}
-use Rattle.qc_parse.specs.Laws.{lexemes}
+use Rattle.qc_sql.specs.Grammar.{condition, at_further, alias, item, items, spanned, span_text, place, value_at, most_open, cache_word, source, Joined as JoinedSo, joined, with_source, too_many, one_too_many, join_words, further_source, look, where_part, order, order_part, from, from_part, all_conds, limit, limit_part, lock_part, select, names_part, insert, right_side, assignment, update, delete, truncate, part_kind, null_part, primary_key, key_part, part, no_option, create_table, create, dropped, use_database, start_transaction, flush, reset, is_pattern, show_status, show, set_value, set_variable, setting_of, set, simple, any_statement, at_end, whole, any_text, unsupported_at, statement_of, from_front, meaning, other_type, length_part, key_of_table, column_part, no_second, one_word, other_statement}
 use Rattle.qc_parse.specs.Trees.{TreesAreSpelled}
 use Rattle.qc_parse.specs.Productions.{Keyword, keyword, Passed, there, absent, IsColumn, ValueAt, IsName, IsNumber, digits, IsAlias, behind_as, IsItem, IsItems, star, IsCacheWord, cache, no_cache, IsSource, IsFurther, comma, join, AreFurther, IsWhere, where_holds, IsDirection, down, up, IsOrder, AreOrders, order_by, IsFrom, IsLimit, skip_and_limit, limit_and_offset, IsLock, for_update, in_share_mode, AreNames, IsRight, IsAssignment, IsKind, big_int, var_char, IsNull, not_null, IsKey, IsPart, IsSetValue, IsSetting, IsStatement}
 use Rattle.qc_parse.proofs.Congruence.{SameTree}
@@ -229,20 +228,20 @@ sound_refuse_any : {A : Type 0} {D : A → List Lexeme → Type 0} (what : List 
 sound_refuse_any what = sound_branch _ (sound_refuse what) sound_stop
 
 sound_create : Sound IsStatement create
-unfolding create create_statement create_table
-sound_create = sound_in_place _
-    (sound_word (codes "CREATE") (λ l k.
+unfolding create create_table
+sound_create =
+    sound_word (codes "CREATE") (λ l k.
     sound_branch _ (sound_word (codes "DATABASE") (λ m j. sound_named (λ n o d. sound_pure (IsStatement.create_database k j d))))
     (sound_branch _ (sound_word (codes "TABLE") (λ m j. sound_then sound_table (λ t ls d. sound_then (sound_bracketed (sound_listed sound_part)) (λ ps ms g.
     sound_silent sound_no_option (ended (λ y ns. IsStatement y (l ∷ m ∷ ls ++ ns)) ms (IsStatement.create_table k j d g))))))
-    (sound_refuse_any _))))
+    (sound_refuse_any _)))
 
 sound_dropped : Sound IsStatement dropped
-unfolding dropped drop_statement
-sound_dropped = sound_in_place _
-    (sound_word (codes "DROP") (λ l k.
+unfolding dropped
+sound_dropped =
+    sound_word (codes "DROP") (λ l k.
     sound_branch _ (sound_word (codes "DATABASE") (λ m j. sound_named (λ n o d. sound_pure (IsStatement.drop_database k j d))))
-    (sound_branch _ (sound_word (codes "TABLE") (λ m j. sound_map _ sound_table (λ t ls d. IsStatement.drop_table k j d))) (sound_refuse_any _))))
+    (sound_branch _ (sound_word (codes "TABLE") (λ m j. sound_map _ sound_table (λ t ls d. IsStatement.drop_table k j d))) (sound_refuse_any _)))
 
 sound_use : Sound IsStatement use_database
 unfolding use_database

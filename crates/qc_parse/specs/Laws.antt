@@ -3,14 +3,11 @@ use Rattle.std.specs.Prelude.{◌≡◌, ℕ, ◌+◌, ◌≤◌, Bool, List, []
 use Rattle.qc_sql.specs.declared.statements.Item.{Item}
 use Rattle.qc_sql.specs.declared.statements.Statement.{Statement}
 use Rattle.qc_sql.specs.declared.statements.Statement.TheVariants as statement
-use Rattle.qc_sql.specs.Tokens.{Skips, Gives, front, Lexeme, Token, LexFault, BadByte, OpenQuote, OpenComment, NumberTooLarge, TextTooLong, LongName, Executable, lexed}
+use Rattle.qc_sql.specs.Tokens.{Skips, Gives, front, Lexeme, Token, LexFault, BadByte, OpenQuote, OpenComment, NumberTooLarge, TextTooLong, LongName, Executable, lexed, lexemes}
 use Rattle.qc_sql.specs.Reading.{ParseFault, Syntax, Unsupported, TooManyTables}
 use Rattle.qc_sql.specs.Grammar.{token_place, meaning}
 
 -- ---- tokens without their places
-
-abbrev pub lexemes : List Token → List Lexeme
-lexemes ts = map (λ t. t.what) ts
 
 -- a fault, whatever its place
 abbrev pub kind : LexFault → LexFault

@@ -2,9 +2,9 @@
 use Rattle.std.specs.Prelude.{◌≡◌, ℕ, Bool, List, None, Ok}
 use Rattle.qc_sql.specs.declared.statements.Statement.{Statement}
 use Rattle.qc_sql.specs.declared.statements.Cond.{Cond}
-use Rattle.qc_sql.specs.Tokens.{Lexeme, lexed}
+use Rattle.qc_sql.specs.Tokens.{Lexeme, lexed, lexemes}
 use Rattle.qc_sql.specs.Grammar.{meaning}
-use Rattle.qc_parse.specs.Laws.{lexemes, without_spans}
+use Rattle.qc_parse.specs.Laws.{without_spans}
 use Rattle.qc_parse.specs.Productions.{IsStatement, AnyOf, MemberAt}
 
 -- a text that has a tree has no fault, and its tokens, all of them, spell the tree by the productions

@@ -1,6 +1,6 @@
 //! Statements that make and drop tables and databases.
 
-ghost use Rattle.std.specs.Prelude.{◌≡◌, Err, is_some};
+ghost use Rattle.std.specs.Prelude.{◌≡◌, is_some};
 ghost use Rattle.qc_sql.specs.Reading as meant;
 ghost use Rattle.qc_sql.specs.Grammar as rule;
 ghost use Rattle.qc_parse.specs.Cursors.{unread, Takes, Reads};
@@ -189,9 +189,9 @@ fn create_table(alloc: Global, cursor: &mut Cursor<'_>) -> Result<Statement, Or<
     Ok(Statement::CreateTable(table, parts))
 }
 
-#[tactic(auto, unfolding(qc_sql::specs::Grammar::create_statement))]
-fn create_statement(alloc: Global, cursor: &mut Cursor<'_>) -> Result<Statement, Or<Halt>>
-    ensures { Reads (λ x. x) result (unread cursor.new) (rule.create_statement (unread cursor.old)) }
+#[tactic(auto, unfolding(qc_sql::specs::Grammar::create))]
+pub fn create(alloc: Global, cursor: &mut Cursor<'_>) -> Result<Statement, Or<Halt>>
+    ensures { Reads (λ x. x) result (unread cursor.new) (rule.create (unread cursor.old)) }
 {
     cursor.word(b"CREATE")?;
     if cursor.at_word(b"DATABASE") {
@@ -204,33 +204,9 @@ fn create_statement(alloc: Global, cursor: &mut Cursor<'_>) -> Result<Statement,
     refuse_any(alloc, cursor, b"CREATE")
 }
 
-/// What departs from CREATE: AUTO_INCREMENT and DEFAULT answer with themselves. Always an error.
-fn refuse_create(alloc: Global, cursor: &Cursor<'_>) -> Result<Statement, Or<Halt>>
-    ensures { Reads (λ x. x) result (unread cursor.now) (Err (meant.with_word (rule.other_create (unread cursor.now)) (unread cursor.now))) }
-{
-    if cursor.at_word(b"AUTO_INCREMENT") {
-        return Err(unsupported(alloc, b"AUTO_INCREMENT"));
-    }
-    if cursor.at_word(b"DEFAULT") {
-        return Err(unsupported(alloc, b"DEFAULT"));
-    }
-    refuse_any(alloc, cursor, b"CREATE")
-}
-
-/// CREATE of a database or a table; of anything else it isn't supported.
-#[tactic(auto, unfolding(qc_sql::specs::Grammar::create))]
-pub fn create(alloc: Global, cursor: &mut Cursor<'_>) -> Result<Statement, Or<Halt>>
-    ensures { Reads (λ x. x) result (unread cursor.new) (rule.create (unread cursor.old)) }
-{
-    match create_statement(alloc, cursor) {
-        Err(Or::Other(Halt::Unexpected)) => refuse_create(alloc, cursor),
-        other => other,
-    }
-}
-
-#[tactic(auto, unfolding(qc_sql::specs::Grammar::drop_statement))]
-fn drop_statement(alloc: Global, cursor: &mut Cursor<'_>) -> Result<Statement, Or<Halt>>
-    ensures { Reads (λ x. x) result (unread cursor.new) (rule.drop_statement (unread cursor.old)) }
+#[tactic(auto, unfolding(qc_sql::specs::Grammar::dropped))]
+pub fn dropped(alloc: Global, cursor: &mut Cursor<'_>) -> Result<Statement, Or<Halt>>
+    ensures { Reads (λ x. x) result (unread cursor.new) (rule.dropped (unread cursor.old)) }
 {
     cursor.word(b"DROP")?;
     if cursor.at_word(b"DATABASE") {
@@ -242,17 +218,6 @@ fn drop_statement(alloc: Global, cursor: &mut Cursor<'_>) -> Result<Statement, O
         return Ok(Statement::DropTable(table(alloc, cursor)?));
     }
     refuse_any(alloc, cursor, b"DROP")
-}
-
-/// DROP of a database or a table; of anything else it isn't supported.
-#[tactic(auto, unfolding(qc_sql::specs::Grammar::dropped))]
-pub fn dropped(alloc: Global, cursor: &mut Cursor<'_>) -> Result<Statement, Or<Halt>>
-    ensures { Reads (λ x. x) result (unread cursor.new) (rule.dropped (unread cursor.old)) }
-{
-    match drop_statement(alloc, cursor) {
-        Err(Or::Other(Halt::Unexpected)) => refuse_any(alloc, cursor, b"DROP"),
-        other => other,
-    }
 }
 
 impl Member for Part {

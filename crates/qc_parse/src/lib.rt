@@ -26,3 +26,4 @@ pub use named::tables;
 pub use qc_sql::statements;
 pub use refusal::ParseRefusal;
 pub use whole::parse;
+pub use words::uncached_call;

@@ -52,14 +52,14 @@ fn place(cursor: &Cursor<'_>) -> u32
 }
 
 /// At most so many bytes of a text.
-fn front(text: &[u8], bytes: usize) -> &[u8]
+fn prefix(text: &[u8], bytes: usize) -> &[u8]
     ensures { result.now ≡ take bytes text.now }
 {
     text.get(..bytes).unwrap_or(text)
 }
 
 /// A text without so many bytes.
-fn without_front(text: &[u8], bytes: usize) -> &[u8]
+fn without_prefix(text: &[u8], bytes: usize) -> &[u8]
     ensures { result.now ≡ drop bytes text.now }
 {
     text.get(bytes..).unwrap_or(&[])
@@ -69,11 +69,11 @@ fn without_front(text: &[u8], bytes: usize) -> &[u8]
 fn span_text(text: &[u8], from: u32, to: u32) -> &[u8]
     ensures { result.now ≡ span_text from to text.now }
 {
-    let span = front(
-        without_front(text, from as usize),
+    let span = prefix(
+        without_prefix(text, from as usize),
         to.saturating_sub(from) as usize,
     );
-    front(span, MOST_WORDS)
+    prefix(span, MOST_WORDS)
 }
 
 /// An item: a value, with its span and text, and its name.

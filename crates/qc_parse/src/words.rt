@@ -1,10 +1,11 @@
 //! Words that mean something.
 
-ghost use Rattle.std.specs.Prelude.{◌≡◌, map};
-ghost use Rattle.qc_sql.specs.Reading.{is_among, is_reserved};
+ghost use Rattle.std.specs.Prelude.{◌≡◌, find, option_map};
+ghost use Rattle.qc_sql.specs.Rules.{same_word, uncached_words};
+ghost use Rattle.qc_sql.specs.Reading.{is_reserved};
 ghost use Rattle.qc_sql.specs.Grammar.{is_aggregate_word, is_plain_call, is_uncached_call, is_known_call, is_unsupported};
 
-use qc_lex::is_same_word;
+use qc_lex::{is_one_of, named_in};
 
 /// The words that are no names, in any case.
 static RESERVED: [&str; 50] = [
@@ -68,25 +69,13 @@ pub fn is_reserved(word: &[u8]) -> bool
     is_one_of(word, &RESERVED)
 }
 
-/// Whether a word is one of these, in any case. Linear in the number of these and in the word.
-pub fn is_one_of(word: &[u8], others: &[&str]) -> bool
-    ensures { result ≡ is_among (map (λ other. other.now) others.now) word.now }
-{
-    for other in others {
-        if is_same_word(word, other.as_bytes()) {
-            return true;
-        }
-    }
-    false
-}
-
 /// The aggregates' words.
 static AGGREGATES: [&str; 4] = ["COUNT", "SUM", "MIN", "MAX"];
 
 /// The words of other calls, which don't keep a SELECT out of the cache, or only with some arguments.
 static PLAIN_CALLS: [&str; 4] = ["LENGTH", "CONCAT", "ENCRYPT", "UNIX_TIMESTAMP"];
 
-/// The words of the calls that keep a SELECT out of the cache.
+/// The words of the calls that keep a SELECT out of the cache, whatever their arguments.
 static UNCACHED_CALLS: [&str; 30] = [
     "AES_DECRYPT",
     "AES_ENCRYPT",
@@ -140,6 +129,14 @@ fn is_uncached_call(word: &[u8]) -> bool
     ensures { result ≡ is_uncached_call word.now }
 {
     is_one_of(word, &UNCACHED_CALLS)
+}
+
+/// The name, in capitals, of the call with this word in any case, where it keeps a SELECT out of the cache whatever its arguments. At most 30
+/// comparisons of words.
+pub fn uncached_call(word: &[u8]) -> Option<&'static str>
+    ensures { option_map (λ name. name.now) result ≡ find (same_word word.now) uncached_words }
+{
+    named_in(word, &UNCACHED_CALLS)
 }
 
 /// Whether a word is that of a call that is read, in any case. At most 38 comparisons of words.

@@ -1,4 +1,4 @@
--- A SELECT that is judged gives what `rows` says.
+-- A SELECT that is validated gives what `rows` says.
 use Rattle.std.proofs.Common.{◌≡◌, ℕ, suc, ◌+◌, ◌*◌, ◌^◌, ◌≤◌, Bool, true, false, cond, List, [], ◌∷◌, ◌++◌, length, map, take, drop, filter, refl, ap, sym, ◌∙◌, subst, Result, Ok, Err, arith}
 use Rattle.std.proofs.lemmas.Bool.Decides.{nat_tests}
 use Rattle.std.specs.Prelude.{Option, Some, None, ◌&&◌, nat_lt, codes}
@@ -26,7 +26,7 @@ use Rattle.qc_resolve.specs.declared.resolved.OrderKey.{OrderKey}
 use Rattle.qc_resolve.specs.declared.resolved.Resolved.{Resolved}
 use Rattle.qc_resolve.specs.declared.test.Test.{Test}
 use Rattle.qc_resolve.specs.Fit.{IsSoundBound, IsFit, AreFit}
-use Rattle.qc_resolve.specs.Judged.{none_shown, shown_judged, condition_judged, key_judged, order_judged, output_judged, offset_of, count_of, bounds_judged, parts_judged, judged_over}
+use Rattle.qc_resolve.specs.Validated.{none_shown, shown_validated, condition_validated, key_validated, order_validated, output_validated, offset_of, count_of, bounds_validated, parts_validated, validated_over}
 use Rattle.qc_resolve.specs.Meaning.{all_combinations, row_value, keeps, keys_cmp, output_rows, resolved_rows, rows_of}
 use Rattle.qc_resolve.proofs.Fits.{combinations_fit, all_filter, all_sorted}
 use Rattle.qc_resolve.proofs.GroupAgrees.{worth}
@@ -34,7 +34,7 @@ use Rattle.qc_resolve.proofs.ItemAgrees.{IsShown, SameShown, shown_same}
 use Rattle.qc_resolve.proofs.OrderAgrees.{SameOrder, order_same}
 use Rattle.qc_resolve.proofs.TestAgrees.{SameCondition, condition_same, kept_same}
 
--- what a judged SELECT gives
+-- what a validated SELECT gives
 abbrev pub given : Result Resolved SqlError → Result Rows SqlError
 given r = r >>= λ x. Ok (rows_of x)
 
@@ -95,7 +95,7 @@ module _ (flags : Flags) (scope : Scope) (sound : AllByRecursion IsSoundBound sc
   -- each combination gives a row
   each_row : (ss : List meant.Shown) (s : Shown) (os : List (Bool × Found)) (ks : List OrderKey) (k : Combination → Bool) (t : Option Test) → IsShown false bounds ss none_shown s
       → ((a b : Combination) → order_cmp os a b ≡ keys_cmp ks a b) → ((c : Combination) → IsFit bounds c → k c ≡ keeps t c)
-      → all_rows false ss (sorted (order_cmp os) (kept_by k)) ≡ output_rows (output_judged false s ks) (filter (keeps t) (all_combinations tables))
+      → all_rows false ss (sorted (order_cmp os) (kept_by k)) ≡ output_rows (output_validated false s ks) (filter (keeps t) (all_combinations tables))
   each_row ss s os ks k t shown order kept =
       one_each_map (λ group. map (λ s. s.1 group) ss) (sorted (order_cmp os) (kept_by k))
       ∙ ones_same bounds (λ c. map (λ s. s.1 (c ∷ [])) ss) (λ c. map (row_value c) s.formulas) (sorted (order_cmp os) (kept_by k))
@@ -106,7 +106,7 @@ module _ (flags : Flags) (scope : Scope) (sound : AllByRecursion IsSoundBound sc
   -- all of them give one
   one_row : (ss : List meant.Shown) (s : Shown) (k : Combination → Bool) (t : Option Test) → IsShown true bounds ss none_shown s
       → ((c : Combination) → IsFit bounds c → k c ≡ keeps t c)
-      → all_rows true ss (sorted (order_cmp []) (kept_by k)) ≡ output_rows (output_judged true s []) (filter (keeps t) (all_combinations tables))
+      → all_rows true ss (sorted (order_cmp []) (kept_by k)) ≡ output_rows (output_validated true s []) (filter (keeps t) (all_combinations tables))
   one_row ss s k t shown kept =
       ap (λ cs. map (λ s. s.1 cs) ss ∷ []) (sorted_by_none (kept_by k))
       ∙ ap (λ r. r ∷ []) (shown.value [] (kept_by k) (kept_fit k)
@@ -123,7 +123,7 @@ module _ (flags : Flags) (scope : Scope) (sound : AllByRecursion IsSoundBound sc
     columns = s.columns;
     tables = tables;
     test = t;
-    output = output_judged aggregated s order;
+    output = output_validated aggregated s order;
     offset = offset_of limit;
     count = count_of limit flags.row_limit;
   }
@@ -132,11 +132,11 @@ module _ (flags : Flags) (scope : Scope) (sound : AllByRecursion IsSoundBound sc
   whole aggregated limit k ss order = record { columns = map (λ s. s.0) ss; rows = cut limit flags.row_limit (all_rows aggregated ss (sorted (order_cmp order) (kept_by k))) }
 
   whole_same : (aggregated : Bool) (limit : Option Limit) (k : Combination → Bool) (t : Option Test) (ss : List meant.Shown) (s : Shown) (os : List (Bool × Found)) (ks : List OrderKey) → IsShown aggregated bounds ss none_shown s
-      → all_rows aggregated ss (sorted (order_cmp os) (kept_by k)) ≡ output_rows (output_judged aggregated s ks) (filter (keeps t) (all_combinations tables))
+      → all_rows aggregated ss (sorted (order_cmp os) (kept_by k)) ≡ output_rows (output_validated aggregated s ks) (filter (keeps t) (all_combinations tables))
       → whole aggregated limit k ss os ≡ rows_of (resolved aggregated limit t s ks)
   whole_same aggregated limit k t ss s os ks h e = λ i. record {
     columns = columns_same aggregated ss s h i;
-    rows = (ap (cut limit flags.row_limit) e ∙ cut_same limit flags.row_limit (output_rows (output_judged aggregated s ks) (filter (keeps t) (all_combinations tables)))) i;
+    rows = (ap (cut limit flags.row_limit) e ∙ cut_same limit flags.row_limit (output_rows (output_validated aggregated s ks) (filter (keeps t) (all_combinations tables)))) i;
   }
 
   order_case : (limit : Option Limit) (k : Combination → Bool) (t : Option Test) (ss : List meant.Shown) (s : Shown) (r : Result (List (Bool × Found)) SqlError) (w : Result (List OrderKey) SqlError) → IsShown false bounds ss none_shown s
@@ -156,16 +156,16 @@ module _ (flags : Flags) (scope : Scope) (sound : AllByRecursion IsSoundBound sc
   last_steps : (aggregated : Bool) (orders : List Order) (limit : Option Limit) (k : Combination → Bool) (t : Option Test) (ss : List meant.Shown) (s : Shown) → IsShown aggregated bounds ss none_shown s
       → ((c : Combination) → IsFit bounds c → k c ≡ keeps t c)
       → (refuse_if (aggregated && nat_lt 0 (length orders)) ordered_aggregate >>= λ _. each meant_key orders >>= λ order. Ok (whole aggregated limit k ss order))
-      ≡ given (refuse_if (aggregated && nat_lt 0 (length orders)) ordered_aggregate >>= λ _. order_judged scope orders >>= λ order. Ok (resolved aggregated limit t s order))
+      ≡ given (refuse_if (aggregated && nat_lt 0 (length orders)) ordered_aggregate >>= λ _. order_validated scope orders >>= λ order. Ok (resolved aggregated limit t s order))
   last_steps true [] limit k t ss s shown kept = ap Ok (whole_same true limit k t ss s [] [] shown (one_row ss s k t shown kept))
   last_steps true (o ∷ os) limit k t ss s shown kept =
-      subst (λ b. (refuse_if b ordered_aggregate >>= λ _. each meant_key (o ∷ os) >>= λ order. Ok (whole true limit k ss order)) ≡ given (refuse_if b ordered_aggregate >>= λ _. order_judged scope (o ∷ os) >>= λ order. Ok (resolved true limit t s order)))
+      subst (λ b. (refuse_if b ordered_aggregate >>= λ _. each meant_key (o ∷ os) >>= λ order. Ok (whole true limit k ss order)) ≡ given (refuse_if b ordered_aggregate >>= λ _. order_validated scope (o ∷ os) >>= λ order. Ok (resolved true limit t s order)))
       (sym (some_above (length os))) refl
-  last_steps false orders limit k t ss s shown kept = order_case limit k t ss s (each meant_key orders) (order_judged scope orders) shown kept (order_same scope orders)
+  last_steps false orders limit k t ss s shown kept = order_case limit k t ss s (each meant_key orders) (order_validated scope orders) shown kept (order_same scope orders)
 
   condition_case : (aggregated : Bool) (orders : List Order) (limit : Option Limit) (ss : List meant.Shown) (s : Shown) (r : Result (Combination → Bool) SqlError) (w : Result (Option Test) SqlError) → IsShown aggregated bounds ss none_shown s → SameCondition bounds r w
       → (r >>= λ k. refuse_if (aggregated && nat_lt 0 (length orders)) ordered_aggregate >>= λ _. each meant_key orders >>= λ order. Ok (whole aggregated limit k ss order))
-      ≡ given (w >>= λ t. refuse_if (aggregated && nat_lt 0 (length orders)) ordered_aggregate >>= λ _. order_judged scope orders >>= λ order. Ok (resolved aggregated limit t s order))
+      ≡ given (w >>= λ t. refuse_if (aggregated && nat_lt 0 (length orders)) ordered_aggregate >>= λ _. order_validated scope orders >>= λ order. Ok (resolved aggregated limit t s order))
   condition_case aggregated orders limit ss s (Ok k) (Ok t) shown h = last_steps aggregated orders limit k t ss s shown h
   condition_case aggregated orders limit ss s (Err e) (Err f) shown h = ap Err h
   condition_case aggregated orders limit ss s (Ok k) (Err f) shown h = absurd h
@@ -180,10 +180,10 @@ module _ (flags : Flags) (scope : Scope) (sound : AllByRecursion IsSoundBound sc
 
   shown_case : (aggregated : Bool) (select : Select) (r : Result (List meant.Shown) SqlError) (w : Result Shown SqlError) → SameShown aggregated bounds none_shown r w
       → (r >>= λ ss. refuse_if (nat_lt 64 (length ss)) too_many_columns >>= λ _. condition scope select.cond >>= λ k. refuse_if (aggregated && nat_lt 0 (length select.order)) ordered_aggregate >>= λ _. each meant_key select.order >>= λ order. Ok (whole aggregated select.limit k ss order))
-      ≡ given (w >>= λ s. refuse_if (nat_lt 64 (length s.columns)) too_many_columns >>= λ _. condition_judged scope select.cond >>= λ t. refuse_if (aggregated && nat_lt 0 (length select.order)) ordered_aggregate >>= λ _. order_judged scope select.order >>= λ order. Ok (resolved aggregated select.limit t s order))
+      ≡ given (w >>= λ s. refuse_if (nat_lt 64 (length s.columns)) too_many_columns >>= λ _. condition_validated scope select.cond >>= λ t. refuse_if (aggregated && nat_lt 0 (length select.order)) ordered_aggregate >>= λ _. order_validated scope select.order >>= λ order. Ok (resolved aggregated select.limit t s order))
   shown_case aggregated select (Ok ss) (Ok s) h =
       ap (λ n. refuse_if (nat_lt 64 n) too_many_columns >>= λ _. condition scope select.cond >>= λ k. refuse_if (aggregated && nat_lt 0 (length select.order)) ordered_aggregate >>= λ _. each meant_key select.order >>= λ order. Ok (whole aggregated select.limit k ss order)) (length_same aggregated ss s h)
-      ∙ refused_same (nat_lt 64 (length s.columns)) too_many_columns _ _ (condition_case aggregated select.order select.limit ss s (condition scope select.cond) (condition_judged scope select.cond) h (condition_same scope select.cond))
+      ∙ refused_same (nat_lt 64 (length s.columns)) too_many_columns _ _ (condition_case aggregated select.order select.limit ss s (condition scope select.cond) (condition_validated scope select.cond) h (condition_same scope select.cond))
   shown_case aggregated select (Err e) (Err f) h = ap Err h
   shown_case aggregated select (Ok ss) (Err f) h = absurd h
   shown_case aggregated select (Err e) (Ok s) h = absurd h
@@ -193,11 +193,11 @@ module _ (flags : Flags) (scope : Scope) (sound : AllByRecursion IsSoundBound sc
   both_refusals None f b e r w h = refused_same b e r w h
   both_refusals (Some n) f b e r w h = refl
 
-  pub over_same : (select : Select) → rows_over select scope.db flags scope.session bounds ≡ given (judged_over select flags scope)
-  unfolding rows_over judged_over parts_judged ordered_aggregate
+  pub over_same : (select : Select) → rows_over select scope.db flags scope.session bounds ≡ given (validated_over select flags scope)
+  unfolding rows_over validated_over parts_validated ordered_aggregate
   over_same select =
       both_refusals (first_repeated [] (map (λ b. b.called) bounds)) name_not_unique (nat_lt (2 ^ 40) (combination_count bounds)) too_many_combinations _ _
-      (shown_case (has_aggregate select) select (shown_items flags scope select) (shown_judged flags scope select) (shown_same flags scope select))
+      (shown_case (has_aggregate select) select (shown_items flags scope select) (shown_validated flags scope select) (shown_same flags scope select))
 
 -- ---- the whole
 
@@ -208,11 +208,11 @@ gives_given (Err (or.Other e)) m n h g = h ∙ ap given g
 
 pub whole_gives : (r : Result Resolved (Or SqlError)) (select : Select) (d : Database) (db : Name) (flags : Flags) (session : ℕ) (bounds : List Bound)
     → (select.lock && flags.in_trans) ≡ false → each (bind d db) select.from ≡ Ok bounds → AllByRecursion IsSoundBound bounds
-    → Gives (λ x. x) (λ e. e) r (judged_over select flags (record { bounds = bounds; db = db; session = session }))
+    → Gives (λ x. x) (λ e. e) r (validated_over select flags (record { bounds = bounds; db = db; session = session }))
     → Gives rows_of (λ e. e) r (rows select d db flags session)
 unfolding rows
 whole_gives r select d db flags session bounds free bound sound g =
-    gives_given r (judged_over select flags (record { bounds = bounds; db = db; session = session })) (rows select d db flags session)
+    gives_given r (validated_over select flags (record { bounds = bounds; db = db; session = session })) (rows select d db flags session)
     ((λ i. refuse_if (free i) (not_supported (codes "locking read")) >>= λ _. bound i >>= λ bounds. rows_over select db flags session bounds)
     ∙ over_same flags (record { bounds = bounds; db = db; session = session }) sound select)
     g

@@ -9,38 +9,38 @@ use Rattle.qc_types.specs.declared.names.Value.{Value}
 use Rattle.qc_sql.specs.declared.statements.Expr.{Expr}
 use Rattle.qc_sql.specs.Errors.{not_supported}
 use Rattle.qc_sql.specs.Rows.{Scope, mixes, sort_of_value, refuse_if, each, ◌>>=◌}
-use Rattle.qc_resolve.specs.Values.{Judged, row_judged}
+use Rattle.qc_resolve.specs.Values.{Validated, row_validated}
 use Rattle.qc_sql.specs.Trees.{fold_cond-Or, fold_cond-And}
 use Rattle.qc_resolve.specs.declared.test.Test.{Test}
 use Rattle.qc_resolve.specs.declared.test.Test.TheVariants as made
-use Rattle.qc_resolve.specs.Judged.{in_judged, test_at, test_judged}
+use Rattle.qc_resolve.specs.Validated.{in_validated, test_at, test_validated}
 use Rattle.qc_resolve.proofs.Steps.{each_of_map}
 
-pub any_judged : (scope : Scope) (c : Cond) (all ys : List Cond) → c ≡ Or all → ys ≡ all → test_judged scope c ≡ (each (test_judged scope) ys >>= λ ts. Ok (made.Any ts))
-any_judged scope c all ys h k =
-    ap (test_judged scope) h
+pub any_validated : (scope : Scope) (c : Cond) (all ys : List Cond) → c ≡ Or all → ys ≡ all → test_validated scope c ≡ (each (test_validated scope) ys >>= λ ts. Ok (made.Any ts))
+any_validated scope c all ys h k =
+    ap (test_validated scope) h
     ∙ fold_cond-Or (test_at scope) all
-    ∙ ap (λ r. r >>= λ ts. Ok (made.Any ts)) (each_of_map (λ t. t) (test_judged scope) all)
-    ∙ ap (λ zs. each (test_judged scope) zs >>= λ ts. Ok (made.Any ts)) (sym k)
+    ∙ ap (λ r. r >>= λ ts. Ok (made.Any ts)) (each_of_map (λ t. t) (test_validated scope) all)
+    ∙ ap (λ zs. each (test_validated scope) zs >>= λ ts. Ok (made.Any ts)) (sym k)
 
-pub all_judged : (scope : Scope) (c : Cond) (all ys : List Cond) → c ≡ And all → ys ≡ all → test_judged scope c ≡ (each (test_judged scope) ys >>= λ ts. Ok (made.All ts))
-all_judged scope c all ys h k =
-    ap (test_judged scope) h
+pub all_validated : (scope : Scope) (c : Cond) (all ys : List Cond) → c ≡ And all → ys ≡ all → test_validated scope c ≡ (each (test_validated scope) ys >>= λ ts. Ok (made.All ts))
+all_validated scope c all ys h k =
+    ap (test_validated scope) h
     ∙ fold_cond-And (test_at scope) all
-    ∙ ap (λ r. r >>= λ ts. Ok (made.All ts)) (each_of_map (λ t. t) (test_judged scope) all)
-    ∙ ap (λ zs. each (test_judged scope) zs >>= λ ts. Ok (made.All ts)) (sym k)
+    ∙ ap (λ r. r >>= λ ts. Ok (made.All ts)) (each_of_map (λ t. t) (test_validated scope) all)
+    ∙ ap (λ zs. each (test_validated scope) zs >>= λ ts. Ok (made.All ts)) (sym k)
 
 -- ---- literals that a value is compared with
 
-abbrev pub mixes_any : Judged → List Value → Bool
+abbrev pub mixes_any : Validated → List Value → Bool
 mixes_any x vs = list_any (λ v. mixes x.sort (sort_of_value v)) vs
 
-pub in_refused : (scope : Scope) (a : Expr) (vs ys : List Value) (x : Judged) → row_judged scope a ≡ Ok x → ys ≡ vs → mixes_any x ys ≡ true → in_judged scope a vs ≡ Err (not_supported (codes "mixed comparison"))
+pub in_refused : (scope : Scope) (a : Expr) (vs ys : List Value) (x : Validated) → row_validated scope a ≡ Ok x → ys ≡ vs → mixes_any x ys ≡ true → in_validated scope a vs ≡ Err (not_supported (codes "mixed comparison"))
 in_refused scope a vs ys x h e k =
     ap (λ r. r >>= λ x. refuse_if (mixes_any x vs) (not_supported (codes "mixed comparison")) >>= λ _. Ok (made.In x.formula vs)) h
     ∙ ap (λ b. refuse_if b (not_supported (codes "mixed comparison")) >>= λ _. Ok (made.In x.formula vs)) (ap (mixes_any x) (sym e) ∙ k)
 
-pub in_taken : (scope : Scope) (a : Expr) (vs ys : List Value) (x : Judged) → row_judged scope a ≡ Ok x → ys ≡ vs → mixes_any x ys ≡ false → in_judged scope a vs ≡ Ok (made.In x.formula vs)
+pub in_taken : (scope : Scope) (a : Expr) (vs ys : List Value) (x : Validated) → row_validated scope a ≡ Ok x → ys ≡ vs → mixes_any x ys ≡ false → in_validated scope a vs ≡ Ok (made.In x.formula vs)
 in_taken scope a vs ys x h e k =
     ap (λ r. r >>= λ x. refuse_if (mixes_any x vs) (not_supported (codes "mixed comparison")) >>= λ _. Ok (made.In x.formula vs)) h
     ∙ ap (λ b. refuse_if b (not_supported (codes "mixed comparison")) >>= λ _. Ok (made.In x.formula vs)) (ap (mixes_any x) (sym e) ∙ k)

@@ -7,10 +7,11 @@ use Rattle.std.specs.declared.cmp.Ordering.{Ordering}
 use Rattle.qc_types.specs.declared.names.Value.{Value}
 use Rattle.qc_types.specs.declared.names.Value.TheVariants as value
 use Rattle.qc_sql.specs.declared.tables.Column.{Column}
-use Rattle.qc_model.specs.Licence.{kind_fits, row_fits, value_fits, is_null}
+use Rattle.qc_model.specs.Licence.{kind_fits, row_fits, value_fits}
 use Rattle.qc_sql.specs.Database.{MapOf}
-use Rattle.qc_sql.specs.Rows.{Bound, Combination, combinations, insert_before_ties, sorted}
-use Rattle.qc_table.specs.Tables.{IsSound, IsRow}
+use Rattle.qc_sql.specs.Rows.{Bound, Combination, combinations, insert_before_ties, sorted, is_null}
+use Rattle.qc_table.specs.Tables.{IsSound}
+use Rattle.qc_model.specs.Sound.{IsRow}
 use Rattle.qc_resolve.specs.Columns.{Spot, spots_from, all_spots}
 use Rattle.qc_resolve.specs.Fit.{IsSoundBound, FitsAt, IsFit, AreFit}
 

@@ -28,7 +28,7 @@ use Rattle.qc_resolve.specs.Fit.{IsFit, AreFit}
 use Rattle.qc_resolve.specs.Folding.{fold_formula-Length, fold_formula-Concat}
 use Rattle.qc_resolve.specs.Meaning.{value_at, formula_at, formula_value, fold_value, row_value}
 use Rattle.qc_resolve.specs.Steps.{run}
-use Rattle.qc_resolve.specs.Values.{Judged, Beside, Ways, computed, column_judged, sum_judged, best_judged, call_judged, folded, with_fold, group_step, each_in_group, ways_at, ways, row_judged, group_judged}
+use Rattle.qc_resolve.specs.Values.{Validated, Beside, Ways, computed, column_validated, sum_validated, best_validated, call_validated, folded, with_fold, group_step, each_in_group, ways_at, ways, row_validated, group_validated}
 use Rattle.qc_resolve.proofs.Founds.{found_by_spot}
 use Rattle.qc_resolve.proofs.RowAgrees.{Similar, IsSame, similar, parts_length}
 
@@ -50,7 +50,7 @@ same_values f g P (c ∷ cs) h k = λ i. cond (not (is_null (h c k.0 i))) (h c k
 
 -- ---- an expression that was found good, beside aggregates that come to these
 
-pub record IsSameBeside (bounds : List Bound) (x : Good) (v : Judged) (after : List Fold) : Type 0 where
+pub record IsSameBeside (bounds : List Bound) (x : Good) (v : Validated) (after : List Fold) : Type 0 where
   pub sort : x.sort ≡ v.sort
   pub origin : x.origin ≡ v.origin
   pub value : (rest : List Fold) (group : List Combination) → AreFit bounds group → x.value_over group ≡ worth group (after ++ rest) v.formula
@@ -100,26 +100,26 @@ module _ (scope : Scope) where
   column_case folds (Err e) = refl
 
   sum_kind : (folds : List Fold) (s : Spot) (k : Kind) → s.column.kind ≡ k
-      → SimilarBeside bounds folds (sum_good (found_at s)) (sum_judged s (folded folds) >>= λ x. Ok (x, with_fold folds (aggregate.Sum s.place)))
+      → SimilarBeside bounds folds (sum_good (found_at s)) (sum_validated s (folded folds) >>= λ x. Ok (x, with_fold folds (aggregate.Sum s.place)))
   sum_kind folds s kind.Int h = rw h (grown_one folds (aggregate.Sum s.place), record { sort = refl; origin = refl; value = λ rest group fit. sym (last_folded (fold_value group) folds rest (aggregate.Sum s.place)) })
   sum_kind folds s (kind.Str n) h = rw h refl
 
   sum_case : (folds : List Fold) (r : Result Spot SqlError)
-      → SimilarBeside bounds folds ((r >>= λ s. Ok (found_at s)) >>= sum_good) (r >>= λ s. sum_judged s (folded folds) >>= λ x. Ok (x, with_fold folds (aggregate.Sum s.place)))
+      → SimilarBeside bounds folds ((r >>= λ s. Ok (found_at s)) >>= sum_good) (r >>= λ s. sum_validated s (folded folds) >>= λ x. Ok (x, with_fold folds (aggregate.Sum s.place)))
   sum_case folds (Ok s) = sum_kind folds s s.column.kind refl
   sum_case folds (Err e) = refl
 
   least_case : (folds : List Fold) (r : Result Spot SqlError)
-      → SimilarBeside bounds folds ((r >>= λ s. Ok (found_at s)) >>= λ f. Ok (best_good (λ a b. is_lt (value_cmp a b)) f)) (r >>= λ s. Ok (best_judged s (folded folds), with_fold folds (aggregate.Least s.place)))
+      → SimilarBeside bounds folds ((r >>= λ s. Ok (found_at s)) >>= λ f. Ok (best_good (λ a b. is_lt (value_cmp a b)) f)) (r >>= λ s. Ok (best_validated s (folded folds), with_fold folds (aggregate.Least s.place)))
   least_case folds (Ok s) = (grown_one folds (aggregate.Least s.place), record { sort = refl; origin = refl; value = λ rest group fit. sym (last_folded (fold_value group) folds rest (aggregate.Least s.place)) })
   least_case folds (Err e) = refl
 
   greatest_case : (folds : List Fold) (r : Result Spot SqlError)
-      → SimilarBeside bounds folds ((r >>= λ s. Ok (found_at s)) >>= λ f. Ok (best_good (λ a b. is_gt (value_cmp a b)) f)) (r >>= λ s. Ok (best_judged s (folded folds), with_fold folds (aggregate.Greatest s.place)))
+      → SimilarBeside bounds folds ((r >>= λ s. Ok (found_at s)) >>= λ f. Ok (best_good (λ a b. is_gt (value_cmp a b)) f)) (r >>= λ s. Ok (best_validated s (folded folds), with_fold folds (aggregate.Greatest s.place)))
   greatest_case folds (Ok s) = (grown_one folds (aggregate.Greatest s.place), record { sort = refl; origin = refl; value = λ rest group fit. sym (last_folded (fold_value group) folds rest (aggregate.Greatest s.place)) })
   greatest_case folds (Err e) = refl
 
-  count_case : (folds : List Fold) (r : Result Good SqlError) (w : Result Judged SqlError) → Similar bounds r w
+  count_case : (folds : List Fold) (r : Result Good SqlError) (w : Result Validated SqlError) → Similar bounds r w
       → SimilarBeside bounds folds (r >>= λ x. Ok (good meant.Number (λ group. value.Int (pos (length (non_null (λ c. x.value_over (c ∷ [])) group)))))) (w >>= λ v. Ok (computed meant.Number (folded folds), with_fold folds (aggregate.Count v.formula)))
   count_case folds (Ok x) (Ok v) h = (
     grown_one folds (aggregate.Count v.formula),
@@ -161,12 +161,12 @@ module _ (scope : Scope) where
   concat_case folds (Ok xs) (Err f) h = h
   concat_case folds (Err e) (Ok s) h = h
 
-  chosen : (folds : List Fold) (b : Bool) (r s : Result Good SqlError) (w u : Result Judged SqlError) → SimilarBeside bounds folds r (w >>= λ x. Ok (x, folds)) → SimilarBeside bounds folds s (u >>= λ x. Ok (x, folds))
+  chosen : (folds : List Fold) (b : Bool) (r s : Result Good SqlError) (w u : Result Validated SqlError) → SimilarBeside bounds folds r (w >>= λ x. Ok (x, folds)) → SimilarBeside bounds folds s (u >>= λ x. Ok (x, folds))
       → SimilarBeside bounds folds (cond b r s) (cond b w u >>= λ x. Ok (x, folds))
   chosen folds true r s w u h k = h
   chosen folds false r s w u h k = k
 
-  call_case : (folds : List Fold) (word : Name) (n : ℕ) → SimilarBeside bounds folds (call_value scope word n) (call_judged scope word n >>= λ x. Ok (x, folds))
+  call_case : (folds : List Fold) (word : Name) (n : ℕ) → SimilarBeside bounds folds (call_value scope word n) (call_validated scope word n >>= λ x. Ok (x, folds))
   call_case folds word n =
       chosen folds (bytes_eq word (codes "DATABASE") && n == 0) _ _ _ _ (grown_none folds, record { sort = refl; origin = refl; value = λ rest group fit. refl })
       (chosen folds (bytes_eq word (codes "CONNECTION_ID") && n == 0) _ _ _ _ (grown_none folds, record { sort = refl; origin = refl; value = λ rest group fit. refl }) refl)
@@ -198,22 +198,22 @@ module _ (scope : Scope) where
   by_spot P n h = subst P (sym (found_by_spot bounds n)) h
 
   mutual
-    pub beside : (e : Expr) (folds : List Fold) → SimilarBeside bounds folds (check scope e true) (group_judged scope e folds)
+    pub beside : (e : Expr) (folds : List Fold) → SimilarBeside bounds folds (check scope e true) (group_validated scope e folds)
     beside (Column n) folds = by_spot (λ r. SimilarBeside bounds folds (r >>= plain_column true) (find_spot bounds n >>= λ s. Err (not_supported (codes "mixed aggregate")))) n (column_case folds (find_spot bounds n))
     beside (Literal v) folds = (grown_none folds, record { sort = refl; origin = refl; value = λ rest group fit. refl })
     beside CountAll folds = (grown_one folds aggregate.CountAll, record { sort = refl; origin = refl; value = λ rest group fit. sym (last_folded (fold_value group) folds rest aggregate.CountAll) })
-    beside (Count' shape (more_of-Expr e end_of-Expr)) folds = count_case folds (check scope e false) (row_judged scope e) (similar scope e)
-    beside (Sum n) folds = by_spot (λ r. SimilarBeside bounds folds (r >>= sum_good) (find_spot bounds n >>= λ s. sum_judged s (folded folds) >>= λ x. Ok (x, with_fold folds (aggregate.Sum s.place)))) n (sum_case folds (find_spot bounds n))
-    beside (Min n) folds = by_spot (λ r. SimilarBeside bounds folds (r >>= λ f. Ok (best_good (λ a b. is_lt (value_cmp a b)) f)) (find_spot bounds n >>= λ s. Ok (best_judged s (folded folds), with_fold folds (aggregate.Least s.place)))) n (least_case folds (find_spot bounds n))
-    beside (Max n) folds = by_spot (λ r. SimilarBeside bounds folds (r >>= λ f. Ok (best_good (λ a b. is_gt (value_cmp a b)) f)) (find_spot bounds n >>= λ s. Ok (best_judged s (folded folds), with_fold folds (aggregate.Greatest s.place)))) n (greatest_case folds (find_spot bounds n))
-    beside (Length' shape (more_of-Expr e end_of-Expr)) folds = length_case folds (check scope e true) (group_judged scope e folds) (beside e folds)
+    beside (Count' shape (more_of-Expr e end_of-Expr)) folds = count_case folds (check scope e false) (row_validated scope e) (similar scope e)
+    beside (Sum n) folds = by_spot (λ r. SimilarBeside bounds folds (r >>= sum_good) (find_spot bounds n >>= λ s. sum_validated s (folded folds) >>= λ x. Ok (x, with_fold folds (aggregate.Sum s.place)))) n (sum_case folds (find_spot bounds n))
+    beside (Min n) folds = by_spot (λ r. SimilarBeside bounds folds (r >>= λ f. Ok (best_good (λ a b. is_lt (value_cmp a b)) f)) (find_spot bounds n >>= λ s. Ok (best_validated s (folded folds), with_fold folds (aggregate.Least s.place)))) n (least_case folds (find_spot bounds n))
+    beside (Max n) folds = by_spot (λ r. SimilarBeside bounds folds (r >>= λ f. Ok (best_good (λ a b. is_gt (value_cmp a b)) f)) (find_spot bounds n >>= λ s. Ok (best_validated s (folded folds), with_fold folds (aggregate.Greatest s.place)))) n (greatest_case folds (find_spot bounds n))
+    beside (Length' shape (more_of-Expr e end_of-Expr)) folds = length_case folds (check scope e true) (group_validated scope e folds) (beside e folds)
     beside (Concat' shape es) folds = concat_case folds (each (λ e. e true) (fold_exprs (check_at scope) es)) (each_in_group (fold_exprs (ways_at scope) es) folds) (all_beside es [] folds)
     beside (Call' word shape es) folds =
-        subst (λ n. SimilarBeside bounds folds (call_value scope (in_capitals word) (length (fold_exprs (check_at scope) es))) (call_judged scope (in_capitals word) n >>= λ x. Ok (x, folds))) (parts_length (check_at scope) (ways_at scope) _ es)
+        subst (λ n. SimilarBeside bounds folds (call_value scope (in_capitals word) (length (fold_exprs (check_at scope) es))) (call_validated scope (in_capitals word) n >>= λ x. Ok (x, folds))) (parts_length (check_at scope) (ways_at scope) _ es)
         (call_case folds (in_capitals word) (length (fold_exprs (check_at scope) es)))
 
     all_beside : {k : Arity} (es : Row_of-Expr k) (so_far : List Formula) (folds : List Fold)
         → AllBeside bounds so_far folds (each (λ e. e true) (fold_exprs (check_at scope) es)) (run group_step (fold_exprs (ways_at scope) es) (so_far, folds))
     all_beside end_of-Expr so_far folds = (grown_none folds, record { made = []; is = sym (append-nil so_far); value = λ rest group fit. refl })
     all_beside (more_of-Expr e es) so_far folds =
-        more_case so_far folds (check scope e true) (each (λ e. e true) (fold_exprs (check_at scope) es)) (group_judged scope e folds) (run group_step (fold_exprs (ways_at scope) es)) (beside e folds) (λ fs after. all_beside es fs after)
+        more_case so_far folds (check scope e true) (each (λ e. e true) (fold_exprs (check_at scope) es)) (group_validated scope e folds) (run group_step (fold_exprs (ways_at scope) es)) (beside e folds) (λ fs after. all_beside es fs after)

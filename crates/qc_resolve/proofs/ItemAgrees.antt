@@ -19,10 +19,10 @@ use Rattle.qc_resolve.specs.declared.resolved.Fold.TheVariants as aggregate
 use Rattle.qc_resolve.specs.declared.items.Shown.{Shown}
 use Rattle.qc_resolve.specs.Columns.{Spot, found_at, all_spots}
 use Rattle.qc_resolve.specs.Fit.{IsFit, AreFit}
-use Rattle.qc_resolve.specs.Judged.{definition_for, none_shown, item_step, spot_step, with_spots, shown_judged}
+use Rattle.qc_resolve.specs.Validated.{definition_for, none_shown, item_step, spot_step, with_spots, shown_validated}
 use Rattle.qc_resolve.specs.Meaning.{value_at, row_value, fold_value}
 use Rattle.qc_resolve.specs.Steps.{run}
-use Rattle.qc_resolve.specs.Values.{Judged, Beside, folded, with_fold, row_judged, group_judged, value_judged}
+use Rattle.qc_resolve.specs.Values.{Validated, Beside, folded, with_fold, row_validated, group_validated, value_validated}
 use Rattle.qc_resolve.proofs.Founds.{all_same}
 use Rattle.qc_resolve.proofs.RowAgrees.{Similar, IsSame, similar}
 use Rattle.qc_resolve.proofs.GroupAgrees.{SimilarBeside, IsSameBeside, Grown, grown_none, grown_one, grown_more, later, worth, last_folded, beside}
@@ -62,15 +62,15 @@ module _ (flags : Flags) (scope : Scope) where
   abbrev put : Item → Shown → Beside → Result Shown SqlError
   put item s x = Ok (record { columns = s.columns ++ definition_for flags item x.0 ∷ []; formulas = s.formulas ++ x.0.formula ∷ []; folds = x.1 })
 
-  definition_same : (item : Item) (x : Good) (v : Judged) → x.sort ≡ v.sort → x.origin ≡ v.origin → definition_of flags item x ≡ definition_for flags item v
+  definition_same : (item : Item) (x : Good) (v : Validated) → x.sort ≡ v.sort → x.origin ≡ v.origin → definition_of flags item x ≡ definition_for flags item v
   definition_same item x v h k = λ i. definition_of flags item (record { sort = h i; origin = k i; value_over = λ group. value.Null })
 
-  columns_more : (item : Item) (x : Good) (v : Judged) (ds : List ColumnDef) (es : List ColumnDef) → x.sort ≡ v.sort → x.origin ≡ v.origin → (ds ++ definition_for flags item v ∷ []) ++ es ≡ ds ++ definition_of flags item x ∷ es
+  columns_more : (item : Item) (x : Good) (v : Validated) (ds : List ColumnDef) (es : List ColumnDef) → x.sort ≡ v.sort → x.origin ≡ v.origin → (ds ++ definition_for flags item v ∷ []) ++ es ≡ ds ++ definition_of flags item x ∷ es
   columns_more item x v ds es h k = append_assoc ds (definition_for flags item v ∷ []) es ∙ ap (λ d. ds ++ d ∷ es) (sym (definition_same item x v h k))
 
   -- ---- rows alone
 
-  row_rest : (item : Item) (s : Shown) (x : Good) (v : Judged) (rs : Result (List meant.Shown) SqlError) (ws : Shown → Result Shown SqlError) (w : Result Shown SqlError)
+  row_rest : (item : Item) (s : Shown) (x : Good) (v : Validated) (rs : Result (List meant.Shown) SqlError) (ws : Shown → Result Shown SqlError) (w : Result Shown SqlError)
       → IsSame bounds x v → SameShown false bounds (record { columns = s.columns ++ definition_for flags item v ∷ []; formulas = s.formulas ++ v.formula ∷ []; folds = s.folds }) rs w
       → SameShown false bounds s (rs >>= λ ys. Ok ((definition_of flags item x, x.value_over) ∷ ys)) w
   row_rest item s x v (Ok ys) ws (Ok t) h k = record {
@@ -83,7 +83,7 @@ module _ (flags : Flags) (scope : Scope) where
   row_rest item s x v (Ok ys) ws (Err f) h k = k
   row_rest item s x v (Err e) ws (Ok t) h k = k
 
-  row_more : (item : Item) (s : Shown) (r : Result Good SqlError) (w : Result Judged SqlError) (rs : Result (List meant.Shown) SqlError) (ws : Shown → Result Shown SqlError)
+  row_more : (item : Item) (s : Shown) (r : Result Good SqlError) (w : Result Validated SqlError) (rs : Result (List meant.Shown) SqlError) (ws : Shown → Result Shown SqlError)
       → Similar bounds r w → ((t : Shown) → SameShown false bounds t rs (ws t))
       → SameShown false bounds s ((r >>= shown item) >>= λ y. rs >>= λ ys. Ok (y ∷ ys)) (((w >>= λ x. Ok (x, s.folds)) >>= put item s) >>= ws)
   row_more item s (Ok x) (Ok v) rs ws h k = row_rest item s x v rs ws _ h (k _)
@@ -124,9 +124,9 @@ module _ (flags : Flags) (scope : Scope) where
   items_same : (aggregated : Bool) (items : List Item) (s : Shown) → SameShown aggregated bounds s (each (shown_item flags scope aggregated) items) (run (item_step flags scope aggregated) items s)
   items_same aggregated [] s = nothing_more aggregated s
   items_same true (item ∷ items) s =
-      group_more item s (check scope item.value true) (group_judged scope item.value s.folds) (each (shown_item flags scope true) items) (run (item_step flags scope true) items) (beside scope item.value s.folds) (items_same true items)
+      group_more item s (check scope item.value true) (group_validated scope item.value s.folds) (each (shown_item flags scope true) items) (run (item_step flags scope true) items) (beside scope item.value s.folds) (items_same true items)
   items_same false (item ∷ items) s =
-      row_more item s (check scope item.value false) (row_judged scope item.value) (each (shown_item flags scope false) items) (run (item_step flags scope false) items) (similar scope item.value) (items_same false items)
+      row_more item s (check scope item.value false) (row_validated scope item.value) (each (shown_item flags scope false) items) (run (item_step flags scope false) items) (similar scope item.value) (items_same false items)
 
   -- ---- all columns
 
@@ -172,7 +172,7 @@ module _ (flags : Flags) (scope : Scope) where
   chosen true aggregated r s w u h k = h
   chosen false aggregated r s w u h k = k
 
-  pub shown_same : (select : Select) → SameShown (has_aggregate select) bounds none_shown (shown_items flags scope select) (shown_judged flags scope select)
+  pub shown_same : (select : Select) → SameShown (has_aggregate select) bounds none_shown (shown_items flags scope select) (shown_validated flags scope select)
   shown_same select =
       chosen select.star (has_aggregate select) _ _ _ _
       (star_case (length select.from == 0) (has_aggregate select) _ _

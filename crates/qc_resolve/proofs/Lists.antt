@@ -47,11 +47,15 @@ or_swapped true false = refl
 or_swapped false true = refl
 or_swapped false false = refl
 
+pub seen_more : (seen earlier : List Name) (name : Name) → SameSeen seen earlier → SameSeen (name ∷ seen) (earlier ++ name ∷ [])
+seen_more seen earlier name same n =
+    ap (λ b. bytes_eq n name || b) (same n)
+    ∙ or_swapped (bytes_eq n name) (list_any (bytes_eq n) earlier)
+    ∙ sym (list_any-append (bytes_eq n) earlier (name ∷ []))
+
 pub seen_on : {A : Type 0} (f : A → Name) (seen : List Name) (xs : List A) (i : ℕ) (x : A) → i < length xs → x ≡ get_or xs i x → SameSeen seen (map f (take i xs)) → SameSeen (f x ∷ seen) (map f (take (i + 1) xs))
 seen_on f seen xs i x h e same n =
-    ap (λ b. bytes_eq n (f x) || b) (same n)
-    ∙ or_swapped (bytes_eq n (f x)) (list_any (bytes_eq n) (map f (take i xs)))
-    ∙ sym (list_any-append (bytes_eq n) (map f (take i xs)) (f x ∷ []))
+    seen_more seen (map f (take i xs)) (f x) same n
     ∙ ap (list_any (bytes_eq n)) (sym (map-append f (take i xs) (x ∷ [])) ∙ ap (map f) (sym (next_at xs i x h e)))
 
 pub not_repeated : {A : Type 0} (f : A → Name) (seen : List Name) (xs : List A) (i : ℕ) (x : A) → i < length xs → x ≡ get_or xs i x → SameSeen seen (map f (take i xs)) → list_any (bytes_eq (f x)) (map f (take i xs)) ≡ false

@@ -13,7 +13,7 @@ use Rattle.qc_sql.specs.Effects.{matching, scope_of}
 use Rattle.qc_sql.specs.Rows.{Bound, Combination, Scope, combinations, condition, ◌>>=◌}
 use Rattle.qc_resolve.specs.declared.test.Test.{Test}
 use Rattle.qc_resolve.specs.Fit.{IsSoundBound, IsFit, AreFit}
-use Rattle.qc_resolve.specs.Judged.{condition_judged}
+use Rattle.qc_resolve.specs.Validated.{condition_validated}
 use Rattle.qc_resolve.specs.Meaning.{keeps}
 use Rattle.qc_resolve.proofs.Fits.{combinations_fit}
 use Rattle.qc_resolve.proofs.TestAgrees.{SameCondition, condition_same}
@@ -43,10 +43,10 @@ kept_given b (Err or.Memory) m n sound same g = tt
 kept_given b (Err (or.Other e)) m (Ok k) sound same g = absurd (subst (SameCondition (b ∷ []) (Ok k)) g same)
 kept_given b (Err (or.Other e)) m (Err f) sound same g = ap Err (subst (SameCondition (b ∷ []) (Err f)) g same)
 
--- a condition that is judged over one table
+-- a condition that is validated over one table
 pub condition_kept : (b : Bound) (db : Name) (session : _) (c : Option Cond) (r : Result (Option Test) (Or SqlError)) → IsSoundBound b
-    → Gives (λ t. t) (λ e. e) r (condition_judged (scope_of b db session) c)
+    → Gives (λ t. t) (λ e. e) r (condition_validated (scope_of b db session) c)
     → Gives (λ t. matching b.table (keeps t)) (λ e. e) r (condition (scope_of b db session) c >>= λ k. Ok (matching b.table k))
 condition_kept b db session c r sound g =
     let scope : Scope = scope_of b db session in
-    kept_given b r (condition_judged scope c) (condition scope c) sound (condition_same scope c) g
+    kept_given b r (condition_validated scope c) (condition scope c) sound (condition_same scope c) g

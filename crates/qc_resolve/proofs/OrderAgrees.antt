@@ -7,7 +7,7 @@ use Rattle.qc_sql.specs.declared.statements.Order.{Order}
 use Rattle.qc_sql.specs.Rows.{Bound, Scope, Combination, Found, find_column, order_cmp, value_cmp, each, ◌>>=◌}
 use Rattle.qc_resolve.specs.declared.resolved.OrderKey.{OrderKey}
 use Rattle.qc_resolve.specs.Columns.{Spot, found_at, find_spot}
-use Rattle.qc_resolve.specs.Judged.{key_judged}
+use Rattle.qc_resolve.specs.Validated.{key_validated}
 use Rattle.qc_resolve.specs.Meaning.{value_at, keys_cmp}
 use Rattle.qc_resolve.proofs.Founds.{found_by_spot}
 
@@ -33,9 +33,9 @@ module _ (scope : Scope) where
   more_case o (Ok s) (Err e) (Ok ks) h = absurd h
   more_case o (Err e) os ks h = refl
 
-  pub order_same : (orders : List Order) → SameOrder (each (λ o. find_column scope.bounds o.column >>= λ f. Ok (o.desc, f)) orders) (each (key_judged scope) orders)
+  pub order_same : (orders : List Order) → SameOrder (each (λ o. find_column scope.bounds o.column >>= λ f. Ok (o.desc, f)) orders) (each (key_validated scope) orders)
   order_same [] = λ a b. refl
   order_same (o ∷ os) =
-      subst (λ r. SameOrder ((r >>= λ f. Ok (o.desc, f)) >>= λ y. each meant_key os >>= λ ys. Ok (y ∷ ys)) (key_judged scope o >>= λ k. each (key_judged scope) os >>= λ ks. Ok (k ∷ ks)))
+      subst (λ r. SameOrder ((r >>= λ f. Ok (o.desc, f)) >>= λ y. each meant_key os >>= λ ys. Ok (y ∷ ys)) (key_validated scope o >>= λ k. each (key_validated scope) os >>= λ ks. Ok (k ∷ ks)))
       (sym (found_by_spot scope.bounds o.column))
-      (more_case o (find_spot scope.bounds o.column) (each meant_key os) (each (key_judged scope) os) (order_same os))
+      (more_case o (find_spot scope.bounds o.column) (each meant_key os) (each (key_validated scope) os) (order_same os))

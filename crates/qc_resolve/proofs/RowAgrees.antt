@@ -26,7 +26,7 @@ use Rattle.qc_resolve.specs.Columns.{Spot, found_at, find_spot}
 use Rattle.qc_resolve.specs.Fit.{IsFit, FitsAt}
 use Rattle.qc_resolve.specs.Folding.{fold_formula-Present, fold_formula-Length, fold_formula-Concat}
 use Rattle.qc_resolve.specs.Meaning.{value_at, formula_at, row_value, present_value}
-use Rattle.qc_resolve.specs.Values.{Judged, Ways, computed, column_judged, sum_judged, best_judged, call_judged, formula_in_row, each_in_row, ways_at, row_judged}
+use Rattle.qc_resolve.specs.Values.{Validated, Ways, computed, column_validated, sum_validated, best_validated, call_validated, formula_in_row, each_in_row, ways_at, row_validated}
 use Rattle.qc_resolve.proofs.Founds.{found_by_spot, spot_fits}
 
 -- ---- values of one combination
@@ -51,12 +51,12 @@ one_best precedes (value.Str t) = refl
 
 -- ---- an expression that was found good, and its formula
 
-pub record IsSame (bounds : List Bound) (x : Good) (v : Judged) : Type 0 where
+pub record IsSame (bounds : List Bound) (x : Good) (v : Validated) : Type 0 where
   pub sort : x.sort ≡ v.sort
   pub origin : x.origin ≡ v.origin
   pub value : (c : Combination) → IsFit bounds c → x.value_over (c ∷ []) ≡ row_value c v.formula
 
-abbrev pub Similar : List Bound → Result Good SqlError → Result Judged SqlError → Type 0
+abbrev pub Similar : List Bound → Result Good SqlError → Result Validated SqlError → Type 0
 Similar bounds (Ok x) (Ok v) = IsSame bounds x v
 Similar bounds (Err e) (Err f) = e ≡ f
 Similar bounds (Ok x) (Err f) = ⊥
@@ -78,27 +78,27 @@ module _ (scope : Scope) where
 
   -- ---- columns
 
-  column_case : (r : Result Spot SqlError) → Similar bounds ((r >>= λ s. Ok (found_at s)) >>= plain_column false) (r >>= λ s. Ok (column_judged s))
+  column_case : (r : Result Spot SqlError) → Similar bounds ((r >>= λ s. Ok (found_at s)) >>= plain_column false) (r >>= λ s. Ok (column_validated s))
   column_case (Ok s) = record { sort = refl; origin = refl; value = λ c h. refl }
   column_case (Err e) = refl
 
-  sum_kind : (s : Spot) (k : Kind) → s.column.kind ≡ k → ((c : Combination) → IsFit bounds c → FitsAt c s) → Similar bounds (sum_good (found_at s)) (sum_judged s (form.Column s.place))
+  sum_kind : (s : Spot) (k : Kind) → s.column.kind ≡ k → ((c : Combination) → IsFit bounds c → FitsAt c s) → Similar bounds (sum_good (found_at s)) (sum_validated s (form.Column s.place))
   sum_kind s kind.Int h fits = rw h (record { sort = refl; origin = refl; value = λ c k. one_sum (value_at s.place c) (ap (λ k. kind_fits k (value_at s.place c)) (sym h) ∙ fits c k) })
   sum_kind s (kind.Str n) h fits = rw h refl
 
   sum_case : (r : Result Spot SqlError) → ((s : Spot) → r ≡ Ok s → (c : Combination) → IsFit bounds c → FitsAt c s)
-      → Similar bounds ((r >>= λ s. Ok (found_at s)) >>= sum_good) (r >>= λ s. sum_judged s (form.Column s.place))
+      → Similar bounds ((r >>= λ s. Ok (found_at s)) >>= sum_good) (r >>= λ s. sum_validated s (form.Column s.place))
   sum_case (Ok s) fits = sum_kind s s.column.kind refl (fits s refl)
   sum_case (Err e) fits = refl
 
   best_case : (precedes : Value → Value → Bool) (r : Result Spot SqlError)
-      → Similar bounds ((r >>= λ s. Ok (found_at s)) >>= λ f. Ok (best_good precedes f)) (r >>= λ s. Ok (best_judged s (form.Column s.place)))
+      → Similar bounds ((r >>= λ s. Ok (found_at s)) >>= λ f. Ok (best_good precedes f)) (r >>= λ s. Ok (best_validated s (form.Column s.place)))
   best_case precedes (Ok s) = record { sort = refl; origin = refl; value = λ c h. one_best precedes (value_at s.place c) }
   best_case precedes (Err e) = refl
 
   -- ---- expressions of others
 
-  count_case : (r : Result Good SqlError) (w : Result Judged SqlError) → Similar bounds r w
+  count_case : (r : Result Good SqlError) (w : Result Validated SqlError) → Similar bounds r w
       → Similar bounds (r >>= λ x. Ok (good meant.Number (λ group. value.Int (pos (length (non_null (λ c. x.value_over (c ∷ [])) group)))))) (w >>= λ v. Ok (computed meant.Number (form.Present v.formula)))
   count_case (Ok x) (Ok v) h = record {
     sort = refl;
@@ -109,7 +109,7 @@ module _ (scope : Scope) where
   count_case (Ok x) (Err f) h = h
   count_case (Err e) (Ok v) h = h
 
-  length_case : (r : Result Good SqlError) (w : Result Judged SqlError) → Similar bounds r w
+  length_case : (r : Result Good SqlError) (w : Result Validated SqlError) → Similar bounds r w
       → Similar bounds (r >>= λ x. Ok (good meant.Number (λ group. length_value (text_of (x.value_over group))))) (w >>= λ v. Ok (computed meant.Number (form.Length v.formula)))
   length_case (Ok x) (Ok v) h = record {
     sort = refl;
@@ -131,16 +131,16 @@ module _ (scope : Scope) where
   concat_case (Ok xs) (Err f) h = h
   concat_case (Err e) (Ok fs) h = h
 
-  chosen : (b : Bool) (r s : Result Good SqlError) (w u : Result Judged SqlError) → Similar bounds r w → Similar bounds s u → Similar bounds (cond b r s) (cond b w u)
+  chosen : (b : Bool) (r s : Result Good SqlError) (w u : Result Validated SqlError) → Similar bounds r w → Similar bounds s u → Similar bounds (cond b r s) (cond b w u)
   chosen true r s w u h k = h
   chosen false r s w u h k = k
 
-  pub call_case : (word : Name) (n : ℕ) → Similar bounds (call_value scope word n) (call_judged scope word n)
+  pub call_case : (word : Name) (n : ℕ) → Similar bounds (call_value scope word n) (call_validated scope word n)
   call_case word n =
       chosen (bytes_eq word (codes "DATABASE") && n == 0) _ _ _ _ (record { sort = refl; origin = refl; value = λ c h. refl })
       (chosen (bytes_eq word (codes "CONNECTION_ID") && n == 0) _ _ _ _ (record { sort = refl; origin = refl; value = λ c h. refl }) refl)
 
-  more_case : (r : Result Good SqlError) (rs : Result (List Good) SqlError) (w : Result Judged SqlError) (ws : Result (List Formula) SqlError) → Similar bounds r w → SimilarAll bounds rs ws
+  more_case : (r : Result Good SqlError) (rs : Result (List Good) SqlError) (w : Result Validated SqlError) (ws : Result (List Formula) SqlError) → Similar bounds r w → SimilarAll bounds rs ws
       → SimilarAll bounds (r >>= λ y. rs >>= λ ys. Ok (y ∷ ys)) ((w >>= λ v. Ok v.formula) >>= λ f. ws >>= λ fs. Ok (f ∷ fs))
   more_case (Ok x) (Ok xs) (Ok v) (Ok fs) h k = λ c l i. h.value c l i ∷ k c l i
   more_case (Ok x) (Err e) (Ok v) (Err f) h k = k
@@ -154,21 +154,21 @@ module _ (scope : Scope) where
   by_spot P n h = subst P (sym (found_by_spot bounds n)) h
 
   mutual
-    pub similar : (e : Expr) → Similar bounds (check scope e false) (row_judged scope e)
-    similar (Column n) = by_spot (λ r. Similar bounds (r >>= plain_column false) (find_spot bounds n >>= λ s. Ok (column_judged s))) n (column_case (find_spot bounds n))
+    pub similar : (e : Expr) → Similar bounds (check scope e false) (row_validated scope e)
+    similar (Column n) = by_spot (λ r. Similar bounds (r >>= plain_column false) (find_spot bounds n >>= λ s. Ok (column_validated s))) n (column_case (find_spot bounds n))
     similar (Literal v) = record { sort = refl; origin = refl; value = λ c h. refl }
     similar CountAll = record { sort = refl; origin = refl; value = λ c h. refl }
-    similar (Count' shape (more_of-Expr e end_of-Expr)) = count_case (check scope e false) (row_judged scope e) (similar e)
-    similar (Sum n) = by_spot (λ r. Similar bounds (r >>= sum_good) (find_spot bounds n >>= λ s. sum_judged s (form.Column s.place))) n (sum_case (find_spot bounds n) (λ s h c k. spot_fits bounds n s c h k))
-    similar (Min n) = by_spot (λ r. Similar bounds (r >>= λ f. Ok (best_good (λ a b. is_lt (value_cmp a b)) f)) (find_spot bounds n >>= λ s. Ok (best_judged s (form.Column s.place)))) n (best_case (λ a b. is_lt (value_cmp a b)) (find_spot bounds n))
-    similar (Max n) = by_spot (λ r. Similar bounds (r >>= λ f. Ok (best_good (λ a b. is_gt (value_cmp a b)) f)) (find_spot bounds n >>= λ s. Ok (best_judged s (form.Column s.place)))) n (best_case (λ a b. is_gt (value_cmp a b)) (find_spot bounds n))
-    similar (Length' shape (more_of-Expr e end_of-Expr)) = length_case (check scope e false) (row_judged scope e) (similar e)
+    similar (Count' shape (more_of-Expr e end_of-Expr)) = count_case (check scope e false) (row_validated scope e) (similar e)
+    similar (Sum n) = by_spot (λ r. Similar bounds (r >>= sum_good) (find_spot bounds n >>= λ s. sum_validated s (form.Column s.place))) n (sum_case (find_spot bounds n) (λ s h c k. spot_fits bounds n s c h k))
+    similar (Min n) = by_spot (λ r. Similar bounds (r >>= λ f. Ok (best_good (λ a b. is_lt (value_cmp a b)) f)) (find_spot bounds n >>= λ s. Ok (best_validated s (form.Column s.place)))) n (best_case (λ a b. is_lt (value_cmp a b)) (find_spot bounds n))
+    similar (Max n) = by_spot (λ r. Similar bounds (r >>= λ f. Ok (best_good (λ a b. is_gt (value_cmp a b)) f)) (find_spot bounds n >>= λ s. Ok (best_validated s (form.Column s.place)))) n (best_case (λ a b. is_gt (value_cmp a b)) (find_spot bounds n))
+    similar (Length' shape (more_of-Expr e end_of-Expr)) = length_case (check scope e false) (row_validated scope e) (similar e)
     similar (Concat' shape es) = concat_case (each (λ e. e false) (fold_exprs (check_at scope) es)) (each_in_row (fold_exprs (ways_at scope) es)) (all_similar es)
     similar (Call' word shape es) =
-        subst (λ n. Similar bounds (call_value scope (in_capitals word) (length (fold_exprs (check_at scope) es))) (call_judged scope (in_capitals word) n)) (parts_length (check_at scope) (ways_at scope) _ es)
+        subst (λ n. Similar bounds (call_value scope (in_capitals word) (length (fold_exprs (check_at scope) es))) (call_validated scope (in_capitals word) n)) (parts_length (check_at scope) (ways_at scope) _ es)
         (call_case (in_capitals word) (length (fold_exprs (check_at scope) es)))
 
     all_similar : {k : Arity} (es : Row_of-Expr k) → SimilarAll bounds (each (λ e. e false) (fold_exprs (check_at scope) es)) (each_in_row (fold_exprs (ways_at scope) es))
     all_similar end_of-Expr = λ c h. refl
     all_similar (more_of-Expr e es) =
-        more_case (check scope e false) (each (λ e. e false) (fold_exprs (check_at scope) es)) (row_judged scope e) (each_in_row (fold_exprs (ways_at scope) es)) (similar e) (all_similar es)
+        more_case (check scope e false) (each (λ e. e false) (fold_exprs (check_at scope) es)) (row_validated scope e) (each_in_row (fold_exprs (ways_at scope) es)) (similar e) (all_similar es)

@@ -5,7 +5,7 @@ use Rattle.qc_sql.specs.declared.tables.Column.{Column}
 use Rattle.qc_sql.specs.Rows.{Bound}
 use Rattle.qc_resolve.specs.declared.items.Shown.{Shown}
 use Rattle.qc_resolve.specs.Columns.{Spot, spots_from, all_spots}
-use Rattle.qc_resolve.specs.Judged.{spot_step, with_spots}
+use Rattle.qc_resolve.specs.Validated.{spot_step, with_spots}
 use Rattle.qc_resolve.proofs.Steps.{rest_at}
 
 with_append : (flags : Flags) (beside : Bool) (s : Shown) (xs ys : List Spot) → with_spots flags beside s (xs ++ ys) ≡ with_spots flags beside (with_spots flags beside s xs) ys

@@ -1,4 +1,4 @@
--- How many combinations a judged SELECT has, and how many columns.
+-- How many combinations a validated SELECT has, and how many columns.
 use Rattle.std.proofs.Common.{◌≡◌, ℕ, suc, ◌+◌, ◌*◌, ◌^◌, ◌≤◌, Bool, true, false, cond, List, [], ◌∷◌, ◌++◌, length, map, refl, ap, sym, ◌∙◌, subst, Result, Ok, Err, arith}
 use Rattle.std.specs.Prelude.{Option, Some, None, ◌&&◌, ◌==◌, nat_lt, codes, IfOk}
 use Rattle.std.specs.List.{flat_map}
@@ -21,10 +21,10 @@ use Rattle.qc_resolve.specs.declared.resolved.OrderKey.{OrderKey}
 use Rattle.qc_resolve.specs.declared.resolved.Output.{Output}
 use Rattle.qc_resolve.specs.declared.resolved.Resolved.{Resolved}
 use Rattle.qc_resolve.specs.Columns.{Spot, all_spots}
-use Rattle.qc_resolve.specs.Judged.{none_shown, item_step, spot_step, with_spots, shown_judged, condition_judged, order_judged, output_judged, bounds_judged, parts_judged, judged_over}
+use Rattle.qc_resolve.specs.Validated.{none_shown, item_step, spot_step, with_spots, shown_validated, condition_validated, order_validated, output_validated, bounds_validated, parts_validated, validated_over}
 use Rattle.qc_resolve.specs.Meaning.{all_combinations, items_of}
 use Rattle.qc_resolve.specs.Steps.{run}
-use Rattle.qc_resolve.specs.Values.{Beside, value_judged}
+use Rattle.qc_resolve.specs.Values.{Beside, value_validated}
 use Rattle.qc_resolve.proofs.Agrees.{combinations_same}
 
 -- ---- steps that went on
@@ -59,7 +59,7 @@ count_is (b ∷ bs) = length_flat_map (combination_count bs) (λ entry. map (λ 
 not_above : (m n : ℕ) → nat_lt m n ≡ false → n ≤ m
 not_above m n h = grind (arith, nat_tests)
 
-few_bounds : (bs : List Bound) (u : Unit {0}) → bounds_judged bs ≡ Ok u → length (all_combinations (map (λ b. b.table) bs)) ≤ 2 ^ 40
+few_bounds : (bs : List Bound) (u : Unit {0}) → bounds_validated bs ≡ Ok u → length (all_combinations (map (λ b. b.table) bs)) ≤ 2 ^ 40
 few_bounds bs u h =
     let w = went_on (refuse_some (first_repeated [] (map (λ (b : Bound). b.called) bs)) name_not_unique) (λ _. refuse_if (nat_lt (2 ^ 40) (combination_count bs)) too_many_combinations) u h in
     let below = not_above (2 ^ 40) (combination_count bs) (not_refused (nat_lt (2 ^ 40) (combination_count bs)) too_many_combinations u w.then) in
@@ -75,7 +75,7 @@ both_longer ds fs d f h = length-append ds (d ∷ []) ∙ ap (λ (n : ℕ). n + 
 
 item_even : (flags : Flags) (scope : Scope) (aggregated : Bool) (item : Item) (s t : Shown) → Even s → item_step flags scope aggregated item s ≡ Ok t → Even t
 item_even flags scope aggregated item s t h e =
-    let w = went_on (value_judged aggregated scope item.value s.folds) _ t e in
+    let w = went_on (value_validated aggregated scope item.value s.folds) _ t e in
     subst Even (ok_same _ t w.then) (both_longer s.columns s.formulas _ _ h)
   where
     ok_same : (s t : Shown) → ◌≡◌ {A = Result Shown SqlError} (Ok s) (Ok t) → s ≡ t
@@ -104,7 +104,7 @@ shown_even flags scope select true t e =
     ok_is s t e = cc
 shown_even flags scope select false t e = run_even flags scope (has_aggregate select) select.items none_shown t refl e
 
-items_are : (aggregated : Bool) (s : Shown) (order : List OrderKey) → items_of (output_judged aggregated s order) ≡ s.formulas
+items_are : (aggregated : Bool) (s : Shown) (order : List OrderKey) → items_of (output_validated aggregated s order) ≡ s.formulas
 items_are true s order = refl
 items_are false s order = refl
 
@@ -114,31 +114,31 @@ record IsSized (scope : Scope) (x : Resolved) : Type 0 where
   pub tables : x.tables ≡ map (λ b. b.table) scope.bounds
   pub full : length (items_of x.output) ≡ length x.columns
 
-parts_sized : (select : Select) (flags : Flags) (scope : Scope) (x : Resolved) → parts_judged select flags scope ≡ Ok x → IsSized scope x
-unfolding parts_judged
+parts_sized : (select : Select) (flags : Flags) (scope : Scope) (x : Resolved) → parts_validated select flags scope ≡ Ok x → IsSized scope x
+unfolding parts_validated
 parts_sized select flags scope x e =
-    let a = went_on (shown_judged flags scope select) _ x e in
+    let a = went_on (shown_validated flags scope select) _ x e in
     let b = went_on (refuse_if (nat_lt 64 (length a.at.columns)) too_many_columns) _ x a.then in
-    let c = went_on (condition_judged scope select.cond) _ x b.then in
+    let c = went_on (condition_validated scope select.cond) _ x b.then in
     let d = went_on (refuse_if (has_aggregate select && nat_lt 0 (length select.order)) (not_supported (codes "ordered aggregate"))) _ x c.then in
-    let f = went_on (order_judged scope select.order) _ x d.then in
+    let f = went_on (order_validated scope select.order) _ x d.then in
     let even = shown_even flags scope select select.star a.at a.first in
     subst (IsSized scope) (ok_is _ x f.then) (record { tables = refl; full = ap length (items_are (has_aggregate select) a.at f.at) ∙ sym even })
   where
     ok_is : (s t : Resolved) → ◌≡◌ {A = Result Resolved SqlError} (Ok s) (Ok t) → s ≡ t
     ok_is s t e = cc
 
-over_sized : (select : Select) (flags : Flags) (scope : Scope) (x : Resolved) → judged_over select flags scope ≡ Ok x → (length (all_combinations x.tables) ≤ 2 ^ 40) × (length (items_of x.output) ≡ length x.columns)
-unfolding judged_over
+over_sized : (select : Select) (flags : Flags) (scope : Scope) (x : Resolved) → validated_over select flags scope ≡ Ok x → (length (all_combinations x.tables) ≤ 2 ^ 40) × (length (items_of x.output) ≡ length x.columns)
+unfolding validated_over
 over_sized select flags scope x e =
-    let w = went_on (bounds_judged scope.bounds) (λ _. parts_judged select flags scope) x e in
+    let w = went_on (bounds_validated scope.bounds) (λ _. parts_validated select flags scope) x e in
     let sized = parts_sized select flags scope x w.then in
     (subst (λ (ts : List _). length (all_combinations ts) ≤ 2 ^ 40) (sym sized.tables) (few_bounds scope.bounds w.at w.first), sized.full)
 
-pub few_given : (r : Result Resolved (Or SqlError)) (select : Select) (flags : Flags) (scope : Scope) → Gives (λ x. x) (λ e. e) r (judged_over select flags scope) → IfOk r (λ x. length (all_combinations x.tables) ≤ 2 ^ 40)
+pub few_given : (r : Result Resolved (Or SqlError)) (select : Select) (flags : Flags) (scope : Scope) → Gives (λ x. x) (λ e. e) r (validated_over select flags scope) → IfOk r (λ x. length (all_combinations x.tables) ≤ 2 ^ 40)
 few_given (Ok x) select flags scope g = (over_sized select flags scope x g).0
 few_given (Err e) select flags scope g = tt
 
-pub full_given : (r : Result Resolved (Or SqlError)) (select : Select) (flags : Flags) (scope : Scope) → Gives (λ x. x) (λ e. e) r (judged_over select flags scope) → IfOk r (λ x. length (items_of x.output) ≡ length x.columns)
+pub full_given : (r : Result Resolved (Or SqlError)) (select : Select) (flags : Flags) (scope : Scope) → Gives (λ x. x) (λ e. e) r (validated_over select flags scope) → IfOk r (λ x. length (items_of x.output) ≡ length x.columns)
 full_given (Ok x) select flags scope g = (over_sized select flags scope x g).1
 full_given (Err e) select flags scope g = tt

@@ -19,11 +19,11 @@ use Rattle.qc_resolve.specs.declared.test.Test.{Test}
 use Rattle.qc_resolve.specs.declared.test.Test.TheVariants as made
 use Rattle.qc_resolve.specs.Fit.{IsFit, AreFit}
 use Rattle.qc_resolve.specs.Folding.{fold_test-Any, fold_test-All, fold_test-Not}
-use Rattle.qc_resolve.specs.Judged as judged
-use Rattle.qc_resolve.specs.Judged.{comparable, compare_judged, in_judged, between_judged, test_judged, condition_judged}
+use Rattle.qc_resolve.specs.Validated as validated
+use Rattle.qc_resolve.specs.Validated.{comparable, compare_validated, in_validated, between_validated, test_validated, condition_validated}
 use Rattle.qc_resolve.specs.Meaning as meaning
 use Rattle.qc_resolve.specs.Meaning.{row_value, truth, keeps}
-use Rattle.qc_resolve.specs.Values.{Judged, row_judged}
+use Rattle.qc_resolve.specs.Values.{Validated, row_validated}
 use Rattle.qc_resolve.proofs.RowAgrees.{Similar, IsSame, similar}
 
 abbrev Meant : Type 0
@@ -66,28 +66,28 @@ module _ (scope : Scope) where
   not_case (Ok t) (Err f) h = h
   not_case (Err e) (Ok s) h = h
 
-  null_case : (r : Result Good SqlError) (w : Result Judged SqlError) → Similar bounds r w → SameTest bounds (r >>= λ x. Ok (λ c. Some (is_null (one_group x c)))) (w >>= λ v. Ok (made.IsNull v.formula))
+  null_case : (r : Result Good SqlError) (w : Result Validated SqlError) → Similar bounds r w → SameTest bounds (r >>= λ x. Ok (λ c. Some (is_null (one_group x c)))) (w >>= λ v. Ok (made.IsNull v.formula))
   null_case (Ok x) (Ok v) h = λ c k. ap (λ v. Some (is_null v)) (h.value c k)
   null_case (Err e) (Err f) h = h
   null_case (Ok x) (Err f) h = h
   null_case (Err e) (Ok v) h = h
 
   -- two values that are compared, whether they mix or not
-  compare_at : (o : Op) (x y : Good) (v w : Judged) (b : Bool) → IsSame bounds x v → IsSame bounds y w
+  compare_at : (o : Op) (x y : Good) (v w : Validated) (b : Bool) → IsSame bounds x v → IsSame bounds y w
       → SameTest bounds (cond b (Err mixed) (Ok (λ c. compared o (one_group x c) (one_group y c)))) (refuse_if b mixed >>= λ _. Ok (made.Compare v.formula o w.formula))
   compare_at o x y v w true h k = refl
   compare_at o x y v w false h k = λ c l i. compared o (h.value c l i) (k.value c l i)
 
-  sorts_same : (x y : Good) (v w : Judged) → IsSame bounds x v → IsSame bounds y w → mixes x.sort y.sort ≡ mixes v.sort w.sort
+  sorts_same : (x y : Good) (v w : Validated) → IsSame bounds x v → IsSame bounds y w → mixes x.sort y.sort ≡ mixes v.sort w.sort
   sorts_same x y v w h k = λ i. mixes (h.sort i) (k.sort i)
 
-  compare_both : (o : Op) (x y : Good) (v w : Judged) → IsSame bounds x v → IsSame bounds y w → SameTest bounds (comparison o x y) (comparable v.sort w.sort >>= λ _. Ok (made.Compare v.formula o w.formula))
+  compare_both : (o : Op) (x y : Good) (v w : Validated) → IsSame bounds x v → IsSame bounds y w → SameTest bounds (comparison o x y) (comparable v.sort w.sort >>= λ _. Ok (made.Compare v.formula o w.formula))
   unfolding mixed
   compare_both o x y v w h k =
       subst (λ b. SameTest bounds (cond b (Err mixed) (Ok (λ c. compared o (one_group x c) (one_group y c)))) (comparable v.sort w.sort >>= λ _. Ok (made.Compare v.formula o w.formula))) (sym (sorts_same x y v w h k))
       (compare_at o x y v w (mixes v.sort w.sort) h k)
 
-  compare_case : (o : Op) (r s : Result Good SqlError) (u v : Result Judged SqlError) → Similar bounds r u → Similar bounds s v
+  compare_case : (o : Op) (r s : Result Good SqlError) (u v : Result Validated SqlError) → Similar bounds r u → Similar bounds s v
       → SameTest bounds (r >>= λ x. s >>= λ y. comparison o x y) (u >>= λ x. v >>= λ y. comparable x.sort y.sort >>= λ _. Ok (made.Compare x.formula o y.formula))
   compare_case o (Ok x) (Ok y) (Ok v) (Ok w) h k = compare_both o x y v w h k
   compare_case o (Ok x) (Err e) (Ok v) (Err f) h k = k
@@ -106,7 +106,7 @@ module _ (scope : Scope) where
   abbrev unless : Bool → Meant → Result Meant SqlError
   unless b t = cond b (Err mixed) (Ok t)
 
-  between_at : (x y z : Good) (u v w : Judged) (a b : Bool) → IsSame bounds x u → IsSame bounds y v → IsSame bounds z w
+  between_at : (x y z : Good) (u v w : Validated) (a b : Bool) → IsSame bounds x u → IsSame bounds y v → IsSame bounds z w
       → SameTest bounds
       (within (unless a (λ c. compared op.Ge (one_group x c) (one_group y c))) (unless b (λ c. compared op.Le (one_group x c) (one_group z c))))
       (refuse_if a mixed >>= λ _. refuse_if b mixed >>= λ _. Ok (made.Between u.formula v.formula w.formula))
@@ -114,7 +114,7 @@ module _ (scope : Scope) where
   between_at x y z u v w false true h k l = refl
   between_at x y z u v w false false h k l = λ c m i. both (compared op.Ge (h.value c m i) (k.value c m i)) (compared op.Le (h.value c m i) (l.value c m i))
 
-  between_all : (x y z : Good) (u v w : Judged) → IsSame bounds x u → IsSame bounds y v → IsSame bounds z w
+  between_all : (x y z : Good) (u v w : Validated) → IsSame bounds x u → IsSame bounds y v → IsSame bounds z w
       → SameTest bounds (comparison op.Ge x y >>= λ s. comparison op.Le x z >>= λ t. Ok (λ c. both (s c) (t c)))
       (comparable u.sort v.sort >>= λ _. comparable u.sort w.sort >>= λ _. Ok (made.Between u.formula v.formula w.formula))
   unfolding mixed
@@ -127,7 +127,7 @@ module _ (scope : Scope) where
       (comparable u.sort v.sort >>= λ _. comparable u.sort w.sort >>= λ _. Ok (made.Between u.formula v.formula w.formula))) (sym (sorts_same x z u w h l))
       (between_at x y z u v w (mixes u.sort v.sort) (mixes u.sort w.sort) h k l))
 
-  between_case : (r s t : Result Good SqlError) (u v w : Result Judged SqlError) → Similar bounds r u → Similar bounds s v → Similar bounds t w
+  between_case : (r s t : Result Good SqlError) (u v w : Result Validated SqlError) → Similar bounds r u → Similar bounds s v → Similar bounds t w
       → SameTest bounds (r >>= λ x. s >>= λ y. t >>= λ z. comparison op.Ge x y >>= λ s. comparison op.Le x z >>= λ t. Ok (λ c. both (s c) (t c)))
       (u >>= λ x. v >>= λ y. w >>= λ z. comparable x.sort y.sort >>= λ _. comparable x.sort z.sort >>= λ _. Ok (made.Between x.formula y.formula z.formula))
   between_case (Ok x) (Ok y) (Ok z) (Ok u) (Ok v) (Ok w) h k l = between_all x y z u v w h k l
@@ -162,17 +162,17 @@ module _ (scope : Scope) where
       ap (λ r. comparison op.Eq x (good (sort_of_value v) (λ _. v)) >>= λ y. r >>= λ ys. Ok (y ∷ ys)) (literals x vs)
       ∙ literals_step x v vs (mixes x.sort (sort_of_value v)) (list_any (λ v. mixes x.sort (sort_of_value v)) vs)
 
-  each_same : (x : Good) (w : Judged) (vs : List Value) (c : Combination) → one_group x c ≡ row_value c w.formula → map (λ t. t c) (with_each x vs) ≡ map (compared op.Eq (row_value c w.formula)) vs
+  each_same : (x : Good) (w : Validated) (vs : List Value) (c : Combination) → one_group x c ≡ row_value c w.formula → map (λ t. t c) (with_each x vs) ≡ map (compared op.Eq (row_value c w.formula)) vs
   unfolding with_each
   each_same x w [] c h = refl
   each_same x w (v ∷ vs) c h = λ i. compared op.Eq (h i) v ∷ each_same x w vs c h i
 
-  in_at : (x : Good) (w : Judged) (vs : List Value) (b : Bool) → IsSame bounds x w
+  in_at : (x : Good) (w : Validated) (vs : List Value) (b : Bool) → IsSame bounds x w
       → SameTest bounds (cond b (Err mixed) (Ok (with_each x vs)) >>= λ tests. Ok (λ c. any_of (map (λ t. t c) tests))) (refuse_if b mixed >>= λ _. Ok (made.In w.formula vs))
   in_at x w vs true h = refl
   in_at x w vs false h = λ c k. ap any_of (each_same x w vs c (h.value c k))
 
-  in_one : (x : Good) (w : Judged) (vs : List Value) → IsSame bounds x w
+  in_one : (x : Good) (w : Validated) (vs : List Value) → IsSame bounds x w
       → SameTest bounds (each (λ v. comparison op.Eq x (good (sort_of_value v) (λ _. v))) vs >>= λ tests. Ok (λ c. any_of (map (λ t. t c) tests)))
       (refuse_if (list_any (λ v. mixes w.sort (sort_of_value v)) vs) (not_supported (codes "mixed comparison")) >>= λ _. Ok (made.In w.formula vs))
   unfolding mixed
@@ -181,7 +181,7 @@ module _ (scope : Scope) where
       (sym (literals x vs ∙ ap (λ s. cond (list_any (λ v. mixes s (sort_of_value v)) vs) (Err mixed) (Ok (with_each x vs))) h.sort))
       (in_at x w vs (list_any (λ v. mixes w.sort (sort_of_value v)) vs) h)
 
-  in_case : (r : Result Good SqlError) (w : Result Judged SqlError) (vs : List Value) → Similar bounds r w
+  in_case : (r : Result Good SqlError) (w : Result Validated SqlError) (vs : List Value) → Similar bounds r w
       → SameTest bounds (r >>= λ x. each (λ v. comparison op.Eq x (good (sort_of_value v) (λ _. v))) vs >>= λ tests. Ok (λ c. any_of (map (λ t. t c) tests)))
       (w >>= λ x. refuse_if (list_any (λ v. mixes x.sort (sort_of_value v)) vs) (not_supported (codes "mixed comparison")) >>= λ _. Ok (made.In x.formula vs))
   in_case (Ok x) (Ok w) vs h = in_one x w vs h
@@ -200,19 +200,19 @@ module _ (scope : Scope) where
   more_case (Err e) rs (Ok s) ws h k = absurd h
 
   mutual
-    test_same : (t : Cond) → SameTest bounds (fold_cond (meant.test_at scope) t) (test_judged scope t)
-    test_same (Or' shape cs) = any_case (each (λ t. t) (fold_conds (meant.test_at scope) cs)) (each (λ t. t) (fold_conds (judged.test_at scope) cs)) (tests_same cs)
-    test_same (And' shape cs) = all_case (each (λ t. t) (fold_conds (meant.test_at scope) cs)) (each (λ t. t) (fold_conds (judged.test_at scope) cs)) (tests_same cs)
-    test_same (Not' shape (more_of-Cond c end_of-Cond)) = not_case (fold_cond (meant.test_at scope) c) (test_judged scope c) (test_same c)
-    test_same (Compare a o b) = compare_case o (check scope a false) (check scope b false) (row_judged scope a) (row_judged scope b) (similar scope a) (similar scope b)
-    test_same (IsNull a) = null_case (check scope a false) (row_judged scope a) (similar scope a)
-    test_same (In a vs) = in_case (check scope a false) (row_judged scope a) vs (similar scope a)
-    test_same (Between a low high) = between_case (check scope a false) (check scope low false) (check scope high false) (row_judged scope a) (row_judged scope low) (row_judged scope high) (similar scope a) (similar scope low) (similar scope high)
+    test_same : (t : Cond) → SameTest bounds (fold_cond (meant.test_at scope) t) (test_validated scope t)
+    test_same (Or' shape cs) = any_case (each (λ t. t) (fold_conds (meant.test_at scope) cs)) (each (λ t. t) (fold_conds (validated.test_at scope) cs)) (tests_same cs)
+    test_same (And' shape cs) = all_case (each (λ t. t) (fold_conds (meant.test_at scope) cs)) (each (λ t. t) (fold_conds (validated.test_at scope) cs)) (tests_same cs)
+    test_same (Not' shape (more_of-Cond c end_of-Cond)) = not_case (fold_cond (meant.test_at scope) c) (test_validated scope c) (test_same c)
+    test_same (Compare a o b) = compare_case o (check scope a false) (check scope b false) (row_validated scope a) (row_validated scope b) (similar scope a) (similar scope b)
+    test_same (IsNull a) = null_case (check scope a false) (row_validated scope a) (similar scope a)
+    test_same (In a vs) = in_case (check scope a false) (row_validated scope a) vs (similar scope a)
+    test_same (Between a low high) = between_case (check scope a false) (check scope low false) (check scope high false) (row_validated scope a) (row_validated scope low) (row_validated scope high) (similar scope a) (similar scope low) (similar scope high)
 
-    tests_same : {k : Arity} (cs : Row_of-Cond k) → SameTests bounds (each (λ t. t) (fold_conds (meant.test_at scope) cs)) (each (λ t. t) (fold_conds (judged.test_at scope) cs))
+    tests_same : {k : Arity} (cs : Row_of-Cond k) → SameTests bounds (each (λ t. t) (fold_conds (meant.test_at scope) cs)) (each (λ t. t) (fold_conds (validated.test_at scope) cs))
     tests_same end_of-Cond = λ c h. refl
     tests_same (more_of-Cond c cs) =
-        more_case (fold_cond (meant.test_at scope) c) (each (λ t. t) (fold_conds (meant.test_at scope) cs)) (test_judged scope c) (each (λ t. t) (fold_conds (judged.test_at scope) cs)) (test_same c) (tests_same cs)
+        more_case (fold_cond (meant.test_at scope) c) (each (λ t. t) (fold_conds (meant.test_at scope) cs)) (test_validated scope c) (each (λ t. t) (fold_conds (validated.test_at scope) cs)) (test_same c) (tests_same cs)
 
 -- ---- the condition
 
@@ -228,9 +228,9 @@ some_case bs (Err e) (Err f) h = h
 some_case bs (Ok t) (Err f) h = h
 some_case bs (Err e) (Ok s) h = h
 
-pub condition_same : (scope : Scope) (c : Option Cond) → SameCondition scope.bounds (condition scope c) (condition_judged scope c)
+pub condition_same : (scope : Scope) (c : Option Cond) → SameCondition scope.bounds (condition scope c) (condition_validated scope c)
 condition_same scope None = λ c h. refl
-condition_same scope (Some t) = some_case scope.bounds (fold_cond (meant.test_at scope) t) (test_judged scope t) (test_same scope t)
+condition_same scope (Some t) = some_case scope.bounds (fold_cond (meant.test_at scope) t) (test_validated scope t) (test_same scope t)
 
 -- the same combinations are kept
 kept_at : (c : Combination) (a b : Bool) (xs ys : List Combination) → a ≡ b → xs ≡ ys → cond a (c ∷ xs) xs ≡ cond b (c ∷ ys) ys

@@ -1,7 +1,7 @@
 pub mod Columns
 pub mod Fit
 pub mod Folding
-pub mod Judged
+pub mod Validated
 pub mod Kept
 pub mod Meaning
 pub mod Steps

@@ -20,32 +20,32 @@ use Rattle.qc_resolve.specs.Columns.{Spot, found_at, find_spot}
 use Rattle.qc_resolve.specs.Steps.{run}
 
 -- an expression that was found good
-pub record Judged : Type 0 where
+pub record Validated : Type 0 where
   pub sort : Sort
   pub origin : Origin
   pub formula : Formula
 
-abbrev pub computed : Sort → Formula → Judged
+abbrev pub computed : Sort → Formula → Validated
 computed sort f = record { sort = sort; origin = Computed; formula = f }
 
-abbrev pub column_judged : Spot → Judged
-column_judged s = record { sort = sort_of_kind s.column.kind; origin = Itself (found_at s); formula = form.Column s.place }
+abbrev pub column_validated : Spot → Validated
+column_validated s = record { sort = sort_of_kind s.column.kind; origin = Itself (found_at s); formula = form.Column s.place }
 
-abbrev pub sum_judged : Spot → Formula → Result Judged SqlError
-sum_judged s f = by_kind s.column.kind
+abbrev pub sum_validated : Spot → Formula → Result Validated SqlError
+sum_validated s f = by_kind s.column.kind
   where
-    by_kind : Kind → Result Judged SqlError
+    by_kind : Kind → Result Validated SqlError
     by_kind kind.Int = Ok (record { sort = Number; origin = Summed; formula = f })
     by_kind (kind.Str n) = Err (not_supported (codes "SUM of text"))
 
-abbrev pub best_judged : Spot → Formula → Judged
-best_judged s f = record { sort = sort_of_kind s.column.kind; origin = BestOf (found_at s); formula = f }
+abbrev pub best_validated : Spot → Formula → Validated
+best_validated s f = record { sort = sort_of_kind s.column.kind; origin = BestOf (found_at s); formula = f }
 
 abbrev pub database_value : Name → Value
 database_value db = if length db == 0 then value.Null else value.Str db
 
-abbrev pub call_judged : Scope → Name → ℕ → Result Judged SqlError
-call_judged scope word count =
+abbrev pub call_validated : Scope → Name → ℕ → Result Validated SqlError
+call_validated scope word count =
     if bytes_eq word (codes "DATABASE") && count == 0
     then Ok (computed Words (form.Literal (database_value scope.db)))
     else if bytes_eq word (codes "CONNECTION_ID") && count == 0
@@ -54,11 +54,11 @@ call_judged scope word count =
 
 -- an expression, and the aggregates that stand before and in it
 abbrev pub Beside : Type 0
-Beside = Judged × List Fold
+Beside = Validated × List Fold
 
 -- what an expression is over one row, and what it is beside aggregates, where these stand before it
 pub record Ways : Type 0 where
-  pub in_row : Result Judged SqlError
+  pub in_row : Result Validated SqlError
   pub in_group : List Fold → Result Beside SqlError
 
 abbrev pub formula_in_row : Ways → Result Formula SqlError
@@ -81,29 +81,29 @@ folded folds = form.Folded (length folds)
 abbrev pub with_fold : List Fold → Fold → List Fold
 with_fold folds f = folds ++ f ∷ []
 
-abbrev pub row_at : Scope → Expr-F Ways → Result Judged SqlError
-row_at scope (Expr-F.Column c) = find_spot scope.bounds c >>= λ s. Ok (column_judged s)
+abbrev pub row_at : Scope → Expr-F Ways → Result Validated SqlError
+row_at scope (Expr-F.Column c) = find_spot scope.bounds c >>= λ s. Ok (column_validated s)
 row_at scope (Expr-F.Literal v) = Ok (computed (sort_of_value v) (form.Literal v))
 row_at scope Expr-F.CountAll = Ok (computed Number (form.Literal (value.Int (pos 1))))
 row_at scope (Expr-F.Count w) = w.in_row >>= λ x. Ok (computed Number (form.Present x.formula))
-row_at scope (Expr-F.Sum c) = find_spot scope.bounds c >>= λ s. sum_judged s (form.Column s.place)
-row_at scope (Expr-F.Min c) = find_spot scope.bounds c >>= λ s. Ok (best_judged s (form.Column s.place))
-row_at scope (Expr-F.Max c) = find_spot scope.bounds c >>= λ s. Ok (best_judged s (form.Column s.place))
+row_at scope (Expr-F.Sum c) = find_spot scope.bounds c >>= λ s. sum_validated s (form.Column s.place)
+row_at scope (Expr-F.Min c) = find_spot scope.bounds c >>= λ s. Ok (best_validated s (form.Column s.place))
+row_at scope (Expr-F.Max c) = find_spot scope.bounds c >>= λ s. Ok (best_validated s (form.Column s.place))
 row_at scope (Expr-F.Length w) = w.in_row >>= λ x. Ok (computed Number (form.Length x.formula))
 row_at scope (Expr-F.Concat ws) = each_in_row ws >>= λ fs. Ok (computed Words (form.Concat fs))
-row_at scope (Expr-F.Call word ws) = call_judged scope (in_capitals word) (length ws)
+row_at scope (Expr-F.Call word ws) = call_validated scope (in_capitals word) (length ws)
 
 abbrev pub group_at : Scope → Expr-F Ways → List Fold → Result Beside SqlError
 group_at scope (Expr-F.Column c) folds = find_spot scope.bounds c >>= λ s. Err (not_supported (codes "mixed aggregate"))
 group_at scope (Expr-F.Literal v) folds = Ok (computed (sort_of_value v) (form.Literal v), folds)
 group_at scope Expr-F.CountAll folds = Ok (computed Number (folded folds), with_fold folds aggregate.CountAll)
 group_at scope (Expr-F.Count w) folds = w.in_row >>= λ x. Ok (computed Number (folded folds), with_fold folds (aggregate.Count x.formula))
-group_at scope (Expr-F.Sum c) folds = find_spot scope.bounds c >>= λ s. sum_judged s (folded folds) >>= λ x. Ok (x, with_fold folds (aggregate.Sum s.place))
-group_at scope (Expr-F.Min c) folds = find_spot scope.bounds c >>= λ s. Ok (best_judged s (folded folds), with_fold folds (aggregate.Least s.place))
-group_at scope (Expr-F.Max c) folds = find_spot scope.bounds c >>= λ s. Ok (best_judged s (folded folds), with_fold folds (aggregate.Greatest s.place))
+group_at scope (Expr-F.Sum c) folds = find_spot scope.bounds c >>= λ s. sum_validated s (folded folds) >>= λ x. Ok (x, with_fold folds (aggregate.Sum s.place))
+group_at scope (Expr-F.Min c) folds = find_spot scope.bounds c >>= λ s. Ok (best_validated s (folded folds), with_fold folds (aggregate.Least s.place))
+group_at scope (Expr-F.Max c) folds = find_spot scope.bounds c >>= λ s. Ok (best_validated s (folded folds), with_fold folds (aggregate.Greatest s.place))
 group_at scope (Expr-F.Length w) folds = w.in_group folds >>= λ x. Ok (computed Number (form.Length x.0.formula), x.1)
 group_at scope (Expr-F.Concat ws) folds = each_in_group ws folds >>= λ xs. Ok (computed Words (form.Concat xs.0), xs.1)
-group_at scope (Expr-F.Call word ws) folds = call_judged scope (in_capitals word) (length ws) >>= λ x. Ok (x, folds)
+group_at scope (Expr-F.Call word ws) folds = call_validated scope (in_capitals word) (length ws) >>= λ x. Ok (x, folds)
 
 abbrev pub ways_at : Scope → Expr-F Ways → Ways
 ways_at scope e = record { in_row = row_at scope e; in_group = group_at scope e }
@@ -111,13 +111,13 @@ ways_at scope e = record { in_row = row_at scope e; in_group = group_at scope e 
 abbrev pub ways : Scope → Expr → Ways
 ways scope e = fold_expr (ways_at scope) e
 
-abbrev pub row_judged : Scope → Expr → Result Judged SqlError
-row_judged scope e = (ways scope e).in_row
+abbrev pub row_validated : Scope → Expr → Result Validated SqlError
+row_validated scope e = (ways scope e).in_row
 
-abbrev pub group_judged : Scope → Expr → List Fold → Result Beside SqlError
-group_judged scope e folds = (ways scope e).in_group folds
+abbrev pub group_validated : Scope → Expr → List Fold → Result Beside SqlError
+group_validated scope e folds = (ways scope e).in_group folds
 
 -- by whether the select has an aggregate
-abbrev pub value_judged : Bool → Scope → Expr → List Fold → Result Beside SqlError
-value_judged true scope e folds = group_judged scope e folds
-value_judged false scope e folds = row_judged scope e >>= λ x. Ok (x, folds)
+abbrev pub value_validated : Bool → Scope → Expr → List Fold → Result Beside SqlError
+value_validated true scope e folds = group_validated scope e folds
+value_validated false scope e folds = row_validated scope e >>= λ x. Ok (x, folds)

@@ -8,7 +8,7 @@ use Rattle.qc_resolve.specs.declared.values.Origin.{Origin}
 use Rattle.qc_resolve.specs.declared.values.Origin.TheVariants as origin
 use Rattle.qc_resolve.specs.declared.values.Valued.{Valued}
 use Rattle.qc_resolve.specs.Columns.{Spot, found_at}
-use Rattle.qc_resolve.specs.Values.{Judged}
+use Rattle.qc_resolve.specs.Values.{Validated}
 
 abbrev pub spot_of : Found → Spot
 spot_of f = record { bound = f.bound.now; column = f.column.now; place = f.place }
@@ -24,5 +24,5 @@ origin_of origin.Summed = meant.Summed
 origin_of (origin.Itself f) = meant.Itself (found_at (spot_of f))
 origin_of (origin.BestOf f) = meant.BestOf (found_at (spot_of f))
 
-abbrev pub judged_of : Valued → Judged
-judged_of v = record { sort = sort_of v.sort; origin = origin_of v.origin; formula = v.formula }
+abbrev pub validated_of : Valued → Validated
+validated_of v = record { sort = sort_of v.sort; origin = origin_of v.origin; formula = v.formula }

@@ -5,11 +5,11 @@ ghost use Rattle.std.specs.List.{AllByRecursion, list_any};
 ghost use Rattle.qc_types.specs.Answers.{Gives};
 ghost use Rattle.qc_sql.specs.Rows as meant;
 ghost use Rattle.qc_sql.specs.Rows.{each};
-ghost use Rattle.qc_resolve.specs.Judged.{bounds_judged};
+ghost use Rattle.qc_resolve.specs.Validated.{bounds_validated};
 ghost use Rattle.qc_resolve.specs.Fit.{IsSoundBound};
 
 use crate::scope::{Bound, Bounds};
-use qc_errors::{
+use qc_sql::errors::{
     name_not_unique, no_database_selected, no_such_table, too_many_combinations, unknown_database,
 };
 use qc_sql::names::full_name;
@@ -66,7 +66,7 @@ fn bind(
 
 /// Refuses two tables under one name, and too many row combinations. Quadratic in the number of tables, of which a text has at most 8.
 pub fn check_bounds(alloc: Global, bounds: &[Bound]) -> Result<(), Or<SqlError>>
-    ensures { Gives (λ _. tt) (λ e. e) result (bounds_judged bounds.now) }
+    ensures { Gives (λ _. tt) (λ e. e) result (bounds_validated bounds.now) }
 {
     if let Some(name) = first_repeated(bounds) {
         return Err(Or::Other(name_not_unique(alloc, name.bytes())?));

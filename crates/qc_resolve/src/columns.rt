@@ -7,7 +7,7 @@ ghost use Rattle.qc_resolve.specs.Views.{spot_of};
 
 use crate::formula::Place;
 use crate::scope::{Bound, Scope};
-use qc_errors::{ambiguous_column, unknown_column};
+use qc_sql::errors::{ambiguous_column, unknown_column};
 use qc_sql::statements::ColumnName;
 use qc_sql::tables::Column;
 use qc_types::{Or, SqlError};

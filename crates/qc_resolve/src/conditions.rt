@@ -4,13 +4,13 @@ ghost use Rattle.std.specs.Prelude.{◌≡◌};
 ghost use Rattle.std.specs.List.{list_any};
 ghost use Rattle.qc_types.specs.Answers.{Gives};
 ghost use Rattle.qc_sql.specs.Rows.{each, mixes, sort_of_value};
-ghost use Rattle.qc_resolve.specs.Judged.{comparable, compare_judged, in_judged, between_judged, test_judged, condition_judged};
+ghost use Rattle.qc_resolve.specs.Validated.{comparable, compare_validated, in_validated, between_validated, test_validated, condition_validated};
 ghost use Rattle.qc_resolve.specs.Views.{sort_of};
 
 use crate::scope::Scope;
 use crate::test::{Test, Tests};
 use crate::values::{Sort, row_value, sort_of_literal};
-use qc_errors::not_supported;
+use qc_sql::errors::not_supported;
 use qc_sql::statements::{Cond, Expr, Op, Values};
 use qc_types::{Boxed, Or, SqlError, Value};
 use std::alloc::Global;
@@ -21,7 +21,7 @@ pub fn condition(
     scope: &Scope,
     cond: &Option<Cond>,
 ) -> Result<Option<Test>, Or<SqlError>>
-    ensures { Gives (λ t. t) (λ e. e) result (condition_judged scope.now cond.now) }
+    ensures { Gives (λ t. t) (λ e. e) result (condition_validated scope.now cond.now) }
 {
     match cond {
         None => Ok(None),
@@ -32,7 +32,7 @@ pub fn condition(
 #[tactic(auto, using(qc_sql::specs::Trees::cond_laws))]
 #[cycle(tests)]
 fn test(alloc: Global, scope: &Scope, cond: &Cond) -> Result<Test, Or<SqlError>>
-    ensures { Gives (λ t. t) (λ e. e) result (test_judged scope.now cond.now) }
+    ensures { Gives (λ t. t) (λ e. e) result (test_validated scope.now cond.now) }
 {
     match cond {
         Cond::Or(all) => Ok(Test::Any(tests(alloc, scope, all.items())?)),
@@ -53,7 +53,7 @@ fn test(alloc: Global, scope: &Scope, cond: &Cond) -> Result<Test, Or<SqlError>>
 
 #[cycle(tests)]
 fn tests(alloc: Global, scope: &Scope, conds: &[Cond]) -> Result<Tests, Or<SqlError>>
-    ensures { Gives (λ ts. ts) (λ e. e) result (each (test_judged scope.now) conds.now) }
+    ensures { Gives (λ ts. ts) (λ e. e) result (each (test_validated scope.now) conds.now) }
 {
     let mut tests = Tests::new(alloc);
     for cond in conds {
@@ -63,7 +63,7 @@ fn tests(alloc: Global, scope: &Scope, conds: &[Cond]) -> Result<Tests, Or<SqlEr
 }
 
 fn compare(alloc: Global, scope: &Scope, a: &Expr, op: Op, b: &Expr) -> Result<Test, Or<SqlError>>
-    ensures { Gives (λ t. t) (λ e. e) result (compare_judged scope.now a.now op b.now) }
+    ensures { Gives (λ t. t) (λ e. e) result (compare_validated scope.now a.now op b.now) }
 {
     let a = row_value(alloc, scope, a)?;
     let b = row_value(alloc, scope, b)?;
@@ -72,7 +72,7 @@ fn compare(alloc: Global, scope: &Scope, a: &Expr, op: Op, b: &Expr) -> Result<T
 }
 
 fn is_in(alloc: Global, scope: &Scope, of: &Expr, values: &Values) -> Result<Test, Or<SqlError>>
-    ensures { Gives (λ t. t) (λ e. e) result (in_judged scope.now of.now values.now) }
+    ensures { Gives (λ t. t) (λ e. e) result (in_validated scope.now of.now values.now) }
 {
     let of = row_value(alloc, scope, of)?;
     if mixes_any(of.sort, values.items()) {
@@ -88,7 +88,7 @@ fn between(
     low: &Expr,
     high: &Expr,
 ) -> Result<Test, Or<SqlError>>
-    ensures { Gives (λ t. t) (λ e. e) result (between_judged scope.now of.now low.now high.now) }
+    ensures { Gives (λ t. t) (λ e. e) result (between_validated scope.now of.now low.now high.now) }
 {
     let of = row_value(alloc, scope, of)?;
     let low = row_value(alloc, scope, low)?;

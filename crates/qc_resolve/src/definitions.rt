@@ -3,8 +3,8 @@
 ghost use Rattle.std.specs.Prelude.{◌≡◌, IfOk, unwrap_or};
 ghost use Rattle.qc_sql.specs.Rows as meant;
 ghost use Rattle.qc_resolve.specs.Columns.{found_at};
-ghost use Rattle.qc_resolve.specs.Judged.{definition_for, plain_def};
-ghost use Rattle.qc_resolve.specs.Views.{spot_of, sort_of, judged_of};
+ghost use Rattle.qc_resolve.specs.Validated.{definition_for, plain_def};
+ghost use Rattle.qc_resolve.specs.Views.{spot_of, sort_of, validated_of};
 
 use crate::columns::Found;
 use crate::values::{Origin, Sort, Valued};
@@ -39,7 +39,7 @@ pub fn definition(
     item: &Item,
     value: &Valued<'_>,
 ) -> Result<ColumnDef, NoMemory>
-    ensures { IfOk result (λ d. d ≡ definition_for flags.now item.now (judged_of value.now)) }
+    ensures { IfOk result (λ d. d ≡ definition_for flags.now item.now (validated_of value.now)) }
 {
     let words = item.words.bytes();
     match &value.origin {

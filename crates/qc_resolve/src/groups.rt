@@ -4,8 +4,8 @@ ghost use Rattle.std.specs.Prelude.{◌≡◌, [], ◌∷◌, ◌++◌, IfOk, On
 ghost use Rattle.qc_types.specs.Answers.{Gives};
 ghost use Rattle.qc_sql.specs.Rows as meant;
 ghost use Rattle.qc_resolve.specs.Steps.{run};
-ghost use Rattle.qc_resolve.specs.Values.{folded, with_fold, group_judged, group_step, ways};
-ghost use Rattle.qc_resolve.specs.Views.{judged_of};
+ghost use Rattle.qc_resolve.specs.Values.{folded, with_fold, group_validated, group_step, ways};
+ghost use Rattle.qc_resolve.specs.Views.{validated_of};
 
 use crate::columns::find_column;
 use crate::formula::{Formula, Formulas};
@@ -14,7 +14,7 @@ use crate::scope::Scope;
 use crate::values::{
     Sort, Valued, best_value, call_value, computed, literal_value, row_value, sum_value,
 };
-use qc_errors::not_supported;
+use qc_sql::errors::not_supported;
 use qc_sql::statements::Expr;
 use qc_types::{Boxed, NoMemory, Or, SqlError};
 use std::alloc::Global;
@@ -29,7 +29,7 @@ pub fn group_value<'a>(
     folds: &mut Folds,
     expr: &Expr,
 ) -> Result<Valued<'a>, Or<SqlError>>
-    ensures { Gives (λ v. (judged_of v, folds.new)) (λ e. e) result (group_judged scope.now expr.now folds.old) }
+    ensures { Gives (λ v. (validated_of v, folds.new)) (λ e. e) result (group_validated scope.now expr.now folds.old) }
 {
     match expr {
         Expr::Column(name) => {

@@ -6,10 +6,10 @@ ghost use Rattle.qc_types.specs.Answers.{Gives};
 ghost use Rattle.qc_sql.specs.Rows.{aggregate_at};
 ghost use Rattle.qc_sql.specs.Trees.{fold_expr};
 ghost use Rattle.qc_resolve.specs.Columns.{all_spots, spots_from};
-ghost use Rattle.qc_resolve.specs.Judged.{none_shown, has_aggregate_item, item_step, shown_judged, spot_step, with_spots};
+ghost use Rattle.qc_resolve.specs.Validated.{none_shown, has_aggregate_item, item_step, shown_validated, spot_step, with_spots};
 ghost use Rattle.qc_resolve.specs.Steps.{run};
-ghost use Rattle.qc_resolve.specs.Values.{value_judged};
-ghost use Rattle.qc_resolve.specs.Views.{spot_of, judged_of};
+ghost use Rattle.qc_resolve.specs.Values.{value_validated};
+ghost use Rattle.qc_resolve.specs.Views.{spot_of, validated_of};
 
 use crate::columns::Found;
 use crate::definitions::{definition, of_column};
@@ -18,7 +18,7 @@ use crate::groups::{folded, group_value};
 use crate::resolved::{Fold, Folds};
 use crate::scope::{Bound, Scope};
 use crate::values::{Valued, row_value};
-use qc_errors::not_supported;
+use qc_sql::errors::not_supported;
 use qc_sql::replies::{ColumnDef, ColumnDefs};
 use qc_sql::session::Flags;
 use qc_sql::statements::{Expr, Item, Select};
@@ -115,7 +115,7 @@ pub fn show(
     scope: &Scope,
     select: &Select,
 ) -> Result<Shown, Or<SqlError>>
-    ensures { Gives (λ s. s) (λ e. e) result (shown_judged flags.now scope.now select.now) }
+    ensures { Gives (λ s. s) (λ e. e) result (shown_validated flags.now scope.now select.now) }
 {
     if !select.star {
         return shown_items(alloc, flags, scope, select.items.items());
@@ -166,7 +166,7 @@ fn item_value<'a>(
     folds: &mut Folds,
     expr: &Expr,
 ) -> Result<Valued<'a>, Or<SqlError>>
-    ensures { Gives (λ v. (judged_of v, folds.new)) (λ e. e) result (value_judged aggregated scope.now expr.now folds.old) }
+    ensures { Gives (λ v. (validated_of v, folds.new)) (λ e. e) result (value_validated aggregated scope.now expr.now folds.old) }
 {
     if aggregated {
         group_value(alloc, scope, folds, expr)

@@ -1,4 +1,4 @@
-//! A SELECT judged on a database: the first refusal, or its names found and its values as formulas over the rows of its tables.
+//! A SELECT validated on a database: the first refusal, or its names found and its values as formulas over the rows of its tables.
 #![tactic(auto)]
 
 mod bind;

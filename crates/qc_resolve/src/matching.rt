@@ -1,4 +1,4 @@
-//! A condition on the rows of one table, judged.
+//! A condition on the rows of one table, validated.
 
 ghost use Rattle.std.specs.Prelude.{◌≡◌, [], ◌∷◌, IfOk};
 ghost use Rattle.std.specs.List.{AllByRecursion};
@@ -16,7 +16,7 @@ use qc_table::TableVersion;
 use qc_types::{Duplicate, NoMemory, Or, SqlError, TableName, Text};
 use std::alloc::Global;
 
-/// The condition of a statement that changes the rows of one table, judged over that table under its own name, for a session with this current database
+/// The condition of a statement that changes the rows of one table, validated over that table under its own name, for a session with this current database
 /// (empty: none) and this number: a test that keeps the same rows, none where there is no condition, or the first refusal. The table is shared and not
 /// read. Linear in the size of the condition, times the columns of the table.
 pub fn resolve_condition(
@@ -33,7 +33,7 @@ pub fn resolve_condition(
     condition(alloc, &scope, cond)
 }
 
-/// What such a condition is judged in.
+/// What such a condition is validated in.
 fn scope_over(
     alloc: Global,
     name: &TableName,

@@ -2,7 +2,7 @@
 
 ghost use Rattle.std.specs.Prelude.{◌≡◌};
 ghost use Rattle.qc_types.specs.Answers.{Gives};
-ghost use Rattle.qc_resolve.specs.Judged.{order_judged};
+ghost use Rattle.qc_resolve.specs.Validated.{order_validated};
 
 use crate::columns::find_column;
 use crate::resolved::{OrderKey, OrderKeys};
@@ -13,7 +13,7 @@ use std::alloc::Global;
 
 /// The columns by which rows are sorted, or the first refusal.
 pub fn order_keys(alloc: Global, scope: &Scope, orders: &[Order]) -> Result<OrderKeys, Or<SqlError>>
-    ensures { Gives (λ ks. ks) (λ e. e) result (order_judged scope.now orders.now) }
+    ensures { Gives (λ ks. ks) (λ e. e) result (order_validated scope.now orders.now) }
 {
     let mut keys = OrderKeys::new(alloc);
     for order in orders {

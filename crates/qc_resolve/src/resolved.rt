@@ -1,4 +1,4 @@
-//! What a SELECT is once it is judged.
+//! What a SELECT is once it is validated.
 
 use crate::formula::{Formula, Formulas, Place};
 use crate::test::Test;
@@ -43,10 +43,10 @@ pub enum Output {
     Folded { folds: Folds, items: Formulas },
 }
 
-/// Tables, each as it stood when the SELECT was judged.
+/// Tables, each as it stood when the SELECT was validated.
 pub type Versions = OwnedList<TableVersion>;
 
-/// A SELECT that isn't refused, on the database on which it was judged.
+/// A SELECT that isn't refused, on the database on which it was validated.
 #[derive(Drop)]
 pub struct Resolved {
     /// The columns of its result.

@@ -1,4 +1,4 @@
-//! What a SELECT is judged in.
+//! What a SELECT is validated in.
 
 use qc_table::TableVersion;
 use qc_types::{OwnedList, TableName, Text};

@@ -1,11 +1,11 @@
-//! A SELECT, judged.
+//! A SELECT, validated.
 
 ghost use Rattle.std.specs.Prelude.{◌≡◌, ◌≤◌, ◌^◌, length, map, IfOk};
 ghost use Rattle.std.specs.List.{AllByRecursion};
 ghost use Rattle.qc_types.specs.Answers.{Gives};
 ghost use Rattle.qc_sql.specs.Rows as meant;
 ghost use Rattle.qc_resolve.specs.Fit.{IsSoundBound};
-ghost use Rattle.qc_resolve.specs.Judged.{judged_over, parts_judged, output_judged, offset_of, count_of};
+ghost use Rattle.qc_resolve.specs.Validated.{validated_over, parts_validated, output_validated, offset_of, count_of};
 ghost use Rattle.qc_resolve.specs.Meaning.{rows_of, all_combinations, items_of};
 
 use crate::bind::{bind_all, check_bounds};
@@ -14,7 +14,7 @@ use crate::items::{Shown, has_aggregate, show};
 use crate::order::order_keys;
 use crate::resolved::{OrderKeys, Output, Resolved, Versions};
 use crate::scope::{Bound, Scope};
-use qc_errors::{not_supported, too_many_columns};
+use qc_sql::errors::{not_supported, too_many_columns};
 use qc_sql::session::Flags;
 use qc_sql::statements::{Limit, Select};
 use qc_table::Database;
@@ -24,7 +24,7 @@ use std::alloc::Global;
 /// The most columns of a result.
 const MOST_COLUMNS: usize = 64;
 
-/// A SELECT judged on a database, for a session with this current database (empty: none), these flags and this number: what stands for it, or the first
+/// A SELECT validated on a database, for a session with this current database (empty: none), these flags and this number: what stands for it, or the first
 /// refusal. They come in this order: a locking read in a transaction; table by table 1046, 1049 and 1146; 1066; 1104 above 2^40 row combinations; the
 /// items from left to right; 1117 above 64 columns; the condition; an ordered aggregate; the order. The tables are shared and not read. Cost: linear in
 /// the sizes of the items, the condition and the order, times the columns of all tables, and quadratic in the number of tables.
@@ -54,28 +54,28 @@ pub fn resolve(
 }
 
 /// The same over the tables of FROM.
-#[tactic(auto, unfolding(crate::specs::Judged::judged_over))]
+#[tactic(auto, unfolding(crate::specs::Validated::validated_over))]
 fn resolve_over(
     alloc: Global,
     select: &Select,
     flags: &Flags,
     scope: &Scope,
 ) -> Result<Resolved, Or<SqlError>>
-    ensures { Gives (λ r. r) (λ e. e) result (judged_over select.now flags.now scope.now) }
+    ensures { Gives (λ r. r) (λ e. e) result (validated_over select.now flags.now scope.now) }
 {
     check_bounds(alloc, scope.bounds.items())?;
     resolve_parts(alloc, select, flags, scope)
 }
 
 /// What is shown, which combinations are kept, and in which order.
-#[tactic(auto, unfolding(crate::specs::Judged::parts_judged))]
+#[tactic(auto, unfolding(crate::specs::Validated::parts_validated))]
 fn resolve_parts(
     alloc: Global,
     select: &Select,
     flags: &Flags,
     scope: &Scope,
 ) -> Result<Resolved, Or<SqlError>>
-    ensures { Gives (λ r. r) (λ e. e) result (parts_judged select.now flags.now scope.now) }
+    ensures { Gives (λ r. r) (λ e. e) result (parts_validated select.now flags.now scope.now) }
 {
     let shown = show(alloc, flags, scope, select)?;
     if shown.columns.items().len() > MOST_COLUMNS {

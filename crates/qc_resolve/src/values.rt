@@ -7,13 +7,13 @@ ghost use Rattle.qc_sql.specs.Rules.{in_capitals};
 ghost use Rattle.qc_types.specs.Answers.{Gives};
 ghost use Rattle.qc_resolve.specs.declared.formula.Formula.TheVariants as form;
 ghost use Rattle.qc_resolve.specs.Columns.{found_at};
-ghost use Rattle.qc_resolve.specs.Values.{computed, column_judged, sum_judged, best_judged, call_judged, database_value, formula_in_row, row_judged, ways};
-ghost use Rattle.qc_resolve.specs.Views.{spot_of, sort_of, judged_of};
+ghost use Rattle.qc_resolve.specs.Values.{computed, column_validated, sum_validated, best_validated, call_validated, database_value, formula_in_row, row_validated, ways};
+ghost use Rattle.qc_resolve.specs.Views.{spot_of, sort_of, validated_of};
 
 use crate::columns::{Found, find_column};
 use crate::formula::{Formula, Formulas};
 use crate::scope::Scope;
-use qc_errors::not_supported;
+use qc_sql::errors::not_supported;
 use qc_sql::statements::Expr;
 use qc_sql::tables::Kind;
 use qc_sql::words::in_capitals;
@@ -58,7 +58,7 @@ pub fn row_value<'a>(
     scope: &'a Scope,
     expr: &Expr,
 ) -> Result<Valued<'a>, Or<SqlError>>
-    ensures { Gives judged_of (λ e. e) result (row_judged scope.now expr.now) }
+    ensures { Gives validated_of (λ e. e) result (row_validated scope.now expr.now) }
 {
     match expr {
         Expr::Column(name) => Ok(column_value(find_column(alloc, scope, name)?)),
@@ -105,7 +105,7 @@ fn row_values(alloc: Global, scope: &Scope, exprs: &[Expr]) -> Result<Formulas, 
 }
 
 pub fn computed<'a>(sort: Sort, formula: Formula) -> Valued<'a>
-    ensures { judged_of result ≡ computed (sort_of sort) formula }
+    ensures { validated_of result ≡ computed (sort_of sort) formula }
 {
     Valued {
         sort,
@@ -115,7 +115,7 @@ pub fn computed<'a>(sort: Sort, formula: Formula) -> Valued<'a>
 }
 
 fn column_value(found: Found<'_>) -> Valued<'_>
-    ensures { judged_of result ≡ column_judged (spot_of found.entry) }
+    ensures { validated_of result ≡ column_validated (spot_of found.entry) }
 {
     Valued {
         sort: sort_of_kind(found.column.kind),
@@ -125,7 +125,7 @@ fn column_value(found: Found<'_>) -> Valued<'_>
 }
 
 pub fn literal_value<'a>(alloc: Global, value: &Value) -> Result<Valued<'a>, NoMemory>
-    ensures { IfOk result (λ v. judged_of v ≡ computed (meant.sort_of_value value.now) (form.Literal value.now)) }
+    ensures { IfOk result (λ v. validated_of v ≡ computed (meant.sort_of_value value.now) (form.Literal value.now)) }
 {
     let formula = Formula::Literal(value.duplicate(alloc)?);
     Ok(computed(sort_of_literal(value), formula))
@@ -137,7 +137,7 @@ pub fn sum_value<'a>(
     found: &Found<'a>,
     formula: Formula,
 ) -> Result<Valued<'a>, Or<SqlError>>
-    ensures { Gives judged_of (λ e. e) result (sum_judged (spot_of found.now) formula) }
+    ensures { Gives validated_of (λ e. e) result (sum_validated (spot_of found.now) formula) }
 {
     match found.column.kind {
         Kind::Int => Ok(Valued {
@@ -151,7 +151,7 @@ pub fn sum_value<'a>(
 
 /// The least or the greatest value of a column, by this formula.
 pub fn best_value(found: Found<'_>, formula: Formula) -> Valued<'_>
-    ensures { judged_of result ≡ best_judged (spot_of found.entry) formula }
+    ensures { validated_of result ≡ best_validated (spot_of found.entry) formula }
 {
     Valued {
         sort: sort_of_kind(found.column.kind),
@@ -167,7 +167,7 @@ pub fn call_value<'a>(
     word: &[u8],
     arguments: usize,
 ) -> Result<Valued<'a>, Or<SqlError>>
-    ensures { Gives judged_of (λ e. e) result (call_judged scope.now (in_capitals word.now) arguments) }
+    ensures { Gives validated_of (λ e. e) result (call_validated scope.now (in_capitals word.now) arguments) }
 {
     let word = in_capitals(alloc, word)?;
     if word.bytes() == b"DATABASE".as_slice() && arguments == 0 {

@@ -4,13 +4,11 @@
 mod asked;
 mod calls;
 mod functions;
-mod judge;
 mod tables;
-#[cfg(test)]
-mod tests;
+mod validate;
 mod verdicts;
 
 pub use asked::asks;
-pub use judge::verdict;
 pub use qc_sql::session::Asked;
+pub use validate::verdict;
 pub use verdicts::Verdict;

@@ -4,7 +4,7 @@ ghost use Rattle.std.specs.Prelude.{◌≡◌, find, map, IfOk};
 ghost use Rattle.std.specs.List.{list_any};
 ghost use Rattle.qc_sql.specs.Rules.{full_name, is_system, same_word, system_databases};
 
-use qc_lex::is_same_word;
+use qc_lex::is_one_of;
 use qc_sql::statements::{Source, TableRef};
 use qc_types::{NoMemory, TableName, Text};
 use std::alloc::Global;
@@ -47,16 +47,4 @@ fn is_system(db: &[u8]) -> bool
     ensures { result ≡ list_any (same_word db.now) system_databases }
 {
     is_one_of(db, &SYSTEM_DATABASES)
-}
-
-/// Whether a name is one of these, in any case.
-fn is_one_of(name: &[u8], others: &[&str]) -> bool
-    ensures { result ≡ list_any (same_word name.now) (map (λ other. other.now) others.now) }
-{
-    for other in others {
-        if is_same_word(name, other.as_bytes()) {
-            return true;
-        }
-    }
-    false
 }

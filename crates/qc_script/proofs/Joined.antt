@@ -31,10 +31,10 @@ event_lines-push n (x ∷ es) e =
 -- the line of one event more
 event_line_more : (es : List Event) (i : ℕ) (e : Event) → i < length es → e ≡ get_or es i e → lines (event_lines 1 (take (i + 1) es)) ≡ lines (event_lines 1 (take i es)) ++ lines (fields (decimal (i + 1) ∷ event_fields e) ∷ [])
 event_line_more es i e h is =
-    let front = take i es in
-    let taken : take (i + 1) es ≡ front ++ e ∷ [] = take_more es i e h ∙ ap (λ x. front ++ x ∷ []) (sym is) in
-    let numbered : 1 + length front ≡ i + 1 = omega (arith, length-take-le i es) in
-    ap (λ x. lines (event_lines 1 x)) taken ∙ ap lines (rw numbered at (event_lines-push 1 front e)) ∙ flat_map-append (λ t. t ++ 10 ∷ []) (event_lines 1 front) _
+    let earlier = take i es in
+    let taken : take (i + 1) es ≡ earlier ++ e ∷ [] = take_more es i e h ∙ ap (λ x. earlier ++ x ∷ []) (sym is) in
+    let numbered : 1 + length earlier ≡ i + 1 = omega (arith, length-take-le i es) in
+    ap (λ x. lines (event_lines 1 x)) taken ∙ ap lines (rw numbered at (event_lines-push 1 earlier e)) ∙ flat_map-append (λ t. t ++ 10 ∷ []) (event_lines 1 earlier) _
 
 -- the lines of a journal, one more put behind them
 pub journal_more : (old before after : Text) (es : List Event) (i : ℕ) (e : Event) → before ≡ old ++ lines (event_lines 1 (take i es)) → i < length es → e ≡ get_or es i e → after ≡ before ++ lines (fields (decimal (i + 1) ∷ event_fields e) ∷ []) → after ≡ old ++ lines (event_lines 1 (take (i + 1) es))

@@ -59,6 +59,3 @@ fn put_counters(alloc: Global, counters: Counters, out: &mut Text) -> Result<(),
     )?;
     out.extend(b"\n")
 }
-
-#[cfg(test)]
-mod tests;

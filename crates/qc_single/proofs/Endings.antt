@@ -1,36 +1,33 @@
 -- How the open transaction ends, by the machine.
-use Rattle.std.proofs.Common.{◌≡◌, ℕ, ◌+◌, ◌≤◌, Bool, true, false, cond, List, [], ◌∷◌, length, refl, sym, ap, ◌∙◌, subst, None, Some, Ok, Err, Option, Result, true≢false, arith}
-use Rattle.std.specs.Prelude.{◌&&◌, nat_le, nat_lt, unwrap_or}
+use Rattle.std.proofs.Common.{◌≡◌, ℕ, ◌+◌, ◌≤◌, true, List, [], ◌∷◌, refl, sym, ap, ◌∙◌, subst, None, Some, Option, Result}
+use Rattle.std.specs.Prelude.{◌&&◌}
 use Rattle.std.specs.List.{list_all}
-use Rattle.std.proofs.lemmas.Bool.{and_from}
-use Rattle.std.proofs.lemmas.Bool.Decides.{nat_tests}
 use Rattle.qc_types.specs.declared.options.Options.{Options}
 use Rattle.qc_types.specs.declared.names.TableName.{TableName}
 use Rattle.qc_types.specs.declared.sql_error.SqlError.{SqlError}
 use Rattle.qc_sql.specs.declared.tables.RowOp.{RowOp}
 use Rattle.qc_sql.specs.declared.statements.Statement.{Statement}
-use Rattle.qc_sql.specs.Database.{Name, Database, Tables, apply}
+use Rattle.qc_sql.specs.Database.{Database, apply}
 use Rattle.qc_sql.specs.Effects.{Effect, effect}
 use Rattle.qc_sql.specs.Errors.{write_conflict, table_full}
 use Rattle.qc_model.specs.declared.events.Event.TheVariants as event
 use Rattle.qc_model.specs.declared.events.How.TheVariants as how
-use Rattle.qc_model.specs.Journal.{Journal, present, before}
-use Rattle.qc_model.specs.Session.{State, Transaction, own_operations, at_snapshot, with_transaction}
+use Rattle.qc_model.specs.Journal.{Journal, present}
+use Rattle.qc_model.specs.Session.{State, Transaction, own_operations, with_transaction}
 use Rattle.qc_model.specs.Conflicts.{Conflict, conflict_of}
-use Rattle.qc_model.specs.Licence.{is_within_rows, most_rows, ops_fit}
-use Rattle.qc_model.specs.Machine.{Given, conflict_in, full_in, full_table, ending, ended_with, changed_form, committed, ok_reply, refused}
+use Rattle.qc_model.specs.Licence.{ops_fit}
+use Rattle.qc_model.specs.Machine.{Given, conflict_in, full_table, ending, changed_form, form_given, refused}
 use Rattle.qc_single.specs.Sound.{next_who, IsSound, IsFitAt, IsFitIn, IsFitState, MayFollow, is_small_operation}
 use Rattle.qc_single.specs.Ends.{Ends}
 use Rattle.qc_single.specs.declared.ending.Ending.TheVariants as ended
-use Rattle.qc_single.specs.Going.{forms_given}
 use Rattle.qc_single.proofs.Shorts.{stay_short, full_short}
 use Rattle.qc_single.proofs.Sounds.{small_parts}
-use Rattle.qc_bounds.specs.Replies.{FitsError}
-use Rattle.qc_bounds.proofs.Answered.{table_full_fits}
-use Rattle.qc_fits.proofs.Full.{none_is_full}
-use Rattle.qc_fits.proofs.Kept.{kept_snapshots_fit}
-use Rattle.qc_fits.proofs.Journals.{lawful_commits_fit}
-use Rattle.qc_trx.specs.Standings.{Standing}
+use Rattle.qc_laws.specs.sizes.Replies.{FitsError}
+use Rattle.qc_laws.proofs.sizes.Answered.{table_full_fits}
+use Rattle.qc_laws.proofs.fits.Full.{none_is_full}
+use Rattle.qc_laws.proofs.fits.Kept.{kept_snapshots_fit}
+use Rattle.qc_laws.proofs.fits.Journals.{lawful_commits_fit}
+use Rattle.qc_trx.specs.SnapshotStates.{SnapshotState}
 
 -- ---- by the three cases
 
@@ -47,25 +44,8 @@ pub commit_ends : (J : Journal) (state : State) (go : List RowOp → Given) → 
 commit_ends J state go h f = rw (h, f) refl
 
 pub forms_end : (J : Journal) (state : State) (s : Statement) (r : Result Effect SqlError) → conflict_in state J ≡ None → full_table (apply (own_operations state) (present J)) ≡ None
-    → effect s (apply (own_operations state) (present J)) state.db state.session ≡ r → forms_given J state (own_operations state) r ≡ changed_form (next_who J) state J s
-forms_end J state s (Ok x) h f e = rw (h, f, e) refl
-forms_end J state s (Err x) h f e = rw (h, f, e) refl
-
--- whatever ends it
-pub changed_ends : (J : Journal) (state : State) (s : Statement)
-    → ending (next_who J) state J (λ own. forms_given J state own (effect s (apply own (present J)) state.db state.session)) ≡ changed_form (next_who J) state J s
-changed_ends J state s = by (conflict_in state J) refl
-  where
-    go : List RowOp → Given
-    go own = forms_given J state own (effect s (apply own (present J)) state.db state.session)
-
-    room : conflict_in state J ≡ None → (f : Option TableName) → full_table (apply (own_operations state) (present J)) ≡ f → ending (next_who J) state J go ≡ changed_form (next_who J) state J s
-    room h (Some t) f = rw (h, f) refl
-    room h None f = let is : ending (next_who J) state J go ≡ go (own_operations state) = rw (h, f) refl in is ∙ forms_end J state s (effect s (apply (own_operations state) (present J)) state.db state.session) h f refl
-
-    by : (c : Option Conflict) → conflict_in state J ≡ c → ending (next_who J) state J go ≡ changed_form (next_who J) state J s
-    by (Some c) h = rw h refl
-    by None h = room h (full_table (apply (own_operations state) (present J))) refl
+    → effect s (apply (own_operations state) (present J)) state.db state.session ≡ r → form_given (next_who J) state (own_operations state) r ≡ changed_form (next_who J) state J s
+forms_end J state s r h f e = ap (form_given (next_who J) state (own_operations state)) (sym e) ∙ commit_ends J state (λ own. form_given (next_who J) state own (effect s (apply own (present J)) state.db state.session)) h f
 
 -- ---- the operations of a transaction that no later commit met
 
@@ -88,15 +68,15 @@ sound_at : {o : Options} (J : Journal) (d : Database) → IsSound o J d → IsSo
 sound_at {o} J d s = subst (λ (x : Database). IsSound o J x) s.database s
 
 -- they fit the database as it is now
-pub own_fits : {o : Options} (J : Journal) (d : Database) (x : Standing) → IsSound o J d → IsFitState J x → conflict_in x.state J ≡ None → ops_fit (own_operations x.state) (present J) ≡ true
+pub own_fits : {o : Options} (J : Journal) (d : Database) (x : SnapshotState) → IsSound o J d → IsFitState J x → conflict_in x.state J ≡ None → ops_fit (own_operations x.state) (present J) ≡ true
 own_fits J d x s f h = (fit_with J x.state x.state.transaction x.origin f.transaction (sound_at J d s) h).0
 
 -- and are small
-pub own_small : {o : Options} (J : Journal) (d : Database) (x : Standing) → IsSound o J d → IsFitState J x → conflict_in x.state J ≡ None → list_all is_small_operation (own_operations x.state) ≡ true
+pub own_small : {o : Options} (J : Journal) (d : Database) (x : SnapshotState) → IsSound o J d → IsFitState J x → conflict_in x.state J ≡ None → list_all is_small_operation (own_operations x.state) ≡ true
 own_small J d x s f h = (fit_with J x.state x.state.transaction x.origin f.transaction (sound_at J d s) h).1
 
 -- a table that would be too full with them can be told of
-pub full_fits : {o : Options} (J : Journal) (d : Database) (x : Standing) (t : TableName) → IsSound o J d → IsFitState J x → conflict_in x.state J ≡ None → full_table (apply (own_operations x.state) (present J)) ≡ Some t → FitsError (table_full t)
+pub full_fits : {o : Options} (J : Journal) (d : Database) (x : SnapshotState) (t : TableName) → IsSound o J d → IsFitState J x → conflict_in x.state J ≡ None → full_table (apply (own_operations x.state) (present J)) ≡ Some t → FitsError (table_full t)
 full_fits J d x t s f h full =
     let now = sound_at J d s in
     let orderly = now.orderly in
@@ -105,12 +85,12 @@ full_fits J d x t s f h full =
     table_full_fits t names.0 names.1
 
 -- and may be carried out on it, where no table would be too full
-pub own_follows : {o : Options} (J : Journal) (d : Database) (x : Standing) → IsSound o J d → IsFitState J x → conflict_in x.state J ≡ None → full_table (apply (own_operations x.state) (present J)) ≡ None
+pub own_follows : {o : Options} (J : Journal) (d : Database) (x : SnapshotState) → IsSound o J d → IsFitState J x → conflict_in x.state J ≡ None → full_table (apply (own_operations x.state) (present J)) ≡ None
     → MayFollow (own_operations x.state) d
 own_follows J d x s f h full =
     let p = fit_with J x.state x.state.transaction x.origin f.transaction (sound_at J d s) h in
     subst (λ (e : Database). MayFollow (own_operations x.state) e) (sym s.database) (record { small = p.1; fit = p.0; within = none_is_full (apply (own_operations x.state) (present J)) full })
 
 -- the same, as the session has them when its transaction has ended so
-pub ended_follows : {o : Options} (J : Journal) (d database : Database) (x : Standing) → IsSound o J d → IsFitState J x → Ends x.state J (ended.Commits database) → MayFollow (own_operations x.state) d
+pub ended_follows : {o : Options} (J : Journal) (d database : Database) (x : SnapshotState) → IsSound o J d → IsFitState J x → Ends x.state J (ended.Commits database) → MayFollow (own_operations x.state) d
 ended_follows J d database x s f e = own_follows J d x s f e.0 e.1

@@ -9,9 +9,9 @@ use Rattle.qc_model.specs.declared.reports.Ending.{Ending}
 use Rattle.qc_model.specs.declared.reports.ReportLine.{ReportLine}
 use Rattle.qc_model.specs.Journal.{Journal}
 use Rattle.qc_model.specs.Agrees.{Agrees, commands_of}
-use Rattle.qc_sessions.specs.Runs.{Stand, stand, Runs, Answers, report_of}
-use Rattle.qc_sessions.proofs.Whole.{runs_agree}
-use Rattle.qc_sessions.proofs.Composes.{compose, quiet, answered}
+use Rattle.qc_laws.specs.runs.Runs.{Position, stand, Runs, Answers, report_of}
+use Rattle.qc_laws.proofs.runs.Whole.{runs_agree}
+use Rattle.qc_laws.proofs.runs.Composes.{compose, quiet, answered}
 use Rattle.qc_single.specs.Stage.{first_machine}
 use Rattle.qc_single.specs.Sound.{IsSound}
 use Rattle.qc_single.specs.Going.{begun}
@@ -22,7 +22,7 @@ pub runs_none : (options : Options) → Runs first_machine options 1 (begun opti
 runs_none options = quiet first_machine options 1 (begun options) [] refl
 
 -- a command more
-pub runs_more : (options : Options) (cs : List Command) (ls : List ReportLine) (a b : Stand) (c : Command) (l : ReportLine) → a.place ≤ length a.seen
+pub runs_more : (options : Options) (cs : List Command) (ls : List ReportLine) (a b : Position) (c : Command) (l : ReportLine) → a.place ≤ length a.seen
     → Runs first_machine options 1 (begun options) cs ls a → Answers first_machine options 1 a c l b → Runs first_machine options 1 (begun options) (cs ++ c ∷ []) (ls ++ l ∷ []) b
 runs_more options cs ls a b c l at r x =
     compose first_machine options 1 (begun options) a b cs (c ∷ []) ls (l ∷ []) (omega arith) r (answered first_machine options 1 a b c l at x)

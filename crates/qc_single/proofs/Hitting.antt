@@ -1,6 +1,6 @@
 -- A text that the cache answers.
-use Rattle.std.proofs.Common.{◌≡◌, ◌+◌, ℕ, Bool, true, false, cond, List, [], ◌∷◌, ◌++◌, length, refl, sym, ap, subst, ◌∙◌, true≢false}
-use Rattle.std.specs.Prelude.{◌==◌, ◌&&◌, Option, Some, None, Ok, find, map, nat_lt, option_map, IsSomeAnd, MatchOption}
+use Rattle.std.proofs.Common.{◌≡◌, ◌+◌, ℕ, Bool, true, false, cond, List, [], ◌∷◌, ◌++◌, length, refl, sym, ap, subst, ◌∙◌}
+use Rattle.std.specs.Prelude.{◌==◌, ◌&&◌, Option, Some, None, find, IsSomeAnd}
 use Rattle.std.proofs.lemmas.Bool.{and_parts}
 use Rattle.qc_types.specs.declared.names.Why.{Why}
 use Rattle.qc_types.specs.declared.names.Why.TheVariants as why
@@ -12,25 +12,25 @@ use Rattle.qc_sql.specs.Rules.{why_not, first_of_tables, first_of_calls, is_syst
 use Rattle.qc_model.specs.declared.events.Event.{Event}
 use Rattle.qc_model.specs.declared.events.Event.TheVariants as event
 use Rattle.qc_model.specs.declared.events.How.TheVariants as how
-use Rattle.qc_model.specs.Journal.{Journal, present}
+use Rattle.qc_model.specs.Journal.{present}
 use Rattle.qc_model.specs.Cache.{Entry, cache}
 use Rattle.qc_model.specs.Cache as entries
 use Rattle.qc_model.specs.Choice.{Allows, has_key, is_visible}
 use Rattle.qc_model.specs.Machine.{Given}
-use Rattle.qc_model.specs.Session.{State, answer, arrived, key_of_text, opened, snapshot_taken, with_transaction}
-use Rattle.qc_history.specs.Answers.{AnswersText, packets_of}
-use Rattle.qc_history.proofs.Answers.{hits_answer}
-use Rattle.qc_kept.specs.declared.answers.KeptAnswer.{KeptAnswer}
-use Rattle.qc_kept.specs.Kept.{used_again}
+use Rattle.qc_model.specs.Session.{answer, arrived, key_of_text}
+use Rattle.qc_laws.specs.history.Answers.{AnswersText, packets_of}
+use Rattle.qc_laws.proofs.history.Answers.{hits_answer}
+use Rattle.qc_single.specs.declared.entries.StoredEntry.{StoredEntry}
+use Rattle.qc_single.specs.Entries.{used_again}
 use Rattle.std.proofs.lemmas.Slice.Eq.{bytes_eq-Decides}
 use Rattle.qc_single.specs.declared.hits.Found.{Found}
 use Rattle.qc_single.specs.declared.session.Session.{Session}
-use Rattle.qc_single.specs.Sound.{next_who, arrived_standing, IsCached}
-use Rattle.qc_single.specs.Going.{Adds, Arrives, DoesOne, GivesOut, IsFit, Logs, SelectsOut, select_given}
-use Rattle.qc_single.specs.Choosing.{state_at, answering_now, HasFound}
+use Rattle.qc_single.specs.Sound.{next_who, arrived_snapshot_state, IsCached}
+use Rattle.qc_single.specs.Going.{Adds, Arrives, DoesOne, IsFit, Logs, SelectsOut, select_given}
+use Rattle.qc_single.specs.Choosing.{state_at, HasFound}
 use Rattle.qc_single.proofs.Caches.{hit_cached, is_complete}
 use Rattle.qc_single.proofs.Journals.{may_decide}
-use Rattle.qc_single.proofs.Looking.{place_at}
+use Rattle.qc_single.proofs.Looking.{found_test, place_at}
 use Rattle.qc_single.proofs.Methods.{fit_event, given_out, logs_event}
 use Rattle.qc_single.proofs.States.{fit_arrived}
 use Rattle.qc_single.proofs.Statements.{select_does, some_there}
@@ -38,7 +38,7 @@ use Rattle.qc_single.proofs.Statements.{select_does, some_there}
 -- ---- a session in which a statement on rows has arrived
 
 abbrev pub arrived_in : Session → Session
-arrived_in s = record s { state = arrived_standing (length s.journal.events + 1) s.database s.state }
+arrived_in s = record s { state = arrived_snapshot_state (length s.journal.events + 1) s.database s.state }
 
 pub arrived_fit : (s : Session) → IsFit s → IsFit (arrived_in s)
 arrived_fit s f = record {
@@ -66,16 +66,9 @@ names_tables db s h = elim s.lock as (λ b. (cond b (Some why.Locking) (cond (le
     rest : Select → Option Why
     rest x = first_of_tables (find is_system (select_tables db x)) (first_of_calls (find is_uncached (select_calls x)))
 
--- it is judged in the state that the session has then
+-- it is validated in the state that the session has then
 pub state_is : (s : Session) (select : Select) → (length select.from == 0) ≡ false → arrived (length s.journal.events + 1) (statement.Select select) s.state.state ≡ state_at s
 state_is s select some = rw (some_there (length select.from) some) refl
-
-pub found_test : (p : Entry → Bool) (es : List Entry) (x : Entry) → find p es ≡ Some x → p x ≡ true
-found_test p [] x h = absurd cc
-found_test p (e ∷ es) x h = elim (p e) as (λ b. p e ≡ b → cond b (Some e) (find p es) ≡ Some x → p x ≡ true) [
-  | true ↦ λ is g. let same : e ≡ x = cc in subst (λ (y : Entry). p y ≡ true) same is
-  | false ↦ λ is g. found_test p es x g
-] refl h
 
 -- what the entry that was found answers
 answers_text : (s : Session) (text : List ℕ) (found : Found) → IsFit s → (h : HasFound s text found) → AnswersText (state_at s) s.journal.events text h.entry
@@ -92,7 +85,7 @@ same_bytes : (o : Option (List ℕ)) (a b : List ℕ) → o ≡ Some a → o ≡
 same_bytes o a b h g = let both : Some a ≡ Some b = sym h ∙ g in cc
 
 -- the session has arrived, and the answer was used again
-pub hit_does : (s mid new : Session) (text : List ℕ) (found : Found) → IsFit s → HasFound s text found → mid ≡ record (arrived_in s) { kept = used_again found.serial s.kept }
+pub hit_does : (s mid new : Session) (text : List ℕ) (found : Found) → IsFit s → HasFound s text found → mid ≡ record (arrived_in s) { entries = used_again found.serial s.entries }
     → Adds mid new (event.Run (next_who s.journal.events) (how.Hit found.serial)) found.reply → DoesOne (command.Query text) s new
 hit_does s mid new text found fit h is a =
     let J = s.journal.events in
@@ -106,10 +99,10 @@ hit_does s mid new text found fit h is a =
     let whole : IsSomeAnd (entries.entry_of n (cache J)) (λ x. x.complete ≡ true) =
     subst (λ m. IsSomeAnd (entries.entry_of m (cache J)) (λ x. x.complete ≡ true)) (sym h.serial)
     (subst (λ (es : List Entry). IsSomeAnd (entries.entry_of h.entry.serial es) (λ x. x.complete ≡ true)) (sym c.entries)
-    (is_complete test s.kept h.entry (subst (λ (es : List Entry). find test es ≡ Some h.entry) c.entries h.is))) in
+    (is_complete test s.entries h.entry (subst (λ (es : List Entry). find test es ≡ Some h.entry) c.entries h.is))) in
     let next : IsFit new = fit_event old mid new e found.reply (arrived_fit s fit) (ap (λ (x : Session). x.journal) is) (ap (λ (x : Session). x.database) is) (ap (λ (x : Session). x.state) is)
-    (ap (λ (x : Session). x.number) is) (ap (λ (x : Session). x.options) is) refl refl refl (may_decide J s.kept c, whole)
-    (subst (λ (ks : List KeptAnswer). IsCached (J ++ e ∷ []) ks) (sym (ap (λ (x : Session). x.kept) is)) (hit_cached s.options J (next_who J) n s.kept sound.lawful c)) a in
+    (ap (λ (x : Session). x.number) is) (ap (λ (x : Session). x.options) is) refl refl refl (may_decide J s.entries c, whole)
+    (subst (λ (ks : List StoredEntry). IsCached (J ++ e ∷ []) ks) (sym (ap (λ (x : Session). x.entries) is)) (hit_cached s.options J (next_who J) n s.entries sound.lawful c)) a in
     let logs : Logs old new e found.reply = logs_event old mid new e found.reply (ap (λ (x : Session). x.journal) is) (ap (λ (x : Session). x.lines) is) (ap (λ (x : Session). x.state) is) (ap (λ (x : Session). x.options) is) refl (λ K. refl) a next in
     let ans = answers_text s text found fit h in
     let select = ans.select in
@@ -118,4 +111,5 @@ hit_does s mid new text found fit h is a =
     let g : Given = select_given J (state_at s) select (how.Hit n) in
     let allowed : Allows s.options (state_at s) text select J (how.Hit n) = rw (h.asked, h.is) (ap how.Hit h.serial) in
     let out : SelectsOut old new text select = (how.Hit n, allowed, given_out old new g found.reply reply refl logs) in
-    select_does select text s old new fit (record { journal = refl; lines = refl; options = refl }) (sym (state_is s select some)) ans.means out
+    select_does select text s old new fit (record { journal = refl; lines = refl; options = refl }) (sym (state_is s select some)) ans.means
+    (λ how_is may hit. record { asked = h.asked; entry = h.entry; is = h.is }) out

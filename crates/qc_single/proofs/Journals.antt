@@ -13,12 +13,12 @@ use Rattle.qc_model.specs.declared.events.How.{How}
 use Rattle.qc_model.specs.declared.events.How.TheVariants as how
 use Rattle.qc_model.specs.declared.events.Reason.TheVariants as reason
 use Rattle.qc_model.specs.Journal.{Journal, is_by, events_of, event_count, last_event}
-use Rattle.qc_model.specs.Cache.{Entry, cache, is_hit, is_start}
+use Rattle.qc_model.specs.Cache.{cache}
 use Rattle.qc_model.specs.Licence.{MayDecide, starts_serial}
 use Rattle.qc_model.specs.Needs.{NeedsFrom, HasNeeds, HasOwnNeeds}
 use Rattle.qc_model.specs.Agrees.{fill_ends}
-use Rattle.qc_kept.specs.declared.answers.KeptAnswer.{KeptAnswer}
-use Rattle.qc_single.specs.Sound.{next_who, is_own_reason, is_quiet, is_simple, entry_of, IsCached}
+use Rattle.qc_single.specs.declared.entries.StoredEntry.{StoredEntry}
+use Rattle.qc_single.specs.Sound.{next_who, is_quiet, is_simple, entry_of, IsCached}
 
 -- ---- one event more
 
@@ -82,14 +82,14 @@ count_none J e h =
 -- ---- what it may do next
 
 -- all of its entries are complete
-none_filling : (J : Journal) (kept : List KeptAnswer) → list_any (λ entry. not entry.complete && starts_serial entry.serial (last_event J 1)) (map entry_of kept) ≡ false
+none_filling : (J : Journal) (stored : List StoredEntry) → list_any (λ entry. not entry.complete && starts_serial entry.serial (last_event J 1)) (map entry_of stored) ≡ false
 none_filling J [] = refl
-none_filling J (a ∷ kept) = none_filling J kept
+none_filling J (a ∷ stored) = none_filling J stored
 
-pub may_decide : (J : Journal) (kept : List KeptAnswer) → IsCached J kept → MayDecide J (next_who J)
-may_decide J kept c = record {
+pub may_decide : (J : Journal) (stored : List StoredEntry) → IsCached J stored → MayDecide J (next_who J)
+may_decide J stored c = record {
   next = refl;
-  not_filling = ap (λ entries. list_any (λ entry. not entry.complete && starts_serial entry.serial (last_event J 1)) entries) c.entries ∙ none_filling J kept;
+  not_filling = ap (λ entries. list_any (λ entry. not entry.complete && starts_serial entry.serial (last_event J 1)) entries) c.entries ∙ none_filling J stored;
 }
 
 -- ---- no prune and no want of room

@@ -1,7 +1,6 @@
 -- What a statement on rows keeps.
 use Rattle.std.proofs.Common.{◌≡◌, true, List, [], refl, sym, ap, ◌∙◌, subst, Some, None, Ok, Err, Result, true≢false, ◌⊎◌, inl, inr}
 use Rattle.std.specs.Prelude.{IsSome, is_some}
-use Rattle.qc_types.specs.declared.options.Options.{Options}
 use Rattle.qc_types.specs.declared.names.TableName.{TableName}
 use Rattle.qc_types.specs.declared.sql_error.SqlError.{SqlError}
 use Rattle.qc_sql.specs.declared.tables.RowOp.{RowOp}
@@ -14,22 +13,22 @@ use Rattle.qc_model.specs.Journal.{present}
 use Rattle.qc_model.specs.Licence.{is_within_rows}
 use Rattle.qc_model.specs.Machine.{full_table}
 use Rattle.qc_model.specs.Session.{base}
-use Rattle.qc_bounds.specs.Names.{is_short_statement}
-use Rattle.qc_bounds.specs.Replies.{FitsError}
-use Rattle.qc_bounds.proofs.Changes.{change_errors_fit}
-use Rattle.qc_fits.specs.Sound.{rows_changed_by}
-use Rattle.qc_fits.proofs.Changes.{changes_fit, changes_stay_within}
-use Rattle.qc_fits.proofs.Full.{within_is_not_full}
-use Rattle.qc_fits.proofs.RowChanges.{changes_are_rows}
-use Rattle.qc_trx.specs.Standings.{Standing, seen_on, added}
+use Rattle.qc_laws.specs.sizes.Names.{is_short_statement}
+use Rattle.qc_laws.specs.sizes.Replies.{FitsError}
+use Rattle.qc_laws.proofs.sizes.Changes.{change_errors_fit}
+use Rattle.qc_laws.specs.fits.Sound.{rows_changed_by}
+use Rattle.qc_laws.proofs.fits.Changes.{changes_fit, changes_stay_within}
+use Rattle.qc_laws.proofs.fits.Full.{within_is_not_full}
+use Rattle.qc_laws.proofs.fits.RowChanges.{changes_are_rows}
+use Rattle.qc_trx.specs.SnapshotStates.{SnapshotState, seen_on, added}
 use Rattle.qc_single.specs.declared.session.Session.{Session}
 use Rattle.qc_single.specs.Stage.{changes_rows}
-use Rattle.qc_single.specs.Sound.{IsSound, IsOrderly, IsFitState, AreOwn}
+use Rattle.qc_single.specs.Sound.{IsOrderly, IsFitState, AreOwn}
 use Rattle.qc_single.specs.Going.{IsFit}
 use Rattle.qc_single.proofs.Smalls.{change_small}
 use Rattle.qc_single.proofs.States.{base_is, orderly_base, seen_there, fit_added}
 
--- the database that a session shows is the one on which its statements are judged
+-- the database that a session shows is the one on which its statements are validated
 pub view_is : (s : Session) (view : Database) → IsFit s → view ≡ seen_on s.database s.state → view ≡ base s.state.state s.journal.events
 view_is s view f seen =
     let sound = f.sound in
@@ -47,7 +46,7 @@ effect_seen st s view db r f seen named is =
     (subst (λ (x : Database). effect st x db 1 ≡ r) (view_is s view f seen) is))
 
 -- where a transaction is open when a statement on rows has arrived, it has a snapshot
-pub snapshot_there : (x : Standing) → x.state.transaction ≡ None ⊎ IsSome x.origin → is_some x.state.transaction ≡ true → is_some x.origin ≡ true
+pub snapshot_there : (x : SnapshotState) → x.state.transaction ≡ None ⊎ IsSome x.origin → is_some x.state.transaction ≡ true → is_some x.origin ≡ true
 snapshot_there x (inl h) g = absurd (true≢false (sym g ∙ ap is_some h))
 snapshot_there x (inr h) g = h
 
@@ -65,7 +64,7 @@ added_fit s next ops f there own state same =
     let J = s.journal.events in
     let with : IsFit (record s { state = next.state }) = record {
       sound = f.sound;
-      state = subst (λ (x : Standing). IsFitState J x) (sym state) (fit_added J s.state ops f.state there own);
+      state = subst (λ (x : SnapshotState). IsFitState J x) (sym state) (fit_added J s.state ops f.state there own);
       cached = f.cached;
       words = f.words;
       numbered = f.numbered;
@@ -73,7 +72,7 @@ added_fit s next ops f there own state same =
     } in
     subst IsFit (sym same) with
 
--- the database on which a session's statements are judged is orderly
+-- the database on which a session's statements are validated is orderly
 seen_orderly : (s : Session) → IsFit s → IsOrderly (base s.state.state s.journal.events)
 seen_orderly s f = orderly_base s.journal.events s.database s.state f.sound f.state
 

@@ -23,3 +23,9 @@ pub mod Sizes
 pub mod Choices
 pub mod Switches
 pub mod TableChanges
+mod examples
+pub mod Cutting
+pub mod Moves
+pub mod Packets
+pub mod Values
+pub mod Words

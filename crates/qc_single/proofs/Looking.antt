@@ -1,36 +1,35 @@
 -- What a session finds in the cache.
-use Rattle.std.proofs.Common.{◌≡◌, ◌≢◌, ◌≤◌, ◌<◌, ◌+◌, ◌-◌, ◌^◌, ◌⊎◌, inl, inr, ℕ, zero, suc, Bool, true, false, cond, List, [], ◌∷◌, ◌++◌, length, refl, sym, ap, subst, ◌∙◌, arith, true≢false, eqb-true}
-use Rattle.std.specs.Prelude.{◌==◌, ◌&&◌, ◌||◌, not, map, Option, Some, None, find, is_some, nat_lt, nat_le, bytes_eq, option_map, IfSome, slice_get, MatchOption}
+use Rattle.std.proofs.Common.{◌≡◌, ◌≢◌, ◌≤◌, ◌<◌, ◌+◌, ◌-◌, ◌^◌, ◌⊎◌, ℕ, Bool, true, false, cond, List, [], ◌∷◌, ◌++◌, length, refl, sym, ap, subst, ◌∙◌, arith, true≢false}
+use Rattle.std.specs.Prelude.{◌==◌, ◌&&◌, ◌||◌, not, map, Option, Some, None, find, is_some, nat_lt, bytes_eq, option_map, IfSome, slice_get, MatchOption}
 use Rattle.std.specs.List.{list_all, list_any, AllByRecursion}
-use Rattle.std.proofs.lemmas.Bool.{and_parts}
+use Rattle.std.proofs.lemmas.Bool.{and_parts, and_from}
 use Rattle.std.proofs.lemmas.Bool.Decides.{nat_tests}
 use Rattle.std.proofs.lemmas.Slice.Eq.{bytes_eq-Decides}
 use Rattle.qc_types.specs.declared.names.TableName.{TableName}
-use Rattle.qc_types.specs.declared.options.Options.{Options}
 use Rattle.qc_sql.specs.declared.session.Flags.{Flags}
 use Rattle.qc_sql.specs.declared.tables.RowOp.{RowOp}
-use Rattle.qc_sql.specs.Database.{touches}
+use Rattle.qc_sql.specs.Keys as keys
+use Rattle.qc_sql.specs.Words.{◌or_else◌}
 use Rattle.qc_model.specs.declared.events.Event.{Event}
-use Rattle.qc_model.specs.Journal.{Journal, last_change, last_number, touches_table, present, event_at, operations}
+use Rattle.qc_model.specs.declared.events.Reason.TheVariants as reason
+use Rattle.qc_model.specs.Journal.{Journal, last_change, last_number, touches_table, present, operations}
 use Rattle.qc_model.specs.Cache.{Entry, cache}
-use Rattle.qc_model.specs.Choice.{answering, changed_since, has_key, is_stale, is_visible, wrote}
-use Rattle.qc_model.specs.Session.{State, Transaction, answer, flags_of, key_of_text, none_open, opened, own_operations, snapshot_of, snapshot_taken, with_transaction}
-use Rattle.qc_bounds.specs.Names.{is_short}
-use Rattle.qc_key.specs.Keyed as keyed
-use Rattle.qc_history.specs.Answers.{CanBeKeyed}
-use Rattle.qc_history.specs.Runs.{are_apart}
-use Rattle.qc_history.specs.Seen.{is_current, IsPlace}
-use Rattle.qc_history.proofs.Apart.{keys_apart}
-use Rattle.qc_history.proofs.Serials.{neither, opposite}
-use Rattle.qc_kept.specs.declared.answers.KeptAnswer.{KeptAnswer}
-use Rattle.qc_kept.specs.Kept.{answer_of}
+use Rattle.qc_model.specs.Choice.{changed_since, has_key, is_stale, is_visible, stale_reason, unseen_reason, wrote}
+use Rattle.qc_model.specs.Session.{State, Transaction, answer, flags_of, key_of_text, opened, snapshot_of, snapshot_taken, with_transaction}
+use Rattle.qc_laws.specs.history.Answers.{CanBeKeyed}
+use Rattle.qc_laws.specs.history.Runs.{are_apart}
+use Rattle.qc_laws.specs.history.Seen.{is_current, IsPlace}
+use Rattle.qc_laws.proofs.history.Apart.{keys_apart}
+use Rattle.qc_laws.proofs.history.Serials.{neither, opposite}
+use Rattle.qc_single.specs.declared.entries.StoredEntry.{StoredEntry}
+use Rattle.qc_single.specs.Entries.{entry_under}
 use Rattle.qc_single.specs.declared.hits.Found.{Found}
 use Rattle.qc_single.specs.declared.session.Session.{Session}
-use Rattle.qc_single.specs.Sound.{entry_of, IsCached, IsFitAt, IsFitIn, IsFitTransaction, IsFitState, HasSnapshot}
+use Rattle.qc_single.specs.Sound.{entry_of, IsFitAt, IsFitIn}
 use Rattle.qc_single.specs.Going.{IsFit}
-use Rattle.qc_single.specs.Choosing.{state_at, answering_now, is_asked_for, IsAnswered, IsMissed, HasNone, HasFound, Shows}
+use Rattle.qc_single.specs.Choosing.{state_at, answering_now, is_asked_for, IsAnswered, HasNone, HasFound, Shows}
 
--- ---- the state in which a select is judged
+-- ---- the state in which a select is validated
 
 in_trans_at : (autocommit : Bool) (place : ℕ) (state : State) (t : Option Transaction) → is_some (option_map (snapshot_taken place) (opened (record state { autocommit = autocommit; transaction = t }))) ≡ (is_some t || not autocommit)
 in_trans_at autocommit place state (Some t) = refl
@@ -88,28 +87,15 @@ stale_at s t = let state = s.state.state in stale_with t s.journal.events state.
 
 -- ---- its key
 
-charset_is : (n : ℕ) → (n == 33 || n == 45) ≡ true → (n ≡ 33) ⊎ (n ≡ 45)
-charset_is n h = elim (n == 33) as (λ b. (n == 33) ≡ b → (b || n == 45) ≡ true → (n ≡ 33) ⊎ (n ≡ 45)) [
-  | true ↦ λ e g. inl (eqb-true n 33 e)
-  | false ↦ λ e g. inr (eqb-true n 45 g)
-] refl h
+-- its flags and its database can stand in a key, whatever they say of a transaction
+keyed_now : (s : Session) → IsFit s → keys.can_be_keyed (flags_of s.state.state) s.state.state.db ≡ true
+keyed_now s fit = let state = fit.state in and_from _ _ (and_from _ _ (and_from _ _ state.db state.charset) refl) refl
 
-short_is : (n : ℕ) → nat_le n 64 ≡ true → n ≤ 64
-short_is n h = grind (arith, nat_tests)
-
--- its flags and its database can stand in a key
-pub keyed_by : (s : Session) (f : Flags) → IsFit s → f ≡ flags_of s.state.state → (b : Bool) → keyed.CanBeKeyed (record f { in_trans = b }) s.state.state.db
-keyed_by s f fit is b =
-    let state = fit.state in
-    record {
-      name = short_is (length s.state.state.db) state.db;
-      charset = subst (λ (g : Flags). (g.charset ≡ 33) ⊎ (g.charset ≡ 45)) (sym is) (charset_is s.state.state.charset state.charset);
-      protocol = ap (λ (g : Flags). g.protocol_form) is;
-      rows = ap (λ (g : Flags). g.row_form) is;
-    }
+pub keyed_by : (s : Session) (f : Flags) → IsFit s → f ≡ flags_of s.state.state → (b : Bool) → keys.can_be_keyed (record f { in_trans = b }) s.state.state.db ≡ true
+keyed_by s f fit is b = subst (λ (g : Flags). keys.can_be_keyed (record g { in_trans = b }) s.state.state.db ≡ true) (sym is) (keyed_now s fit)
 
 pub can_be_keyed : (s : Session) → IsFit s → s.state.state.row_limit < 2 ^ 64 → CanBeKeyed (state_at s)
-can_be_keyed s fit limit = let state = fit.state in record { name = short_is (length s.state.state.db) state.db; charset = state.charset; limit = limit }
+can_be_keyed s fit limit = record { values = keyed_now s fit; limit = limit }
 
 -- ---- its snapshot
 
@@ -144,68 +130,111 @@ place_by_fit s fit = let state = s.state.state in let f = fit.state in in_transa
     in_transaction None f = tt
     in_transaction (Some x) f = place_by s.journal.events s.state.origin x.snapshot x.operations f
 
+-- ---- what is found first
+
+pub found_test : {A : Type 0} (p : A → Bool) (xs : List A) (x : A) → find p xs ≡ Some x → p x ≡ true
+found_test p [] x h = absurd cc
+found_test {A} p (y ∷ xs) x h = elim (p y) as (λ b. p y ≡ b → cond b (Some y) (find p xs) ≡ Some x → p x ≡ true) [
+  | true ↦ λ is g. let same : y ≡ x = cc in subst (λ (z : A). p z ≡ true) same is
+  | false ↦ λ is g. found_test p xs x g
+] refl h
+
+-- ---- why a table may not be seen as it is
+
+-- what is stale when the session has arrived was so by its own snapshot
+snapshot_stays : (place n : ℕ) (autocommit : Bool) (state : State) (o : Option Transaction) → snapshot_of (record state { transaction = o }) ≡ Some n
+    → snapshot_of (with_transaction state (option_map (snapshot_taken place) (opened (record state { autocommit = autocommit; transaction = o })))) ≡ Some n
+snapshot_stays place n autocommit state None h = absurd cc
+snapshot_stays place n autocommit state (Some x) h = by x x.snapshot refl h
+  where
+    by : (x : Transaction) (p : Option ℕ) → x.snapshot ≡ p → snapshot_of (record state { transaction = Some x }) ≡ Some n → snapshot_of (with_transaction state (Some (snapshot_taken place x))) ≡ Some n
+    by x (Some m) is h = rw is (sym is ∙ h)
+    by x None is h = absurd (let none : None ≡ Some n = sym is ∙ h in cc)
+
+stale_named : (state : State) (J : Journal) (t : TableName) (n : ℕ) → snapshot_of state ≡ Some n → stale_reason state J (Some t) ≡ Some (reason.NotVisible t (last_change J t) n)
+stale_named state J t n is = rw is refl
+
+same_reason : (s : Session) (t : TableName) (o : Option ℕ) → snapshot_of s.state.state ≡ o → is_stale (state_at s) s.journal.events t ≡ true
+    → stale_reason (state_at s) s.journal.events (Some t) ≡ stale_reason s.state.state s.journal.events (Some t)
+same_reason s t None is h = absurd (true≢false (sym h ∙ stale_at s t ∙ ap (λ o. changed_since o (last_change s.journal.events t)) is))
+same_reason s t (Some n) is h =
+    let J = s.journal.events in
+    let state = s.state.state in
+    stale_named (state_at s) J t n (snapshot_stays (length J + 1) n state.autocommit state state.transaction is) ∙ sym (stale_named state J t n is)
+
+same_stale : (s : Session) (ts : List TableName) (o : Option TableName) → find (is_stale (state_at s) s.journal.events) ts ≡ o → stale_reason (state_at s) s.journal.events o ≡ stale_reason s.state.state s.journal.events o
+same_stale s ts None is = refl
+same_stale s ts (Some t) is = same_reason s t (snapshot_of s.state.state) refl (found_test (is_stale (state_at s) s.journal.events) ts t is)
+
+-- by the transaction and the snapshot that the session has itself
+pub unseen_is : (s : Session) (ts : List TableName)
+    → (option_map reason.Written (find (wrote s.state.state) ts) or_else stale_reason s.state.state s.journal.events (find (is_stale (state_at s) s.journal.events) ts)) ≡ unseen_reason (state_at s) s.journal.events ts
+unseen_is s ts =
+    let J = s.journal.events in
+    λ i. option_map reason.Written (find (λ t. sym (same_wrote s t) i) ts) or_else sym (same_stale s ts (find (is_stale (state_at s) J) ts) refl) i
+
 -- ---- the entry of a key
 
-pub no_answer : (key : List ℕ) (vis : Entry → Bool) (kept : List KeptAnswer) → answer_of key kept ≡ None → find (λ e. e.complete && has_key key e && vis e) (map entry_of kept) ≡ None
-no_answer key vis [] h = refl
-no_answer key vis (a ∷ kept) h = elim (bytes_eq a.key key) as (λ b. cond b (Some a) (answer_of key kept) ≡ None → cond (b && vis (entry_of a)) (Some (entry_of a)) (find (λ e. e.complete && has_key key e && vis e) (map entry_of kept)) ≡ None) [
+pub none_stored : (key : List ℕ) (vis : Entry → Bool) (stored : List StoredEntry) → entry_under key stored ≡ None → find (λ e. e.complete && has_key key e && vis e) (map entry_of stored) ≡ None
+none_stored key vis [] h = refl
+none_stored key vis (a ∷ stored) h = elim (bytes_eq a.key key) as (λ b. cond b (Some a) (entry_under key stored) ≡ None → cond (b && vis (entry_of a)) (Some (entry_of a)) (find (λ e. e.complete && has_key key e && vis e) (map entry_of stored)) ≡ None) [
   | true ↦ λ g. absurd cc
-  | false ↦ λ g. no_answer key vis kept g
+  | false ↦ λ g. none_stored key vis stored g
 ] h
 
-pub none_has : (key : List ℕ) (kept : List KeptAnswer) → list_any (has_key key) (map entry_of kept) ≡ false → answer_of key kept ≡ None
+pub none_has : (key : List ℕ) (stored : List StoredEntry) → list_any (has_key key) (map entry_of stored) ≡ false → entry_under key stored ≡ None
 none_has key [] h = refl
-none_has key (a ∷ kept) h =
-    let parts = neither (has_key key (entry_of a)) (list_any (has_key key) (map entry_of kept)) h in
-    ap (λ b. cond b (Some a) (answer_of key kept)) parts.0 ∙ none_has key kept parts.1
+none_has key (a ∷ stored) h =
+    let parts = neither (has_key key (entry_of a)) (list_any (has_key key) (map entry_of stored)) h in
+    ap (λ b. cond b (Some a) (entry_under key stored)) parts.0 ∙ none_has key stored parts.1
 
 -- the one with the key answers, where it may be seen
-pub one_answer : (key : List ℕ) (vis : Entry → Bool) (kept : List KeptAnswer) (a : KeptAnswer) → are_apart (map entry_of kept) ≡ true → answer_of key kept ≡ Some a
-    → find (λ e. e.complete && has_key key e && vis e) (map entry_of kept) ≡ cond (vis (entry_of a)) (Some (entry_of a)) None
+pub one_answer : (key : List ℕ) (vis : Entry → Bool) (stored : List StoredEntry) (a : StoredEntry) → are_apart (map entry_of stored) ≡ true → entry_under key stored ≡ Some a
+    → find (λ e. e.complete && has_key key e && vis e) (map entry_of stored) ≡ cond (vis (entry_of a)) (Some (entry_of a)) None
 one_answer key vis [] a d h = absurd cc
-one_answer key vis (b ∷ kept) a d h =
-    let parts = and_parts (not (list_any (has_key b.key) (map entry_of kept))) (are_apart (map entry_of kept)) d in
-    elim (bytes_eq b.key key) as (λ t. bytes_eq b.key key ≡ t → cond t (Some b) (answer_of key kept) ≡ Some a
-    → cond (t && vis (entry_of b)) (Some (entry_of b)) (find (λ e. e.complete && has_key key e && vis e) (map entry_of kept)) ≡ cond (vis (entry_of a)) (Some (entry_of a)) None) [
+one_answer key vis (b ∷ stored) a d h =
+    let parts = and_parts (not (list_any (has_key b.key) (map entry_of stored))) (are_apart (map entry_of stored)) d in
+    elim (bytes_eq b.key key) as (λ t. bytes_eq b.key key ≡ t → cond t (Some b) (entry_under key stored) ≡ Some a
+    → cond (t && vis (entry_of b)) (Some (entry_of b)) (find (λ e. e.complete && has_key key e && vis e) (map entry_of stored)) ≡ cond (vis (entry_of a)) (Some (entry_of a)) None) [
       | true ↦ λ is g.
           let same : b ≡ a = cc in
           let key_is : b.key ≡ key = (bytes_eq-Decides b.key key).0 is in
-          let others : find (λ e. e.complete && has_key key e && vis e) (map entry_of kept) ≡ None =
-          no_answer key vis kept (none_has key kept (subst (λ (k : List ℕ). list_any (has_key k) (map entry_of kept) ≡ false) key_is (opposite _ parts.0))) in
-          ap (λ (o : Option Entry). cond (vis (entry_of b)) (Some (entry_of b)) o) others ∙ ap (λ (x : KeptAnswer). cond (vis (entry_of x)) (Some (entry_of x)) None) same
-      | false ↦ λ is g. one_answer key vis kept a parts.1 g
+          let others : find (λ e. e.complete && has_key key e && vis e) (map entry_of stored) ≡ None =
+          none_stored key vis stored (none_has key stored (subst (λ (k : List ℕ). list_any (has_key k) (map entry_of stored) ≡ false) key_is (opposite _ parts.0))) in
+          ap (λ (o : Option Entry). cond (vis (entry_of b)) (Some (entry_of b)) o) others ∙ ap (λ (x : StoredEntry). cond (vis (entry_of x)) (Some (entry_of x)) None) same
+      | false ↦ λ is g. one_answer key vis stored a parts.1 g
     ] refl h
 
--- what answers a text now, where no answer of its key is kept
-pub misses : (s : Session) (text : List ℕ) → IsFit s → answer_of (key_of_text (state_at s) text) s.kept ≡ None → answering_now s text ≡ None
+-- what answers a text now, where no entry of its key is stored
+pub misses : (s : Session) (text : List ℕ) → IsFit s → entry_under (key_of_text (state_at s) text) s.entries ≡ None → answering_now s text ≡ None
 misses s text fit h =
     let c = fit.cached in
     let state = state_at s in
     let key = key_of_text state text in
-    ap (λ (es : List Entry). find (λ e. e.complete && has_key key e && is_visible state s.journal.events e) es) c.entries ∙ no_answer key (is_visible state s.journal.events) s.kept h
+    ap (λ (es : List Entry). find (λ e. e.complete && has_key key e && is_visible state s.journal.events e) es) c.entries ∙ none_stored key (is_visible state s.journal.events) s.entries h
 
 -- and where one is
-pub finds : (s : Session) (text : List ℕ) (a : KeptAnswer) → IsFit s → answer_of (key_of_text (state_at s) text) s.kept ≡ Some a
+pub finds : (s : Session) (text : List ℕ) (a : StoredEntry) → IsFit s → entry_under (key_of_text (state_at s) text) s.entries ≡ Some a
     → answering_now s text ≡ cond (list_all (is_current (state_at s) s.journal.events) a.tables) (Some (entry_of a)) None
 finds s text a fit h =
     let c = fit.cached in
     let sound = fit.sound in
     let state = state_at s in
     let key = key_of_text state text in
-    let apart : are_apart (map entry_of s.kept) ≡ true = subst (λ (es : List Entry). are_apart es ≡ true) c.entries (keys_apart s.options s.journal.events sound.lawful) in
-    ap (λ (es : List Entry). find (λ e. e.complete && has_key key e && is_visible state s.journal.events e) es) c.entries ∙ one_answer key (is_visible state s.journal.events) s.kept a apart h
+    let apart : are_apart (map entry_of s.entries) ≡ true = subst (λ (es : List Entry). are_apart es ≡ true) c.entries (keys_apart s.options s.journal.events sound.lawful) in
+    ap (λ (es : List Entry). find (λ e. e.complete && has_key key e && is_visible state s.journal.events e) es) c.entries ∙ one_answer key (is_visible state s.journal.events) s.entries a apart h
 
 -- it has the packets of its statement now
-pub kept_answers : (J : Journal) (key : List ℕ) (kept : List KeptAnswer) (a : KeptAnswer) → AllByRecursion (λ b. answer b.key (present J) ≡ Some b.packets) kept → answer_of key kept ≡ Some a
+pub stored_answers : (J : Journal) (key : List ℕ) (stored : List StoredEntry) (a : StoredEntry) → AllByRecursion (λ b. answer b.key (present J) ≡ Some b.packets) stored → entry_under key stored ≡ Some a
     → (answer a.key (present J) ≡ Some a.packets) × (a.key ≡ key)
-kept_answers J key [] a all h = absurd cc
-kept_answers J key (b ∷ kept) a all h = elim (bytes_eq b.key key) as (λ t. bytes_eq b.key key ≡ t → cond t (Some b) (answer_of key kept) ≡ Some a → (answer a.key (present J) ≡ Some a.packets) × (a.key ≡ key)) [
-  | true ↦ λ is g. let same : b ≡ a = cc in subst (λ (x : KeptAnswer). (answer x.key (present J) ≡ Some x.packets) × (x.key ≡ key)) same (all.0, (bytes_eq-Decides b.key key).0 is)
-  | false ↦ λ is g. kept_answers J key kept a all.1 g
+stored_answers J key [] a all h = absurd cc
+stored_answers J key (b ∷ stored) a all h = elim (bytes_eq b.key key) as (λ t. bytes_eq b.key key ≡ t → cond t (Some b) (entry_under key stored) ≡ Some a → (answer a.key (present J) ≡ Some a.packets) × (a.key ≡ key)) [
+  | true ↦ λ is g. let same : b ≡ a = cc in subst (λ (x : StoredEntry). (answer x.key (present J) ≡ Some x.packets) × (x.key ≡ key)) same (all.0, (bytes_eq-Decides b.key key).0 is)
+  | false ↦ λ is g. stored_answers J key stored a all.1 g
 ] refl h
 
--- what is shown of an answer that is kept
-pub shown : (s : Session) (text : List ℕ) (a : KeptAnswer) → IsFit s → CanBeKeyed (state_at s) → is_asked_for s.options s.state.state text ≡ true → answer_of (key_of_text (state_at s) text) s.kept ≡ Some a
+-- what is shown of a stored entry
+pub shown : (s : Session) (text : List ℕ) (a : StoredEntry) → IsFit s → CanBeKeyed (state_at s) → is_asked_for s.options s.state.state text ≡ true → entry_under (key_of_text (state_at s) text) s.entries ≡ Some a
     → (found : Option Found) → Shows s a found → MatchOption found (HasNone s text) (HasFound s text)
 shown s text a fit keyed asked h None dark = λ _. record { keyed = keyed; none = finds s text a fit h ∙ ap (λ b. cond b (Some (entry_of a)) None) dark }
 shown s text a fit keyed asked h (Some found) shows =
@@ -216,7 +245,7 @@ shown s text a fit keyed asked h (Some found) shows =
       entry = entry_of a;
       is = finds s text a fit h ∙ ap (λ b. cond b (Some (entry_of a)) None) shows.seen;
       serial = shows.serial;
-      reply = (kept_answers s.journal.events (key_of_text (state_at s) text) s.kept a c.answers h).0 ∙ ap (λ (b : List ℕ). Some b) (sym shows.reply);
+      reply = (stored_answers s.journal.events (key_of_text (state_at s) text) s.entries a c.packets h).0 ∙ ap (λ (b : List ℕ). Some b) (sym shows.reply);
     }
 
 -- a text isn't both answered and missed

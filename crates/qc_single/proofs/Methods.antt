@@ -3,7 +3,6 @@ use Rattle.std.proofs.Common.{◌≡◌, ℕ, ◌+◌, ◌≤◌, ◌<◌, true,
 use Rattle.std.specs.Prelude.{◌&&◌, ◌==◌, IfOk}
 use Rattle.std.specs.List.{list_all}
 use Rattle.std.proofs.lemmas.Bool.{and_parts}
-use Rattle.std.proofs.lemmas.List.Folds.{list_all-append}
 use Rattle.qc_types.specs.declared.options.Options.{Options}
 use Rattle.qc_types.specs.declared.text.Text.{Text}
 use Rattle.qc_sql.specs.declared.commands.Command.{Command}
@@ -13,7 +12,6 @@ use Rattle.qc_sql.specs.declared.statements.Statement.{Statement}
 use Rattle.qc_sql.specs.declared.tables.RowOp.{RowOp}
 use Rattle.qc_sql.specs.Database.{Database, apply}
 use Rattle.qc_sql.specs.Packets.{packets}
-use Rattle.qc_sql.specs.Grammar.{meaning, trimmed}
 use Rattle.qc_model.specs.declared.events.Event.{Event}
 use Rattle.qc_model.specs.declared.events.Event.TheVariants as event
 use Rattle.qc_model.specs.declared.events.How.{How}
@@ -25,21 +23,22 @@ use Rattle.qc_model.specs.Session.{State, arrived}
 use Rattle.qc_model.specs.Licence.{IsLicensed, MayRun}
 use Rattle.qc_model.specs.Machine.{Given, committed, Executes, ExecutesStatement, local, local_text}
 use Rattle.qc_model.specs.Agrees.{fill_ends, line, word_of}
-use Rattle.qc_sessions.specs.Runs.{Stand, stand, Answers, Runs}
+use Rattle.qc_laws.specs.runs.Runs.{Position, stand, Answers, Runs}
 use Rattle.qc_journal.specs.Room.{Recorded}
-use Rattle.qc_trx.specs.Standings.{Standing}
+use Rattle.qc_trx.specs.SnapshotStates.{SnapshotState}
 use Rattle.qc_single.specs.declared.session.Session.{Session}
-use Rattle.qc_kept.specs.declared.answers.KeptAnswer.{KeptAnswer}
-use Rattle.qc_kept.specs.Kept.{untouched}
+use Rattle.qc_single.specs.declared.entries.StoredEntry.{StoredEntry}
+use Rattle.qc_single.specs.Entries.{untouched}
 use Rattle.qc_single.specs.Stage.{takes, takes_statement, first_machine, HasWords}
 use Rattle.qc_single.specs.Sound.{next_who, is_quiet, is_simple, IsSound, IsCached, MayFollow, IsFitState}
-use Rattle.qc_single.specs.Going.{stand_of, begun, line_at, IsFit, IsRest, Adds, Logs, Tells, GivesOut, TellsOut, form_refusal, DoesOne, DoesStatement, HasTaken}
+use Rattle.qc_single.specs.Going.{position_of, begun, line_at, IsFit, IsRest, Adds, Logs, Tells, GivesOut, TellsOut, form_refusal, DoesOne, DoesStatement, HasTaken, IsAnsweredBy}
 use Rattle.qc_single.proofs.Steps.{taken, told}
 use Rattle.qc_single.proofs.Caches.{run_cached, commit_cached}
 use Rattle.qc_single.proofs.Journals.{count_own, count_within, may_decide, quiet_fills}
 use Rattle.qc_single.proofs.Sounds.{quiet_simple, sound_event, sound_commit}
 use Rattle.qc_single.proofs.States.{fit_more, fit_unseen}
 use Rattle.qc_single.proofs.Ends.{runs_more}
+use Rattle.qc_single.proofs.Words.{IsNoHit, local_word}
 
 -- ---- what is known where a call succeeds
 
@@ -67,7 +66,7 @@ given_out old new g bytes same next l = record {
   events = l.events;
   lines = l.lines ∙ ap (λ (x : ReportLine). old.lines ++ x ∷ []) (line_is (length old.journal.events + 1) (word_of g.event) bytes g.reply same);
   place = l.place;
-  state = ap (λ (x : Standing). x.state) l.state ∙ next;
+  state = ap (λ (x : SnapshotState). x.state) l.state ∙ next;
   options = l.options;
   fit = l.fit;
 }
@@ -115,7 +114,7 @@ longer J e place h = omega (arith, h, length-append J (e ∷ []))
 
 -- an event of its own that leaves the database, with what it leaves of the answers
 pub fit_event : (old mid new : Session) (e : Event) (bytes : Text) → IsFit old → mid.journal ≡ old.journal → mid.database ≡ old.database → mid.state ≡ old.state → mid.number ≡ old.number → mid.options ≡ old.options
-    → operations e ≡ [] → is_simple e ≡ true → is_by 1 e ≡ true → IsLicensed old.options old.journal.events e → IsCached (old.journal.events ++ e ∷ []) mid.kept → Adds mid new e bytes → IsFit new
+    → operations e ≡ [] → is_simple e ≡ true → is_by 1 e ≡ true → IsLicensed old.options old.journal.events e → IsCached (old.journal.events ++ e ∷ []) mid.entries → Adds mid new e bytes → IsFit new
 fit_event old mid new e bytes f journal database state number options none one mine may cached a =
     let J : Journal = old.journal.events in
     let K : Journal = J ++ e ∷ [] in
@@ -127,8 +126,8 @@ fit_event old mid new e bytes f journal database state number options none one m
     record {
       sound = subst (λ (o : Options). IsSound o new.journal.events new.database) same_options
           (subst (λ (d : Database). IsSound old.options new.journal.events d) same_database (subst (λ (j : Journal). IsSound old.options j old.database) events (sound_event J old.database e f.sound none one may)));
-      state = subst (λ (x : Standing). IsFitState new.journal.events x) same_state (subst (λ (j : Journal). IsFitState j old.state) events (fit_more J e old.state none f.state));
-      cached = subst (λ (ks : List KeptAnswer). IsCached new.journal.events ks) (sym a.kept) (subst (λ (j : Journal). IsCached j mid.kept) events cached);
+      state = subst (λ (x : SnapshotState). IsFitState new.journal.events x) same_state (subst (λ (j : Journal). IsFitState j old.state) events (fit_more J e old.state none f.state));
+      cached = subst (λ (ks : List StoredEntry). IsCached new.journal.events ks) (sym a.entries) (subst (λ (j : Journal). IsCached j mid.entries) events cached);
       words = subst HasWords same_options f.words;
       numbered = a.number ∙ ap (λ n. n + 1) (number ∙ f.numbered ∙ sym (count_own J e mine) ∙ ap (λ (j : Journal). event_count j 1) events);
       reached = subst (λ (j : Journal). new.place ≤ length j) events (longer J e new.place place);
@@ -155,12 +154,12 @@ pub fit_run : (old new : Session) (h : How) (bytes : Text) → IsFit old → is_
 fit_run old new h bytes f quiet may a =
     let J : Journal = old.journal.events in
     let e : Event = event.Run (next_who J) h in
-    let fit : IsFit new = fit_event old old new e bytes f refl refl refl refl refl refl (quiet_simple J h quiet) refl (may_decide J old.kept f.cached, may) (run_cached J (next_who J) h old.kept quiet f.cached) a in
+    let fit : IsFit new = fit_event old old new e bytes f refl refl refl refl refl refl (quiet_simple J h quiet) refl (may_decide J old.entries f.cached, may) (run_cached J (next_who J) h old.entries quiet f.cached) a in
     logs_event old old new e bytes refl refl refl refl refl (quiet_fills J e h quiet refl) a fit
 
 -- a commit of operations, of which there are some
 commit_logs : (old mid new : Session) (o : RowOp) (ops : List RowOp) (bytes : Text) → IsFit old → old.state.origin ≡ None → MayFollow (o ∷ ops) old.database
-    → mid ≡ record old { database = apply (o ∷ ops) old.database; kept = untouched (o ∷ ops) old.kept } → Adds mid new (event.Commit (next_who old.journal.events) (o ∷ ops)) bytes
+    → mid ≡ record old { database = apply (o ∷ ops) old.database; entries = untouched (o ∷ ops) old.entries } → Adds mid new (event.Commit (next_who old.journal.events) (o ∷ ops)) bytes
     → Logs old new (event.Commit (next_who old.journal.events) (o ∷ ops)) bytes
 commit_logs old mid new o ops bytes f ended may is a =
     let J : Journal = old.journal.events in
@@ -171,17 +170,17 @@ commit_logs old mid new o ops bytes f ended may is a =
     let made : apply (o ∷ ops) old.database ≡ new.database = sym (a.database ∙ ap (λ (s : Session). s.database) is) in
     let same_state : old.state ≡ new.state = sym (a.state ∙ ap (λ (s : Session). s.state) is) in
     let same_options : old.options ≡ new.options = sym (a.options ∙ ap (λ (s : Session). s.options) is) in
-    let kept : untouched (o ∷ ops) old.kept ≡ new.kept = sym (a.kept ∙ ap (λ (s : Session). s.kept) is) in
+    let stored : untouched (o ∷ ops) old.entries ≡ new.entries = sym (a.entries ∙ ap (λ (s : Session). s.entries) is) in
     let place : new.place ≡ length J + 1 = subst (λ (j : Recorded). new.place ≡ length j.events + 1) journal a.place in
     let sound = f.sound in
     let some : 0 < length (o ∷ ops) = omega arith in
     let fit : IsFit new = record {
       sound = subst (λ (p : Options). IsSound p new.journal.events new.database) same_options
           (subst (λ (d : Database). IsSound old.options new.journal.events d) made
-          (subst (λ (j : Journal). IsSound old.options j (apply (o ∷ ops) old.database)) events (sound_commit J old.database (o ∷ ops) old.kept f.sound f.cached some may.small may.fit may.within)));
-      state = subst (λ (x : Standing). IsFitState new.journal.events x) same_state (fit_unseen J new.journal.events old.state ended f.state);
-      cached = subst (λ (ks : List KeptAnswer). IsCached new.journal.events ks) kept
-          (subst (λ (j : Journal). IsCached j (untouched (o ∷ ops) old.kept)) events (commit_cached old.options J (next_who J) (o ∷ ops) old.kept sound.lawful f.cached));
+          (subst (λ (j : Journal). IsSound old.options j (apply (o ∷ ops) old.database)) events (sound_commit J old.database (o ∷ ops) old.entries f.sound f.cached some may.small may.fit may.within)));
+      state = subst (λ (x : SnapshotState). IsFitState new.journal.events x) same_state (fit_unseen J new.journal.events old.state ended f.state);
+      cached = subst (λ (ks : List StoredEntry). IsCached new.journal.events ks) stored
+          (subst (λ (j : Journal). IsCached j (untouched (o ∷ ops) old.entries)) events (commit_cached old.options J (next_who J) (o ∷ ops) old.entries sound.lawful f.cached));
       words = subst HasWords same_options f.words;
       numbered = a.number ∙ ap (λ n. n + 1) (ap (λ (s : Session). s.number) is ∙ f.numbered ∙ sym (count_own J e refl) ∙ ap (λ (j : Journal). event_count j 1) events);
       reached = subst (λ (j : Journal). new.place ≤ length j) events (longer J e new.place place);
@@ -189,7 +188,7 @@ commit_logs old mid new o ops bytes f ended may is a =
     logs_event old mid new e bytes journal (ap (λ (s : Session). s.lines) is) (ap (λ (s : Session). s.state) is) (ap (λ (s : Session). s.options) is) refl (λ L. refl) a fit
 
 pub fit_commit : (old mid new : Session) (ops : List RowOp) (bytes : Text) → IsFit old → old.state.origin ≡ None → MayFollow ops old.database
-    → mid ≡ record old { database = apply ops old.database; kept = untouched ops old.kept } → (length ops == 0) ≡ false → Adds mid new (event.Commit (next_who old.journal.events) ops) bytes
+    → mid ≡ record old { database = apply ops old.database; entries = untouched ops old.entries } → (length ops == 0) ≡ false → Adds mid new (event.Commit (next_who old.journal.events) ops) bytes
     → Logs old new (committed (next_who old.journal.events) ops) bytes
 fit_commit old mid new [] bytes f ended may is some a = absurd (true≢false some)
 fit_commit old mid new (o ∷ ops) bytes f ended may is some a = commit_logs old mid new o ops bytes f ended may is a
@@ -201,21 +200,22 @@ mid_simple (x ∷ J) e rest h = mid_simple J e rest (and_parts (is_simple x) (li
 -- ---- a command was answered
 
 pub does_given : (c : Command) (old new : Session) (g : Given) → IsFit old → takes old.state.state old.journal.events c ≡ true → local old.state.state c ≡ None
-    → Executes old.options (next_who old.journal.events) old.state.state c old.journal.events g.event g.reply g.next → GivesOut old new g → DoesOne c old new
-does_given c old new g fit takes_it no_local does out =
+    → Executes old.options (next_who old.journal.events) old.state.state c old.journal.events g.event g.reply g.next → (word_of g.event ≡ word.Hit → IsAnsweredBy old c) → GivesOut old new g → DoesOne c old new
+does_given c old new g fit takes_it no_local does hit out =
     let J : Journal = old.journal.events in
     let l : ReportLine = line (length J + 1) (word_of g.event) g.reply in
     let state = fit.state in
-    let same : stand (J ++ g.event ∷ out.rest) g.next (length J + 1) ≡ stand_of new = λ i. stand (sym out.events i) (sym out.state i) (sym out.place i) in
+    let same : stand (J ++ g.event ∷ out.rest) g.next (length J + 1) ≡ position_of new = λ i. stand (sym out.events i) (sym out.state i) (sym out.place i) in
     let ends = out.ends in
     let now = out.fit in
     let after = now.sound in
     let simple : is_simple g.event ≡ true = mid_simple J g.event out.rest (subst (λ (j : Journal). list_all is_simple j ≡ true) out.events after.simple) in
     record {
       answered = l;
-      answers = subst (λ (s : Stand). Answers first_machine old.options 1 (stand_of old) c l s) same
+      answers = subst (λ (s : Position). Answers first_machine old.options 1 (position_of old) c l s) same
           (taken old.options J old.state.state g.next old.place c g.event out.rest g.reply state.session fit.reached simple ends.mine ends.silent ends.ended takes_it no_local does);
       lines = out.lines;
+      hit = hit;
       options = out.options;
       fit = out.fit;
     }
@@ -224,23 +224,24 @@ pub does_told : (c : Command) (old new : Session) (r : Reply) (next : State) →
 does_told c old new r next h out =
     let J : Journal = old.journal.events in
     let l : ReportLine = line old.place word.Local r in
-    let same : stand J next old.place ≡ stand_of new = λ i. stand (sym out.events i) (sym out.state i) (sym out.place i) in
+    let same : stand J next old.place ≡ position_of new = λ i. stand (sym out.events i) (sym out.state i) (sym out.place i) in
     record {
       answered = l;
-      answers = subst (λ (s : Stand). Answers first_machine old.options 1 (stand_of old) c l s) same (told old.options J old.state.state next old.place c r h);
+      answers = subst (λ (s : Position). Answers first_machine old.options 1 (position_of old) c l s) same (told old.options J old.state.state next old.place c r h);
       lines = out.lines;
+      hit = λ is. absurd (local_word is);
       options = out.options;
       fit = out.fit;
     }
 
 -- ---- a statement was answered
 
--- one with an event, in the state in which it is judged
+-- one with an event, in the state in which it is validated
 pub statement_given : (s : Statement) (old new : Session) (g : Given) → IsFit old → takes_statement s ≡ true → local_text old.state.state (Ok s) ≡ None
     → ((text : List ℕ) → ExecutesStatement old.options (next_who old.journal.events) (arrived (length old.journal.events + 1) s old.state.state) text old.journal.events s g.event g.reply g.next)
-    → GivesOut old new g → DoesStatement s old new
-statement_given s old new g fit takes_it no_local does out = λ text is.
-    does_given (command.Query text) old new g fit (rw is takes_it) (rw is no_local) (rw is (does text)) out
+    → IsNoHit g.event → GivesOut old new g → DoesStatement s old new
+statement_given s old new g fit takes_it no_local does no_hit out = λ text is.
+    does_given (command.Query text) old new g fit (rw is takes_it) (rw is no_local) (rw is (does text)) (λ hit. absurd (no_hit hit)) out
 
 -- one without
 pub statement_told : (s : Statement) (old new : Session) (r : Reply) (next : State) → takes_statement s ≡ true → local_text old.state.state (Ok s) ≡ Some (r, next) → TellsOut old new r next → DoesStatement s old new
@@ -257,8 +258,8 @@ pub taken_more : (cs : List Command) (c : Command) (old new : Session) → HasTa
 taken_more cs c old new taken one =
     let fit = taken.fit in
     record {
-      runs = subst (λ (o : Options). Runs first_machine o 1 (begun o) (cs ++ c ∷ []) new.lines (stand_of new)) (sym one.options)
-          (subst (λ (ls : List ReportLine). Runs first_machine old.options 1 (begun old.options) (cs ++ c ∷ []) ls (stand_of new)) (sym one.lines)
-          (runs_more old.options cs old.lines (stand_of old) (stand_of new) c one.answered fit.reached taken.runs one.answers));
+      runs = subst (λ (o : Options). Runs first_machine o 1 (begun o) (cs ++ c ∷ []) new.lines (position_of new)) (sym one.options)
+          (subst (λ (ls : List ReportLine). Runs first_machine old.options 1 (begun old.options) (cs ++ c ∷ []) ls (position_of new)) (sym one.lines)
+          (runs_more old.options cs old.lines (position_of old) (position_of new) c one.answered fit.reached taken.runs one.answers));
       fit = one.fit;
     }

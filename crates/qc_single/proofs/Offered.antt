@@ -1,5 +1,5 @@
 -- A select that isn't refused runs outside the cache, or begins an entry.
-use Rattle.std.proofs.Common.{◌≡◌, ◌⊎◌, inl, inr, ◌+◌, ◌<◌, ◌≤◌, ℕ, Bool, true, false, cond, List, [], ◌∷◌, ◌++◌, length, refl, sym, ap, subst, ◌∙◌, true≢false}
+use Rattle.std.proofs.Common.{◌≡◌, ◌⊎◌, ◌+◌, ◌<◌, ◌≤◌, ℕ, Bool, true, false, cond, List, [], ◌∷◌, ◌++◌, length, refl, sym, ap, subst, ◌∙◌, true≢false}
 use Rattle.std.specs.Prelude.{◌==◌, ◌&&◌, ◌||◌, not, Option, Some, None, Result, Ok, Err, find, map, is_some, option_map, MatchResult}
 use Rattle.std.specs.List.{list_all, list_any, AllByRecursion, concat}
 use Rattle.std.proofs.lemmas.Bool.{and_from}
@@ -10,6 +10,7 @@ use Rattle.qc_types.specs.declared.sql_error.SqlError.{SqlError}
 use Rattle.qc_types.specs.declared.text.Text.{Text}
 use Rattle.qc_sql.specs.declared.replies.Reply.TheVariants as reply
 use Rattle.qc_sql.specs.declared.statements.Select.{Select}
+use Rattle.qc_sql.specs.Database.{Name}
 use Rattle.qc_sql.specs.Grammar.{head_of, trimmed}
 use Rattle.qc_sql.specs.Packets.{most_payload, packets, payloads}
 use Rattle.qc_sql.specs.Rows.{Rows, rows, text_of}
@@ -20,29 +21,27 @@ use Rattle.qc_model.specs.declared.events.How.{How}
 use Rattle.qc_model.specs.declared.events.How.TheVariants as how
 use Rattle.qc_model.specs.declared.events.Reason.{Reason}
 use Rattle.qc_model.specs.declared.events.Reason.TheVariants as reason
-use Rattle.qc_model.specs.Journal.{Journal, last_change, present}
+use Rattle.qc_model.specs.Journal.{Journal, last_change}
 use Rattle.qc_model.specs.Cache.{Entry, cache}
-use Rattle.qc_model.specs.Choice.{Allows, answering, changed_since, has_key, is_asked, is_stale, is_visible, plain_reason, stale_reason, start_count, wrote}
+use Rattle.qc_model.specs.Choice.{answering, changed_since, has_key, is_asked, is_stale, is_visible, plain_reason, rule_reason, stale_reason, start_count, unseen_reason, wrote}
 use Rattle.qc_model.specs.Licence.{MayStart, tables_of_key}
-use Rattle.qc_model.specs.Machine.{Given}
-use Rattle.qc_model.specs.Session.{State, answer, answer_packets, base, flags_of, key_of_text, rows_reply, select_reply, snapshot_of, status_of}
-use Rattle.qc_answer.specs.Answers.{error_code}
-use Rattle.qc_bounds.proofs.Whole.{select_texts_fit}
-use Rattle.qc_history.specs.Answers.{CanBeKeyed, IsKeyOfRows}
-use Rattle.qc_history.specs.Runs.{IsKept, are_apart}
-use Rattle.qc_history.specs.Seen.{is_current}
-use Rattle.qc_history.proofs.Answers.{starts_answer}
-use Rattle.qc_history.proofs.Apart.{keys_apart}
-use Rattle.qc_history.proofs.Stays.{answers_stay}
-use Rattle.qc_kept.specs.declared.answers.KeptAnswer.{KeptAnswer}
-use Rattle.qc_kept.specs.Fronts.{ArePayloads}
-use Rattle.qc_kept.specs.Kept.{answer_of}
+use Rattle.qc_model.specs.Session.{State, base, flags_of, key_of_text, rows_reply, select_reply, snapshot_of, status_of}
+use Rattle.qc_single.specs.Answers.{error_code}
+use Rattle.qc_laws.proofs.sizes.Whole.{select_texts_fit}
+use Rattle.qc_laws.specs.history.Answers.{CanBeKeyed, IsKeyOfRows}
+use Rattle.qc_laws.specs.history.Runs.{IsKept, are_apart}
+use Rattle.qc_laws.specs.history.Seen.{is_current}
+use Rattle.qc_laws.proofs.history.Answers.{starts_answer}
+use Rattle.qc_laws.proofs.history.Apart.{keys_apart}
+use Rattle.qc_laws.proofs.history.Stays.{answers_stay}
+use Rattle.qc_single.specs.declared.entries.StoredEntry.{StoredEntry}
+use Rattle.qc_single.specs.Entries.{entry_under}
 use Rattle.qc_single.specs.declared.session.Session.{Session}
 use Rattle.qc_single.specs.Sound.{next_who, entry_of}
 use Rattle.qc_single.specs.Going.{IsFit, Logs, SelectsOut, select_given}
-use Rattle.qc_single.specs.Choosing.{state_at, is_asked_for, rule_reason, unseen_reason, Comes, GivesRows, HasPackets}
+use Rattle.qc_single.specs.Choosing.{state_at, is_asked_for, Comes, GivesRows, HasPackets}
 use Rattle.qc_single.proofs.Hitting.{names_tables}
-use Rattle.qc_single.proofs.Looking.{one_answer, place_by_fit}
+use Rattle.qc_single.proofs.Looking.{found_test, one_answer, place_by_fit}
 use Rattle.qc_single.proofs.Methods.{given_out}
 use Rattle.qc_single.proofs.Offers.{IsOwnReason, allows_plain, allows_start, reasons_are, unseen_is_own}
 use Rattle.qc_single.proofs.States.{orderly_base}
@@ -120,14 +119,7 @@ stale_none state J (Some n) t is stale h = absurd (let some : stale_reason state
 
 not_stale : (state : State) (J : Journal) (ts : List TableName) (o : Option TableName) → find (is_stale state J) ts ≡ o → stale_reason state J o ≡ None → find (is_stale state J) ts ≡ None
 not_stale state J ts None is h = is
-not_stale state J ts (Some t) is h = absurd (stale_none state J (snapshot_of state) t refl (table_test (is_stale state J) ts t is) h)
-  where
-    table_test : (p : TableName → Bool) (us : List TableName) (u : TableName) → find p us ≡ Some u → p u ≡ true
-    table_test p [] u h = absurd cc
-    table_test p (v ∷ us) u h = elim (p v) as (λ b. p v ≡ b → cond b (Some v) (find p us) ≡ Some u → p u ≡ true) [
-      | true ↦ λ k g. let same : v ≡ u = cc in subst (λ (w : TableName). p w ≡ true) same k
-      | false ↦ λ k g. table_test p us u g
-    ] refl h
+not_stale state J ts (Some t) is h = absurd (stale_none state J (snapshot_of state) t refl (found_test (is_stale state J) ts t is) h)
 
 all_current : (state : State) (J : Journal) (ts : List TableName) → find (wrote state) ts ≡ None → find (is_stale state J) ts ≡ None → list_all (is_current state J) ts ≡ true
 all_current state J [] h g = refl
@@ -136,48 +128,45 @@ all_current state J (t ∷ ts) h g =
     let b = none_found (is_stale state J) t ts g in
     and_from (is_current state J t) (list_all (is_current state J) ts) (λ i. not (a.0 i) && not (b.0 i)) (all_current state J ts a.1 b.1)
 
-pub seen_all : (s : Session) (ts : List TableName) → state_at s ≡ s.state.state → unseen_reason s ts ≡ None → list_all (is_current s.state.state s.journal.events) ts ≡ true
-seen_all s ts at h =
-    let state = s.state.state in
-    let J = s.journal.events in
-    let parts = neither_is (option_map reason.Written (find (wrote state) ts)) (stale_reason state J (find (is_stale (state_at s) J) ts)) h in
-    let stale : stale_reason state J (find (is_stale state J) ts) ≡ None = subst (λ (x : State). stale_reason state J (find (is_stale x J) ts) ≡ None) at parts.1 in
-    all_current state J ts (written_none (find (wrote state) ts) parts.0) (not_stale state J ts (find (is_stale state J) ts) refl stale)
+pub seen_all : (state : State) (J : Journal) (ts : List TableName) → unseen_reason state J ts ≡ None → list_all (is_current state J) ts ≡ true
+seen_all state J ts h =
+    let parts = neither_is (option_map reason.Written (find (wrote state) ts)) (stale_reason state J (find (is_stale state J) ts)) h in
+    all_current state J ts (written_none (find (wrote state) ts) parts.0) (not_stale state J ts (find (is_stale state J) ts) refl parts.1)
 
 -- ---- the entry may begin
 
--- what is kept under a key
-tables_kept : (J : Journal) (key : List ℕ) (kept : List KeptAnswer) (a : KeptAnswer) → AllByRecursion (IsKept J) (map entry_of kept) → answer_of key kept ≡ Some a → a.tables ≡ tables_of_key key
-tables_kept J key [] a all h = absurd cc
-tables_kept J key (b ∷ kept) a all h = elim (has_key key (entry_of b)) as (λ t. has_key key (entry_of b) ≡ t → cond t (Some b) (answer_of key kept) ≡ Some a → a.tables ≡ tables_of_key key) [
+-- what is stored under a key
+stored_tables : (J : Journal) (key : List ℕ) (stored : List StoredEntry) (a : StoredEntry) → AllByRecursion (IsKept J) (map entry_of stored) → entry_under key stored ≡ Some a → a.tables ≡ tables_of_key key
+stored_tables J key [] a all h = absurd cc
+stored_tables J key (b ∷ stored) a all h = elim (has_key key (entry_of b)) as (λ t. has_key key (entry_of b) ≡ t → cond t (Some b) (entry_under key stored) ≡ Some a → a.tables ≡ tables_of_key key) [
   | true ↦ λ is g.
       let k = all.0 in
       let same : b ≡ a = cc in
-      subst (λ (x : KeptAnswer). x.tables ≡ tables_of_key key) same (k.tables ∙ ap tables_of_key ((bytes_eq-Decides b.key key).0 is))
-  | false ↦ λ is g. tables_kept J key kept a all.1 g
+      subst (λ (x : StoredEntry). x.tables ≡ tables_of_key key) same (k.tables ∙ ap tables_of_key ((bytes_eq-Decides b.key key).0 is))
+  | false ↦ λ is g. stored_tables J key stored a all.1 g
 ] refl h
 
-none_other : (key : List ℕ) (kept : List KeptAnswer) → answer_of key kept ≡ None → list_any (has_key key) (map entry_of kept) ≡ false
+none_other : (key : List ℕ) (stored : List StoredEntry) → entry_under key stored ≡ None → list_any (has_key key) (map entry_of stored) ≡ false
 none_other key [] h = refl
-none_other key (a ∷ kept) h = elim (has_key key (entry_of a)) as (λ b. cond b (Some a) (answer_of key kept) ≡ None → (b || list_any (has_key key) (map entry_of kept)) ≡ false) [
+none_other key (a ∷ stored) h = elim (has_key key (entry_of a)) as (λ b. cond b (Some a) (entry_under key stored) ≡ None → (b || list_any (has_key key) (map entry_of stored)) ≡ false) [
   | true ↦ λ g. absurd cc
-  | false ↦ λ g. none_other key kept g
+  | false ↦ λ g. none_other key stored g
 ] h
 
-no_other : (s : Session) (key : List ℕ) (ts : List TableName) (o : Option KeptAnswer) → IsFit s → answer_of key s.kept ≡ o → tables_of_key key ≡ ts → list_all (is_current s.state.state s.journal.events) ts ≡ true
+no_other : (s : Session) (key : List ℕ) (ts : List TableName) (o : Option StoredEntry) → IsFit s → entry_under key s.entries ≡ o → tables_of_key key ≡ ts → list_all (is_current s.state.state s.journal.events) ts ≡ true
     → answering s.state.state s.journal.events key ≡ None → list_any (has_key key) (cache s.journal.events) ≡ false
-no_other s key ts None fit is named seen none = let c = fit.cached in ap (list_any (has_key key)) c.entries ∙ none_other key s.kept is
+no_other s key ts None fit is named seen none = let c = fit.cached in ap (list_any (has_key key)) c.entries ∙ none_other key s.entries is
 no_other s key ts (Some a) fit is named seen none =
     let J = s.journal.events in
     let state = s.state.state in
     let c = fit.cached in
     let sound = fit.sound in
-    let apart : are_apart (map entry_of s.kept) ≡ true = subst (λ (es : List Entry). are_apart es ≡ true) c.entries (keys_apart s.options J sound.lawful) in
-    let all : AllByRecursion (IsKept J) (map entry_of s.kept) = subst (λ (es : List Entry). AllByRecursion (IsKept J) es) c.entries (answers_stay s.options J sound.lawful) in
-    let tables : a.tables ≡ ts = tables_kept J key s.kept a all is ∙ named in
+    let apart : are_apart (map entry_of s.entries) ≡ true = subst (λ (es : List Entry). are_apart es ≡ true) c.entries (keys_apart s.options J sound.lawful) in
+    let all : AllByRecursion (IsKept J) (map entry_of s.entries) = subst (λ (es : List Entry). AllByRecursion (IsKept J) es) c.entries (answers_stay s.options J sound.lawful) in
+    let tables : a.tables ≡ ts = stored_tables J key s.entries a all is ∙ named in
     let visible : is_visible state J (entry_of a) ≡ true = subst (λ (us : List TableName). list_all (is_current state J) us ≡ true) (sym tables) seen in
     let found : answering state J key ≡ Some (entry_of a) =
-    ap (λ (es : List Entry). find (λ e. e.complete && has_key key e && is_visible state J e) es) c.entries ∙ one_answer key (is_visible state J) s.kept a apart is
+    ap (λ (es : List Entry). find (λ e. e.complete && has_key key e && is_visible state J e) es) c.entries ∙ one_answer key (is_visible state J) s.entries a apart is
     ∙ ap (λ b. cond b (Some (entry_of a)) None) visible in
     absurd (let both : None ≡ Some (entry_of a) = sym none ∙ found in cc)
 
@@ -188,15 +177,14 @@ pub record Begins (s : Session) (text : List ℕ) (select : Select) (bytes : Tex
   pub reasons : plain_reason s.options s.state.state text select s.journal.events ≡ None
 
 pub begins : (s : Session) (text : List ℕ) (select : Select) (bytes : Text) → IsFit s → Comes s text select → GivesRows s select bytes → CanBeKeyed s.state.state
-    → rule_reason s.options s.state.state text select ≡ None → unseen_reason s (select_tables s.state.state.db select) ≡ None → Begins s text select bytes
+    → rule_reason s.options s.state.state text select ≡ None → unseen_reason s.state.state s.journal.events (select_tables s.state.state.db select) ≡ None → Begins s text select bytes
 begins s text select bytes fit comes gives can rule unseen =
     let J = s.journal.events in
     let state = s.state.state in
     let key = key_of_text state text in
     let tables = select_tables state.db select in
     let free = may_be_kept s text select rule in
-    let at : state_at s ≡ state = comes.arrived (names_tables state.db select free.kept) in
-    let seen = seen_all s tables at unseen in
+    let seen = seen_all state J tables unseen in
     let is : IsKeyOfRows state J text select gives.r = starts_answer state J text select gives.r can (place_by_fit s fit) comes.means free.kept seen gives.are in
     let f = fit.state in
     let orderly = orderly_base J s.database s.state fit.sound fit.state in
@@ -208,11 +196,11 @@ begins s text select bytes fit comes gives can rule unseen =
         next = refl;
         has_answer = ap is_some (ap (option_map concat) is.packets);
         of_select = sym is.tables;
-        no_other = no_other s key tables (answer_of key s.kept) fit refl is.tables seen (comes.none free.asked);
+        no_other = no_other s key tables (entry_under key s.entries) fit refl is.tables seen (comes.none free.asked);
         has_region = fit.words free.size;
       };
       packets_are = record { payloads = payloads (rows_reply (flags_of state) gives.r); fit = fits; packets = is.packets; are = gives.reply_is };
-      reasons = reasons_are s text select gives.r fit at gives.are ∙ (λ i. rule i or_else unseen i);
+      reasons = reasons_are s text select gives.r fit gives.are ∙ (λ i. rule i or_else unseen i);
     }
 
 pub offered_start : (s new : Session) (text : List ℕ) (select : Select) (bytes : Text) → Comes s text select → GivesRows s select bytes → plain_reason s.options s.state.state text select s.journal.events ≡ None
@@ -232,7 +220,7 @@ pub record PassesRules (s : Session) (text : List ℕ) (select : Select) : Type 
   pub rule : rule_reason s.options s.state.state text select ≡ None
   pub at : state_at s ≡ s.state.state
 
-pub passes_rules : (s : Session) (text : List ℕ) (select : Select) (o : Option Reason) → Comes s text select → o ≡ rule_reason s.options s.state.state text select → ((x : Reason) → o ≡ Some x → ⊥) → PassesRules s text select
+passes_rules : (s : Session) (text : List ℕ) (select : Select) (o : Option Reason) → Comes s text select → o ≡ rule_reason s.options s.state.state text select → ((x : Reason) → o ≡ Some x → ⊥) → PassesRules s text select
 passes_rules s text select o comes is none =
     let rule : rule_reason s.options s.state.state text select ≡ None = sym is ∙ none_is o none in
     let free = may_be_kept s text select rule in
@@ -243,15 +231,23 @@ pub record KeptOut (s : Session) (text : List ℕ) (select : Select) (bytes : Te
   pub own : IsOwnReason s why
   pub out : (new : Session) → Logs s new (event.Run (next_who s.journal.events) (how.Plain why)) bytes → SelectsOut s new text select
 
-pub kept_out : (s : Session) (text : List ℕ) (select : Select) (bytes : Text) (ts : List TableName) (why : Reason) → IsFit s → Comes s text select → GivesRows s select bytes → PassesRules s text select
-    → ts ≡ select_tables s.state.state.db select → unseen_reason s ts ≡ Some why → KeptOut s text select bytes why
+kept_out : (s : Session) (text : List ℕ) (select : Select) (bytes : Text) (ts : List TableName) (why : Reason) → IsFit s → Comes s text select → GivesRows s select bytes → PassesRules s text select
+    → ts ≡ select_tables s.state.state.db select → unseen_reason (state_at s) s.journal.events ts ≡ Some why → KeptOut s text select bytes why
 kept_out s text select bytes ts why fit comes gives p named is =
-    let unseen : unseen_reason s (select_tables s.state.state.db select) ≡ Some why = subst (λ (us : List TableName). unseen_reason s us ≡ Some why) named is in
-    let plain : plain_reason s.options s.state.state text select s.journal.events ≡ Some why = reasons_are s text select gives.r fit p.at gives.are ∙ (λ i. p.rule i or_else unseen i) in
+    let J = s.journal.events in
+    let unseen : unseen_reason s.state.state J (select_tables s.state.state.db select) ≡ Some why = subst (λ (x : State). unseen_reason x J (select_tables s.state.state.db select) ≡ Some why) p.at (subst (λ (us : List TableName). unseen_reason (state_at s) J us ≡ Some why) named is) in
+    let plain : plain_reason s.options s.state.state text select s.journal.events ≡ Some why = reasons_are s text select gives.r fit gives.are ∙ (λ i. p.rule i or_else unseen i) in
     record {
-      own = unseen_is_own s (select_tables s.state.state.db select) why p.at unseen;
+      own = unseen_is_own s (select_tables s.state.state.db select) why unseen;
       out = λ new logs. offered_plain s new text select bytes why comes gives plain logs;
     }
+
+-- as the calls tell it: no rule keeps it out, and these are its tables
+pub kept_out_by : (s : Session) (text : List ℕ) (select : Select) (bytes : Text) (o : Option Reason) (us ts : List TableName) (db : Name) (why : Reason) → IsFit s → Comes s text select → GivesRows s select bytes
+    → o ≡ rule_reason s.options s.state.state text select → ((x : Reason) → o ≡ Some x → ⊥) → us ≡ ts → ts ≡ select_tables db select → db ≡ s.state.state.db → unseen_reason (state_at s) s.journal.events us ≡ Some why
+    → KeptOut s text select bytes why
+kept_out_by s text select bytes o us ts db why fit comes gives rule none items tables named is =
+    kept_out s text select bytes us why fit comes gives (passes_rules s text select o comes rule none) (items ∙ tables ∙ ap (λ (d : Name). select_tables d select) named) is
 
 -- nothing does
 pub record MayBegin (s : Session) (text : List ℕ) (select : Select) (bytes : Text) (key : Text) (ts : List TableName) : Type 0 where
@@ -263,15 +259,23 @@ may_begin_so : (s : Session) (text : List ℕ) (select : Select) (bytes : Text) 
     → MayBegin s text select bytes (key_of_text s.state.state text) (select_tables s.state.state.db select)
 may_begin_so s text select bytes comes gives b = record { may = b.may; packets_are = b.packets_are; out = λ new logs. offered_start s new text select bytes comes gives b.reasons logs }
 
-pub may_begin : (s : Session) (text : List ℕ) (select : Select) (bytes key : Text) (ts us : List TableName) → IsFit s → Comes s text select → GivesRows s select bytes → PassesRules s text select
-    → us ≡ select_tables s.state.state.db select → unseen_reason s us ≡ None → ts ≡ select_tables s.state.state.db select → CanBeKeyed (state_at s) → key ≡ key_of_text (state_at s) text
+may_begin : (s : Session) (text : List ℕ) (select : Select) (bytes key : Text) (ts us : List TableName) → IsFit s → Comes s text select → GivesRows s select bytes → PassesRules s text select
+    → us ≡ select_tables s.state.state.db select → unseen_reason (state_at s) s.journal.events us ≡ None → ts ≡ select_tables s.state.state.db select → CanBeKeyed (state_at s) → key ≡ key_of_text (state_at s) text
     → MayBegin s text select bytes key ts
 may_begin s text select bytes key ts us fit comes gives p named unseen tables keyed is =
     let can : CanBeKeyed s.state.state = subst (λ (x : State). CanBeKeyed x) p.at keyed in
     let key_is : key ≡ key_of_text s.state.state text = is ∙ ap (λ (x : State). key_of_text x text) p.at in
-    let seen : unseen_reason s (select_tables s.state.state.db select) ≡ None = subst (λ (ts : List TableName). unseen_reason s ts ≡ None) named unseen in
+    let J = s.journal.events in
+    let seen : unseen_reason s.state.state J (select_tables s.state.state.db select) ≡ None = subst (λ (x : State). unseen_reason x J (select_tables s.state.state.db select) ≡ None) p.at (subst (λ (us : List TableName). unseen_reason (state_at s) J us ≡ None) named unseen) in
     let so = may_begin_so s text select bytes comes gives (begins s text select bytes fit comes gives can p.rule seen) in
     subst (λ (k : List ℕ). MayBegin s text select bytes k ts) (sym key_is) (subst (λ (l : List TableName). MayBegin s text select bytes (key_of_text s.state.state text) l) (sym tables) so)
+
+pub may_begin_by : (s : Session) (text : List ℕ) (select : Select) (bytes key : Text) (o : Option Reason) (us ts : List TableName) (db : Name) → IsFit s → Comes s text select → GivesRows s select bytes
+    → o ≡ rule_reason s.options s.state.state text select → ((x : Reason) → o ≡ Some x → ⊥) → us ≡ ts → ts ≡ select_tables db select → db ≡ s.state.state.db → unseen_reason (state_at s) s.journal.events us ≡ None
+    → CanBeKeyed (state_at s) → key ≡ key_of_text (state_at s) text → MayBegin s text select bytes key ts
+may_begin_by s text select bytes key o us ts db fit comes gives rule none items tables named unseen keyed is =
+    let its : ts ≡ select_tables s.state.state.db select = tables ∙ ap (λ (d : Name). select_tables d select) named in
+    may_begin s text select bytes key ts us fit comes gives (passes_rules s text select o comes rule none) (items ∙ its) unseen its keyed is
 
 -- ---- what a select answers
 

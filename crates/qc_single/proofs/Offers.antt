@@ -1,20 +1,17 @@
 -- A select that the cache doesn't answer.
 use Rattle.std.proofs.Math.Seq.{drop-cons}
-use Rattle.std.proofs.Common.{◌≡◌, ◌⊎◌, inl, inr, ◌+◌, ◌<◌, ◌≤◌, ℕ, suc, drop, get_or, Bool, true, false, cond, List, [], ◌∷◌, ◌++◌, length, refl, sym, ap, subst, ◌∙◌, true≢false, arith}
-use Rattle.std.specs.Prelude.{◌==◌, ◌&&◌, ◌||◌, not, Option, Some, None, Result, Ok, Err, find, map, nat_lt, is_some, option_map, MatchOption, if◌then◌else◌}
-use Rattle.std.specs.List.{list_all, list_any, AllByRecursion, concat}
-use Rattle.std.proofs.lemmas.Bool.{and_parts, and_from}
+use Rattle.std.proofs.Common.{◌≡◌, ◌⊎◌, inl, ◌+◌, ◌<◌, ◌≤◌, ℕ, suc, drop, get_or, Bool, true, false, cond, List, [], ◌∷◌, ◌++◌, length, refl, sym, ap, subst, ◌∙◌, true≢false, arith}
+use Rattle.std.specs.Prelude.{◌==◌, ◌&&◌, ◌||◌, not, Option, Some, None, Result, Ok, find, map, nat_lt, option_map, if◌then◌else◌}
+use Rattle.std.proofs.lemmas.Bool.{and_parts}
 use Rattle.std.proofs.lemmas.Bool.Decides.{nat_tests}
 use Rattle.qc_types.specs.declared.names.TableName.{TableName}
 use Rattle.qc_types.specs.declared.names.Why.{Why}
-use Rattle.qc_types.specs.declared.options.Options.{Options}
 use Rattle.qc_types.specs.declared.sql_error.SqlError.{SqlError}
-use Rattle.qc_types.specs.declared.text.Text.{Text}
+use Rattle.qc_sql.specs.declared.commands.Command.TheVariants as command
 use Rattle.qc_sql.specs.declared.statements.Select.{Select}
 use Rattle.qc_sql.specs.declared.statements.Statement.{Statement}
 use Rattle.qc_sql.specs.declared.statements.Statement.TheVariants as statement
 use Rattle.qc_sql.specs.Grammar.{ParseFault, head_of, meaning, trimmed}
-use Rattle.qc_sql.specs.Packets.{packet_list, packets, payloads}
 use Rattle.qc_sql.specs.Rows.{Rows, rows}
 use Rattle.qc_sql.specs.Rules.{asks, select_tables, why_not}
 use Rattle.qc_sql.specs.Words.{◌or_else◌, when}
@@ -22,29 +19,24 @@ use Rattle.qc_model.specs.declared.events.How.{How}
 use Rattle.qc_model.specs.declared.events.How.TheVariants as how
 use Rattle.qc_model.specs.declared.events.Reason.{Reason}
 use Rattle.qc_model.specs.declared.events.Reason.TheVariants as reason
-use Rattle.qc_model.specs.declared.events.Who.{Who}
-use Rattle.qc_model.specs.Journal.{Journal, last_change, present}
+use Rattle.qc_model.specs.Journal.{last_change}
 use Rattle.qc_model.specs.Cache.{Entry, cache}
-use Rattle.qc_model.specs.Choice.{Allows, IsNoRoom, answering, changed_since, has_key, is_asked, is_stale, is_visible, plain_reason, refusal_reason, rival, stale_reason, start_count, wrote}
-use Rattle.qc_model.specs.Licence.{IsLawful, MayHaveReason, MayStart, tables_of_key}
-use Rattle.qc_model.specs.Session.{State, Transaction, answer, answer_packets, base, flags_of, key_of_text, opened, rows_reply, snapshot_of, snapshot_taken, with_transaction}
-use Rattle.qc_history.specs.Answers.{CanBeKeyed, AnswersText}
-use Rattle.qc_history.specs.Runs.{IsKept, are_apart}
-use Rattle.qc_history.specs.Seen.{is_current, IsPlace}
-use Rattle.qc_history.proofs.Answers.{hits_answer, starts_answer}
-use Rattle.qc_history.proofs.Apart.{keys_apart}
-use Rattle.qc_history.proofs.Stays.{answers_stay}
+use Rattle.qc_model.specs.Choice.{Allows, answering, changed_since, has_key, is_asked, is_stale, is_visible, plain_reason, refusal_reason, rival, rule_reason, stale_reason, start_count, unseen_reason, wrote}
+use Rattle.qc_model.specs.Licence.{MayHaveReason}
+use Rattle.qc_model.specs.Session.{State, Transaction, answer, arrived, base, flags_of, key_of_text, opened, snapshot_of, snapshot_taken, with_transaction}
+use Rattle.qc_laws.specs.history.Answers.{CanBeKeyed}
+use Rattle.qc_laws.proofs.history.Answers.{hits_answer}
 use Rattle.std.proofs.lemmas.Slice.Eq.{bytes_eq-Decides}
-use Rattle.qc_kept.specs.declared.answers.KeptAnswer.{KeptAnswer}
-use Rattle.qc_kept.specs.Fronts.{ArePayloads}
-use Rattle.qc_kept.specs.Kept.{answer_of}
+use Rattle.qc_trx.specs.SnapshotStates.{SnapshotState}
+use Rattle.qc_single.specs.declared.entries.StoredEntry.{StoredEntry}
 use Rattle.qc_single.specs.declared.session.Session.{Session}
-use Rattle.qc_single.specs.Sound.{next_who, is_own_reason, entry_of, IsCached}
-use Rattle.qc_single.specs.Going.{GivesOut, IsFit, Logs, SelectsOut, select_given}
-use Rattle.qc_single.specs.Choosing.{state_at, answering_now, is_asked_for, rule_reason, unseen_reason, Comes, GivesRows, HasNone, HasPackets, IsMissed}
-use Rattle.qc_single.proofs.Hitting.{arrived_in, found_test, names_tables}
-use Rattle.qc_single.proofs.Looking.{one_answer, no_answer, place_by_fit}
-use Rattle.qc_single.proofs.Methods.{given_out}
+use Rattle.qc_single.specs.Sound.{next_who, is_own_reason, entry_of}
+use Rattle.qc_single.specs.Going.{Arrives, DoesOne, IsFit, SelectsOut}
+use Rattle.qc_single.specs.Choosing.{Comes, HasNone}
+use Rattle.qc_single.proofs.Hitting.{arrived_in, arrived_is, names_tables}
+use Rattle.qc_single.proofs.Looking.{found_test, place_by_fit}
+use Rattle.qc_single.proofs.Statements.{none_there, same_but, select_does}
+use Rattle.qc_single.proofs.Words.{not_answered, select_no_hit}
 
 -- ---- it comes
 
@@ -87,7 +79,7 @@ comes_plain old text select fit empty means none = record {
       let sound = fit.sound in
       let missed = none asked in
       let keyed = missed.keyed in
-      let can : CanBeKeyed state = record { name = keyed.name; charset = keyed.charset; limit = keyed.limit } in
+      let can : CanBeKeyed state = record { values = keyed.values; limit = keyed.limit } in
       let key = key_of_text state text in
       let test : Entry → Bool = λ e. e.complete && has_key key e && is_visible state J e in
       nothing (answering state J key) (λ x is.
@@ -100,40 +92,30 @@ comes_plain old text select fit empty means none = record {
 
 -- ---- the reasons
 
-or_assoc : (a b c : Option Reason) → ((a or_else b) or_else c) ≡ (a or_else (b or_else c))
-or_assoc (Some x) b c = refl
-or_assoc None b c = refl
-
-no_rival : (key : List ℕ) (kept : List KeptAnswer) → find (λ e. not e.complete && has_key key e) (map entry_of kept) ≡ None
+no_rival : (key : List ℕ) (stored : List StoredEntry) → find (λ e. not e.complete && has_key key e) (map entry_of stored) ≡ None
 no_rival key [] = refl
-no_rival key (a ∷ kept) = no_rival key kept
+no_rival key (a ∷ stored) = no_rival key stored
 
 or_none : (a : Option Reason) → (a or_else None) ≡ a
 or_none (Some x) = refl
 or_none None = refl
 
 -- of a select that isn't refused
-pub reasons_are : (s : Session) (text : List ℕ) (select : Select) (r : Rows) → IsFit s → state_at s ≡ s.state.state
+pub reasons_are : (s : Session) (text : List ℕ) (select : Select) (r : Rows) → IsFit s
     → rows select (base s.state.state s.journal.events) s.state.state.db (flags_of s.state.state) s.state.state.session ≡ Ok r
-    → plain_reason s.options s.state.state text select s.journal.events ≡ (rule_reason s.options s.state.state text select or_else unseen_reason s (select_tables s.state.state.db select))
-reasons_are s text select r fit at gives =
+    → plain_reason s.options s.state.state text select s.journal.events ≡ (rule_reason s.options s.state.state text select or_else unseen_reason s.state.state s.journal.events (select_tables s.state.state.db select))
+reasons_are s text select r fit gives =
     let state = s.state.state in
     let J = s.journal.events in
     let c = fit.cached in
-    let tables = select_tables state.db select in
-    let off = when (s.options.size == 0 || state.kind == 0) reason.Off in
-    let unasked = when (not (is_asked (asks (head_of (trimmed text)) state.kind))) reason.NotAsked in
-    let ruled = option_map reason.Rule (why_not state.db select) in
-    let written = option_map reason.Written (find (wrote state) tables) in
-    let stale = stale_reason state J (find (is_stale state J) tables) in
-    let alone : option_map (λ (entry : Entry). reason.Rival entry.serial) (rival J (key_of_text state text)) ≡ None =
-    ap (λ (es : List Entry). option_map (λ (entry : Entry). reason.Rival entry.serial) (find (λ e. not e.complete && has_key (key_of_text state text) e) es)) c.entries
-    ∙ ap (option_map (λ (entry : Entry). reason.Rival entry.serial)) (no_rival (key_of_text state text) s.kept) in
-    ap (λ (x : Result Rows SqlError). refusal_reason x or_else (off or_else (unasked or_else (ruled or_else (written or_else (stale or_else option_map (λ (entry : Entry). reason.Rival entry.serial) (rival J (key_of_text state text)))))))) gives
-    ∙ ap (λ (o : Option Reason). off or_else (unasked or_else (ruled or_else (written or_else (stale or_else o))))) alone
-    ∙ ap (λ (o : Option Reason). off or_else (unasked or_else (ruled or_else (written or_else o)))) (or_none stale)
-    ∙ ap (λ (x : State). off or_else (unasked or_else (ruled or_else (written or_else stale_reason state J (find (is_stale x J) tables))))) (sym at)
-    ∙ sym (or_assoc off (unasked or_else ruled) (unseen_reason s tables) ∙ ap (λ (o : Option Reason). off or_else o) (or_assoc unasked ruled (unseen_reason s tables)))
+    let key = key_of_text state text in
+    let rule = rule_reason s.options state text select in
+    let unseen = unseen_reason state J (select_tables state.db select) in
+    let named : Option Entry → Option Reason = λ o. option_map (λ (entry : Entry). reason.Rival entry.serial) o in
+    let alone : named (rival J key) ≡ None = ap (λ (es : List Entry). named (find (λ e. not e.complete && has_key key e) es)) c.entries ∙ ap named (no_rival key s.entries) in
+    ap (λ (x : Result Rows SqlError). refusal_reason x or_else (rule or_else (unseen or_else named (rival J key)))) gives
+    ∙ ap (λ (o : Option Reason). rule or_else (unseen or_else o)) alone
+    ∙ ap (λ (o : Option Reason). rule or_else o) (or_none unseen)
 
 -- one that the options, the cache type or the text give comes first
 pub ruled_out : (s : Session) (text : List ℕ) (select : Select) (r : Rows) (why : Reason)
@@ -142,24 +124,11 @@ pub ruled_out : (s : Session) (text : List ℕ) (select : Select) (r : Rows) (wh
 ruled_out s text select r why gives is =
     let state = s.state.state in
     let J = s.journal.events in
-    let tables = select_tables state.db select in
-    let off = when (s.options.size == 0 || state.kind == 0) reason.Off in
-    let unasked = when (not (is_asked (asks (head_of (trimmed text)) state.kind))) reason.NotAsked in
-    let ruled = option_map reason.Rule (why_not state.db select) in
-    let rest = option_map reason.Written (find (wrote state) tables) or_else (stale_reason state J (find (is_stale state J) tables) or_else option_map (λ (entry : Entry). reason.Rival entry.serial) (rival J (key_of_text state text))) in
-    ap (λ (x : Result Rows SqlError). refusal_reason x or_else (off or_else (unasked or_else (ruled or_else rest)))) gives
-    ∙ sym (or_assoc off (unasked or_else ruled) rest ∙ ap (λ (o : Option Reason). off or_else o) (or_assoc unasked ruled rest))
+    let rest = unseen_reason state J (select_tables state.db select) or_else option_map (λ (entry : Entry). reason.Rival entry.serial) (rival J (key_of_text state text)) in
+    ap (λ (x : Result Rows SqlError). refusal_reason x or_else (rule_reason s.options state text select or_else rest)) gives
     ∙ ap (λ (o : Option Reason). o or_else rest) is
 
 -- ---- a plain run
-
-not_answered : (s : Session) (text : List ℕ) (select : Select) → Comes s text select
-    → (if is_asked_for s.options s.state.state text then answering s.state.state s.journal.events (key_of_text s.state.state text) else None) ≡ None
-not_answered s text select comes = by (is_asked_for s.options s.state.state text) refl
-  where
-    by : (b : Bool) → is_asked_for s.options s.state.state text ≡ b → cond b (answering s.state.state s.journal.events (key_of_text s.state.state text)) None ≡ None
-    by true is = comes.none is
-    by false is = refl
 
 pub allows_plain : (s : Session) (text : List ℕ) (select : Select) (why : Reason) → Comes s text select → plain_reason s.options s.state.state text select s.journal.events ≡ Some why
     → Allows s.options s.state.state text select s.journal.events (how.Plain why)
@@ -212,23 +181,15 @@ not_visible_is_own s t (Some place) x is stale h =
     let later : place < last_change J t = above (last_change J t) place (subst (λ (o : Option ℕ). changed_since o (last_change J t) ≡ true) is stale) in
     subst (IsOwnReason s) same (refl, (refl, later))
 
-table_test : (p : TableName → Bool) (ts : List TableName) (t : TableName) → find p ts ≡ Some t → p t ≡ true
-table_test p [] t h = absurd cc
-table_test p (u ∷ ts) t h = elim (p u) as (λ b. p u ≡ b → cond b (Some u) (find p ts) ≡ Some t → p t ≡ true) [
-  | true ↦ λ is g. let same : u ≡ t = cc in subst (λ (v : TableName). p v ≡ true) same is
-  | false ↦ λ is g. table_test p ts t g
-] refl h
-
 stale_is_own : (s : Session) (ts : List TableName) (o : Option TableName) (x : Reason) → find (is_stale s.state.state s.journal.events) ts ≡ o → stale_reason s.state.state s.journal.events o ≡ Some x → IsOwnReason s x
 stale_is_own s ts None x is h = absurd cc
-stale_is_own s ts (Some t) x is h = not_visible_is_own s t (snapshot_of s.state.state) x refl (table_test (is_stale s.state.state s.journal.events) ts t is) h
+stale_is_own s ts (Some t) x is h = not_visible_is_own s t (snapshot_of s.state.state) x refl (found_test (is_stale s.state.state s.journal.events) ts t is) h
 
-pub unseen_is_own : (s : Session) (ts : List TableName) (why : Reason) → state_at s ≡ s.state.state → unseen_reason s ts ≡ Some why → IsOwnReason s why
-unseen_is_own s ts why at h =
+pub unseen_is_own : (s : Session) (ts : List TableName) (why : Reason) → unseen_reason s.state.state s.journal.events ts ≡ Some why → IsOwnReason s why
+unseen_is_own s ts why h =
     first_of_two (IsOwnReason s) (option_map reason.Written (find (wrote s.state.state) ts)) (stale_reason s.state.state s.journal.events (find (is_stale s.state.state s.journal.events) ts)) why
     (λ x g. written_is_own s (find (wrote s.state.state) ts) x g)
-    (λ x g. stale_is_own s ts (find (is_stale s.state.state s.journal.events) ts) x refl g)
-    (subst (λ (x : State). (option_map reason.Written (find (wrote s.state.state) ts) or_else stale_reason s.state.state s.journal.events (find (is_stale x s.journal.events) ts)) ≡ Some why) at h)
+    (λ x g. stale_is_own s ts (find (is_stale s.state.state s.journal.events) ts) x refl g) h
 
 -- ---- the first table of some kind
 
@@ -242,3 +203,22 @@ pub is_first : (p : TableName → Bool) (ts : List TableName) (i : ℕ) (t : Tab
 is_first p ts i t h is passes before =
     let behind : drop i ts ≡ t ∷ drop (suc i) ts = drop-cons ts i t h ∙ ap (λ (u : TableName). u ∷ drop (suc i) ts) (sym is) in
     sym before ∙ ap (find p) behind ∙ ap (λ b. cond b (Some t) (find p (drop (suc i) ts))) passes
+
+-- ---- a select that names tables arrives, and another doesn't
+
+pub arrived_select : (s : Select) (text : List ℕ) (old mid new : Session) → IsFit old → nat_lt 0 (length s.from) ≡ true → Arrives old mid → meaning (trimmed text) old.state.state.ansi ≡ Ok (statement.Select s)
+    → HasNone old text → SelectsOut mid new text s → DoesOne (command.Query text) old new
+arrived_select s text old mid new fit some a means none out =
+    let place = length old.journal.events + 1 in
+    let st = old.state.state in
+    let is : arrived place (statement.Select s) st ≡ with_transaction st (option_map (snapshot_taken place) (opened st)) = rw some refl in
+    let comes : Comes mid text s = subst (λ (m : Session). Comes m text s) (sym (arrived_is old mid a)) (comes_arrived old text s means none) in
+    select_does s text old mid new fit (same_but old mid a) (ap (λ (x : SnapshotState). x.state) a.state ∙ sym is) means (λ h may hit. absurd (select_no_hit mid text s comes h may hit)) out
+
+pub plain_select : (s : Select) (text : List ℕ) (old new : Session) → IsFit old → (length s.from == 0) ≡ true → meaning (trimmed text) old.state.state.ansi ≡ Ok (statement.Select s)
+    → HasNone old text → SelectsOut old new text s → DoesOne (command.Query text) old new
+plain_select s text old new fit empty means none out =
+    let st = old.state.state in
+    let is : arrived (length old.journal.events + 1) (statement.Select s) st ≡ st = rw (none_there (length s.from) empty) refl in
+    let comes : Comes old text s = comes_plain old text s fit empty means none in
+    select_does s text old old new fit (record { journal = refl; lines = refl; options = refl }) (sym is) means (λ h may hit. absurd (select_no_hit old text s comes h may hit)) out

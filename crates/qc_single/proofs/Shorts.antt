@@ -10,13 +10,12 @@ use Rattle.std.proofs.lemmas.Bool.{and_parts, and_from}
 use Rattle.qc_types.specs.declared.names.TableName.{TableName}
 use Rattle.qc_sql.specs.declared.tables.RowOp.{RowOp}
 use Rattle.qc_sql.specs.declared.tables.RowOp.TheVariants as op
-use Rattle.qc_sql.specs.Database.{Name, name_cmp, MapOf, Database, Table, Tables, no_tables, change_at, tables_of, with_row, without_row, apply_one, apply}
+use Rattle.qc_sql.specs.Database.{Name, name_cmp, MapOf, Database, Table, Tables, no_tables, change_at, tables_of, with_row, without_row, apply_one, apply, most_rows}
 use Rattle.qc_sql.specs.Words.{◌or_else◌, when}
 use Rattle.qc_sql.proofs.Untouched.{at, at_is}
-use Rattle.qc_model.specs.Licence.{most_rows}
 use Rattle.qc_model.specs.Machine.{full_in, full_table}
-use Rattle.qc_bounds.specs.Names.{is_short}
-use Rattle.qc_fits.proofs.Maps.{some_is}
+use Rattle.qc_laws.specs.sizes.Names.{is_short}
+use Rattle.qc_laws.proofs.fits.Maps.{some_is}
 use Rattle.qc_single.specs.Sound.{are_named, have_short_names, are_short, makes_short_name}
 
 -- ---- maps whose names are short

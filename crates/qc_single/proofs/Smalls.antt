@@ -14,12 +14,12 @@ use Rattle.qc_sql.specs.Rules.{full_name}
 use Rattle.qc_sql.specs.Rows.{bound_in, first_repeated}
 use Rattle.qc_sql.specs.Effects.{Effect, new_column, new_key, marked, has_one_key, bad_length, known_database, create_effect, drop_effect, truncate_effect, create_db_effect, drop_db_of, effect}
 use Rattle.qc_sql.specs.Errors.{table_exists, too_many_columns, duplicate_column, no_key_column, not_supported}
-use Rattle.qc_bounds.specs.Names.{is_short, passes_if_there, is_short_table, is_short_part, is_short_statement}
-use Rattle.qc_bounds.specs.Replies.{is_bounded_operation}
-use Rattle.qc_bounds.proofs.Changes.{changes_are_bounded}
-use Rattle.qc_fits.specs.Sound.{is_row_op, rows_changed_by}
-use Rattle.qc_fits.proofs.Given.{Given, gives, refuses, anyway, after, unless, unless_some, given_has}
-use Rattle.qc_fits.proofs.RowChanges.{changes_are_rows}
+use Rattle.qc_laws.specs.sizes.Names.{is_short, passes_if_there, is_short_table, is_short_part, is_short_statement}
+use Rattle.qc_laws.specs.sizes.Replies.{is_bounded_operation}
+use Rattle.qc_laws.proofs.sizes.Changes.{changes_are_bounded}
+use Rattle.qc_laws.specs.fits.Sound.{is_row_op, rows_changed_by}
+use Rattle.qc_laws.proofs.fits.Given.{Given, gives, refuses, anyway, after, unless, unless_some, given_has}
+use Rattle.qc_laws.proofs.fits.RowChanges.{changes_are_rows}
 use Rattle.qc_single.specs.Sound.{makes_short_name, is_small_operation, IsOrderly}
 
 small_from : (ops : List RowOp) → list_all is_bounded_operation ops ≡ true → list_all makes_short_name ops ≡ true → list_all is_small_operation ops ≡ true

@@ -12,12 +12,11 @@ use Rattle.qc_model.specs.declared.events.How.{How}
 use Rattle.qc_model.specs.Cache.{is_hit, is_start}
 use Rattle.qc_model.specs.Journal.{Journal, operations, present}
 use Rattle.qc_model.specs.Licence.{ops_fit, is_within_rows, IsLicensed}
-use Rattle.qc_history.proofs.Events.{lawful_push, present_push}
-use Rattle.qc_kept.specs.declared.answers.KeptAnswer.{KeptAnswer}
-use Rattle.qc_bounds.specs.Replies.{is_bounded_database, is_bounded_operation}
-use Rattle.qc_bounds.proofs.Applied.{databases_stay_bounded}
-use Rattle.qc_fits.specs.Sound.{IsSoundDatabase}
-use Rattle.qc_fits.proofs.Stays.{sound_stays}
+use Rattle.qc_laws.proofs.history.Events.{lawful_push, present_push}
+use Rattle.qc_single.specs.declared.entries.StoredEntry.{StoredEntry}
+use Rattle.qc_laws.specs.sizes.Replies.{is_bounded_operation}
+use Rattle.qc_laws.proofs.sizes.Applied.{databases_stay_bounded}
+use Rattle.qc_laws.proofs.fits.Stays.{sound_stays}
 use Rattle.qc_single.specs.Sound.{next_who, is_quiet, is_simple, is_small_operation, makes_short_name, IsSound, IsCached, IsOrderly}
 use Rattle.qc_single.proofs.Journals.{may_decide, simple_more}
 use Rattle.qc_single.proofs.Shorts.{stay_short}
@@ -44,11 +43,11 @@ stays_orderly ops d o small fit within =
 
 -- ---- the journal
 
-pub sound_commit : {o : Options} (J : Journal) (d : Database) (ops : List RowOp) (kept : List KeptAnswer) → IsSound o J d → IsCached J kept → 0 < length ops → list_all is_small_operation ops ≡ true → ops_fit ops d ≡ true → is_within_rows (apply ops d) ≡ true
+pub sound_commit : {o : Options} (J : Journal) (d : Database) (ops : List RowOp) (stored : List StoredEntry) → IsSound o J d → IsCached J stored → 0 < length ops → list_all is_small_operation ops ≡ true → ops_fit ops d ≡ true → is_within_rows (apply ops d) ≡ true
     → IsSound o (J ++ event.Commit (next_who J) ops ∷ []) (apply ops d)
-sound_commit {o} J d ops kept s c some small fit within =
+sound_commit {o} J d ops stored s c some small fit within =
     let licence : IsLicensed o J (event.Commit (next_who J) ops) = (
-      may_decide J kept c,
+      may_decide J stored c,
       record {
         some = some;
         fit = subst (λ (x : Database). ops_fit ops x ≡ true) s.database fit;

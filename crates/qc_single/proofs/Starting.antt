@@ -1,37 +1,31 @@
 -- An entry that begins.
-use Rattle.std.proofs.Common.{◌≡◌, ◌+◌, ◌<◌, ◌≤◌, ℕ, suc, Bool, true, false, cond, List, [], ◌∷◌, ◌++◌, length, refl, sym, ap, subst, ◌∙◌, true≢false, arith, append_assoc, length-append}
-use Rattle.std.specs.Prelude.{◌==◌, ◌&&◌, ◌||◌, not, Option, Some, None, Ok, find, map, nat_lt, is_some, option_map, IsSomeAnd, if◌then◌else◌}
-use Rattle.std.specs.List.{list_all, list_any, AllByRecursion, concat}
-use Rattle.std.proofs.lemmas.Bool.{and_parts, and_from}
+use Rattle.std.proofs.Common.{◌≡◌, ◌+◌, ◌<◌, ◌≤◌, ℕ, suc, Bool, true, false, cond, List, [], ◌∷◌, ◌++◌, length, refl, sym, ap, subst, ◌∙◌, arith, append_assoc, length-append}
+use Rattle.std.specs.Prelude.{◌==◌, ◌&&◌, ◌||◌, Option, Some, map, nat_lt, option_map, IsSomeAnd, if◌then◌else◌}
+use Rattle.std.specs.List.{concat}
 use Rattle.std.proofs.lemmas.Bool.Decides.{nat_tests}
-use Rattle.qc_types.specs.declared.names.TableName.{TableName}
 use Rattle.qc_types.specs.declared.options.Options.{Options}
-use Rattle.qc_types.specs.declared.text.Text.{Text}
-use Rattle.qc_sql.specs.declared.statements.Select.{Select}
 use Rattle.qc_sql.specs.Packets.{numbered, payloads}
-use Rattle.qc_sql.specs.Rules.{select_tables, why_not}
 use Rattle.qc_model.specs.declared.events.Event.{Event}
 use Rattle.qc_model.specs.declared.events.Event.TheVariants as event
 use Rattle.qc_model.specs.declared.events.GoneWhy.TheVariants as gone
 use Rattle.qc_model.specs.declared.events.How.TheVariants as how
 use Rattle.qc_model.specs.Journal.{Journal, event_count, is_by, operations, present}
 use Rattle.std.proofs.lemmas.List.Sums.{sum_by-cons}
-use Rattle.qc_model.specs.Cache.{Entry, cache, is_run, is_start}
+use Rattle.qc_model.specs.Cache.{cache, is_run, is_start}
 use Rattle.qc_model.specs.Cache as entries
 use Rattle.qc_model.specs.Choice.{start_count}
-use Rattle.qc_model.specs.Licence.{IsLicensed, MayStart, front_above}
-use Rattle.qc_model.specs.Agrees.{ends_fill, fill_ends, is_ended, removes}
+use Rattle.qc_model.specs.Licence.{IsLicensed, MayStart, prefix_above}
+use Rattle.qc_model.specs.Agrees.{ends_fill, is_ended, removes}
 use Rattle.qc_model.specs.Session.{answer, answer_packets}
-use Rattle.qc_history.proofs.Events.{present_push}
+use Rattle.qc_laws.proofs.history.Events.{present_push}
 use Rattle.qc_journal.specs.Room.{Recorded}
-use Rattle.qc_kept.specs.declared.answers.KeptAnswer.{KeptAnswer}
-use Rattle.qc_kept.specs.Fronts.{ArePayloads}
-use Rattle.qc_trx.specs.Standings.{Standing}
+use Rattle.qc_single.specs.declared.entries.StoredEntry.{StoredEntry}
+use Rattle.qc_trx.specs.SnapshotStates.{SnapshotState}
 use Rattle.qc_single.specs.declared.session.Session.{Session}
 use Rattle.qc_single.specs.Stage.{HasWords}
 use Rattle.qc_single.specs.Sound.{entry_of, next_who, is_simple, IsSound, IsCached, IsFitState}
 use Rattle.qc_single.specs.Going.{line_at, Adds, IsFit, Logs}
-use Rattle.qc_single.specs.Choosing.{end_of, is_too_large, kept_with, Fills, HasPackets}
+use Rattle.qc_single.specs.Choosing.{end_of, is_too_large, entries_with, Fills, HasPackets}
 use Rattle.qc_single.proofs.Caches.{is_filled, done_cached, gone_cached}
 use Rattle.qc_single.proofs.Journals.{count_none, count_own, may_decide}
 use Rattle.qc_single.proofs.Sounds.{sound_event}
@@ -43,38 +37,38 @@ not_over n m h = grind (arith, nat_tests)
 over : (n m : ℕ) → nat_lt n m ≡ true → n < m
 over n m h = grind (arith, nat_tests)
 
--- the front that is longer than a limit is, where all is longer
-front_is_longer : (limit sum : ℕ) (ps : List (List ℕ)) → limit < sum + length (concat ps) → limit < front_above limit sum ps
-front_is_longer limit sum [] h = omega (arith, h)
-front_is_longer limit sum (p ∷ ps) h =
+-- the prefix that is longer than a limit is, where all is longer
+prefix_is_longer : (limit sum : ℕ) (ps : List (List ℕ)) → limit < sum + length (concat ps) → limit < prefix_above limit sum ps
+prefix_is_longer limit sum [] h = omega (arith, h)
+prefix_is_longer limit sum (p ∷ ps) h =
     let split = length-append p (concat ps) in
     let more : limit < sum + length p + length (concat ps) = omega (arith, h, split) in
-    elim (nat_lt limit sum) as (λ b. nat_lt limit sum ≡ b → limit < cond b sum (front_above limit (sum + length p) ps)) [
+    elim (nat_lt limit sum) as (λ b. nat_lt limit sum ≡ b → limit < cond b sum (prefix_above limit (sum + length p) ps)) [
       | true ↦ λ is. over limit sum is
-      | false ↦ λ is. front_is_longer limit (sum + length p) ps more
+      | false ↦ λ is. prefix_is_longer limit (sum + length p) ps more
     ] refl
 
 -- ---- what comes behind the start
 
-abbrev pub start_of : Journal → KeptAnswer → Event
+abbrev pub start_of : Journal → StoredEntry → Event
 start_of J a = event.Run (next_who J) (how.Start a.serial a.key a.tables)
 
--- the end of an entry is lawful, and leaves the answers that are kept
-pub record EndsWell (o : Options) (J : Journal) (a : KeptAnswer) (kept : List KeptAnswer) (end : Event) : Type 0 where
+-- the end of an entry is lawful, and leaves the stored entries as the cache has them
+pub record EndsWell (o : Options) (J : Journal) (a : StoredEntry) (stored : List StoredEntry) (end : Event) : Type 0 where
   pub none : operations end ≡ []
   pub simple : is_simple end ≡ true
   pub quiet : is_by 1 end ≡ false
   pub closes : ends_fill a.serial end ≡ true
   pub licensed : IsLicensed o (J ++ start_of J a ∷ []) end
-  pub cached : IsCached ((J ++ start_of J a ∷ []) ++ end ∷ []) (kept_with o a kept)
+  pub cached : IsCached ((J ++ start_of J a ∷ []) ++ end ∷ []) (entries_with o a stored)
 
 same_serial : (n : ℕ) → (n == n) ≡ true
 same_serial n = grind (arith, nat_tests)
 
-ends_by : (o : Options) (J : Journal) (a : KeptAnswer) (kept : List KeptAnswer) (ps : List (List ℕ)) (b : Bool) → is_too_large o a ≡ b → IsSound o J (present J) → IsCached J kept → a.serial ≡ start_count J + 1
+ends_by : (o : Options) (J : Journal) (a : StoredEntry) (stored : List StoredEntry) (ps : List (List ℕ)) (b : Bool) → is_too_large o a ≡ b → IsSound o J (present J) → IsCached J stored → a.serial ≡ start_count J + 1
     → answer_packets a.key (present J) ≡ Some ps → a.packets ≡ concat ps
-    → EndsWell o J a kept (if b then event.Gone a.serial (gone.TooLarge (front_above o.limit 0 ps) o.limit) else event.Done a.serial)
-ends_by o J a kept ps true large sound c next packets are =
+    → EndsWell o J a stored (if b then event.Gone a.serial (gone.TooLarge (prefix_above o.limit 0 ps) o.limit) else event.Done a.serial)
+ends_by o J a stored ps true large sound c next packets are =
     let K : Journal = J ++ start_of J a ∷ [] in
     let now : answer_packets a.key (present K) ≡ Some ps = ap (answer_packets a.key) (present_push J (start_of J a)) ∙ packets in
     record {
@@ -87,20 +81,20 @@ ends_by o J a kept ps true large sound c next packets are =
         (
           refl,
           longer,
-          is_filled o J (next_who J) a.serial a.key a.tables (λ e. IsSomeAnd (answer_packets e.key (present K)) (λ qs. front_above o.limit 0 ps ≡ front_above o.limit 0 qs)) sound.lawful next
-              (subst (λ (x : Option (List (List ℕ))). IsSomeAnd x (λ qs. front_above o.limit 0 ps ≡ front_above o.limit 0 qs)) (sym now) refl),
+          is_filled o J (next_who J) a.serial a.key a.tables (λ e. IsSomeAnd (answer_packets e.key (present K)) (λ qs. prefix_above o.limit 0 ps ≡ prefix_above o.limit 0 qs)) sound.lawful next
+              (subst (λ (x : Option (List (List ℕ))). IsSomeAnd x (λ qs. prefix_above o.limit 0 ps ≡ prefix_above o.limit 0 qs)) (sym now) refl),
         ),
       );
-      cached = subst (λ (ks : List KeptAnswer). IsCached (K ++ event.Gone a.serial (gone.TooLarge (front_above o.limit 0 ps) o.limit) ∷ []) ks) (sym (ap (λ b. cond b kept (kept ++ a ∷ [])) large))
-          (gone_cached o J (next_who J) a.serial a.key a.tables (gone.TooLarge (front_above o.limit 0 ps) o.limit) kept sound.lawful next c);
+      cached = subst (λ (ks : List StoredEntry). IsCached (K ++ event.Gone a.serial (gone.TooLarge (prefix_above o.limit 0 ps) o.limit) ∷ []) ks) (sym (ap (λ b. cond b stored (stored ++ a ∷ [])) large))
+          (gone_cached o J (next_who J) a.serial a.key a.tables (gone.TooLarge (prefix_above o.limit 0 ps) o.limit) stored sound.lawful next c);
     }
   where
     size : o.limit < length (concat ps)
     size = subst (λ (bytes : List ℕ). o.limit < length bytes) are (over o.limit (length a.packets) large)
 
-    longer : o.limit < front_above o.limit 0 ps
-    longer = front_is_longer o.limit 0 ps (omega (arith, size))
-ends_by o J a kept ps false large sound c next packets are =
+    longer : o.limit < prefix_above o.limit 0 ps
+    longer = prefix_is_longer o.limit 0 ps (omega (arith, size))
+ends_by o J a stored ps false large sound c next packets are =
     let K : Journal = J ++ start_of J a ∷ [] in
     let here : answer a.key (present J) ≡ Some a.packets = ap (option_map concat) packets ∙ ap (λ (bytes : List ℕ). Some bytes) (sym are) in
     let now : answer a.key (present K) ≡ Some a.packets = ap (answer a.key) (present_push J (start_of J a)) ∙ here in
@@ -112,13 +106,13 @@ ends_by o J a kept ps false large sound c next packets are =
       closes = same_serial a.serial;
       licensed = is_filled o J (next_who J) a.serial a.key a.tables (λ e. (e.complete ≡ false) × IsSomeAnd (answer e.key (present K)) (λ bytes. length bytes ≤ o.limit)) sound.lawful next
           (refl, subst (λ (x : Option (List ℕ)). IsSomeAnd x (λ bytes. length bytes ≤ o.limit)) (sym now) fits);
-      cached = subst (λ (ks : List KeptAnswer). IsCached (K ++ event.Done a.serial ∷ []) ks) (sym (ap (λ b. cond b kept (kept ++ a ∷ [])) large))
-          (done_cached o J (next_who J) a kept sound.lawful next c here);
+      cached = subst (λ (ks : List StoredEntry). IsCached (K ++ event.Done a.serial ∷ []) ks) (sym (ap (λ b. cond b stored (stored ++ a ∷ [])) large))
+          (done_cached o J (next_who J) a stored sound.lawful next c here);
     }
 
-pub ends_well : (o : Options) (J : Journal) (a : KeptAnswer) (kept : List KeptAnswer) (ps : List (List ℕ)) → IsSound o J (present J) → IsCached J kept → a.serial ≡ start_count J + 1
-    → answer_packets a.key (present J) ≡ Some ps → a.packets ≡ concat ps → EndsWell o J a kept (end_of o a ps)
-ends_well o J a kept ps sound c next packets are = ends_by o J a kept ps (is_too_large o a) refl sound c next packets are
+pub ends_well : (o : Options) (J : Journal) (a : StoredEntry) (stored : List StoredEntry) (ps : List (List ℕ)) → IsSound o J (present J) → IsCached J stored → a.serial ≡ start_count J + 1
+    → answer_packets a.key (present J) ≡ Some ps → a.packets ≡ concat ps → EndsWell o J a stored (end_of o a ps)
+ends_well o J a stored ps sound c next packets are = ends_by o J a stored ps (is_too_large o a) refl sound c next packets are
 
 -- ---- the start, and its end
 
@@ -135,7 +129,7 @@ ended_last n earlier (e ∷ J) end h =
       ]
     ]
 
-pub started : (old mid last new : Session) (a : KeptAnswer) (end : Event) → IsFit old → MayStart old.options old.journal.events a.serial a.key a.tables
+pub started : (old mid last new : Session) (a : StoredEntry) (end : Event) → IsFit old → MayStart old.options old.journal.events a.serial a.key a.tables
     → HasPackets old.journal.events a.key a.packets → Fills old mid a end → Adds mid last (start_of old.journal.events a) a.packets
     → new ≡ record last { journal = new.journal } → new.journal.events ≡ last.journal.events ++ end ∷ []
     → Logs old new (start_of old.journal.events a) a.packets
@@ -147,7 +141,7 @@ started old mid last new a end fit may has fills adds same push =
     let ps = numbered 1 has.payloads in
     let sound = fit.sound in
     let here : IsSound o J (present J) = subst (λ d. IsSound o J d) sound.database fit.sound in
-    let well : EndsWell o J a old.kept end = subst (λ (x : Event). EndsWell o J a old.kept x) (sym (fills.ends has.payloads has.fit has.are)) (ends_well o J a old.kept ps here fit.cached may.next has.packets has.are) in
+    let well : EndsWell o J a old.entries end = subst (λ (x : Event). EndsWell o J a old.entries x) (sym (fills.ends has.payloads has.fit has.are)) (ends_well o J a old.entries ps here fit.cached may.next has.packets has.are) in
     let journal : mid.journal ≡ old.journal = ap (λ (s : Session). s.journal) fills.same in
     let lines : mid.lines ≡ old.lines = ap (λ (s : Session). s.lines) fills.same in
     let first : last.journal.events ≡ K = subst (λ (j : Recorded). last.journal.events ≡ j.events ++ e ∷ []) journal adds.events in
@@ -155,10 +149,10 @@ started old mid last new a end fit may has fills adds same push =
     let options : new.options ≡ o = ap (λ (s : Session). s.options) same ∙ adds.options ∙ ap (λ (s : Session). s.options) fills.same in
     let database : new.database ≡ old.database = ap (λ (s : Session). s.database) same ∙ adds.database ∙ ap (λ (s : Session). s.database) fills.same in
     let state : new.state ≡ old.state = ap (λ (s : Session). s.state) same ∙ adds.state ∙ ap (λ (s : Session). s.state) fills.same in
-    let kept : new.kept ≡ kept_with o a old.kept = ap (λ (s : Session). s.kept) same ∙ adds.kept ∙ fills.kept in
+    let stored : new.entries ≡ entries_with o a old.entries = ap (λ (s : Session). s.entries) same ∙ adds.entries ∙ fills.entries in
     let number : new.number ≡ old.number + 1 = ap (λ (s : Session). s.number) same ∙ adds.number ∙ ap (λ (s : Session). s.number + 1) fills.same in
     let place : new.place ≡ length J + 1 = ap (λ (s : Session). s.place) same ∙ subst (λ (j : Recorded). last.place ≡ length j.events + 1) journal adds.place in
-    let one : IsSound o K old.database = sound_event J old.database e fit.sound refl refl (may_decide J old.kept fit.cached, may) in
+    let one : IsSound o K old.database = sound_event J old.database e fit.sound refl refl (may_decide J old.entries fit.cached, may) in
     let both : IsSound o (K ++ end ∷ []) old.database = sound_event K old.database end one well.none well.simple well.licensed in
     let counted : event_count (K ++ end ∷ []) 1 ≡ event_count J 1 + 1 = count_none K end well.quiet ∙ count_own J e refl in
     let long : length (K ++ end ∷ []) ≡ length J + 2 = omega (arith, length-append K (end ∷ []), length-append J (e ∷ [])) in
@@ -176,8 +170,8 @@ started old mid last new a end fit may has fills adds same push =
       fit = record {
         sound = subst (λ (x : Options). IsSound x new.journal.events new.database) (sym options)
             (subst (λ d. IsSound o new.journal.events d) (sym database) (subst (λ (j : Journal). IsSound o j old.database) (sym events) both));
-        state = subst (λ (x : Standing). IsFitState new.journal.events x) (sym state) (subst (λ (j : Journal). IsFitState j old.state) (sym events) (fit_more K end old.state well.none (fit_more J e old.state refl fit.state)));
-        cached = subst (λ (ks : List KeptAnswer). IsCached new.journal.events ks) (sym kept) (subst (λ (j : Journal). IsCached j (kept_with o a old.kept)) (sym events) well.cached);
+        state = subst (λ (x : SnapshotState). IsFitState new.journal.events x) (sym state) (subst (λ (j : Journal). IsFitState j old.state) (sym events) (fit_more K end old.state well.none (fit_more J e old.state refl fit.state)));
+        cached = subst (λ (ks : List StoredEntry). IsCached new.journal.events ks) (sym stored) (subst (λ (j : Journal). IsCached j (entries_with o a old.entries)) (sym events) well.cached);
         words = subst HasWords (sym options) fit.words;
         numbered = number ∙ ap (λ n. n + 1) (fit.numbered ∙ sym counted) ∙ ap (λ (j : Journal). event_count j 1 + 1) (sym events);
         reached = subst (λ (j : Journal). new.place ≤ length j) (sym events) (subst (λ n. n ≤ length (K ++ end ∷ [])) (sym place) within);
@@ -197,9 +191,9 @@ starts_within (e ∷ es) =
     by true is c rest = let one : ◌≡◌ {A = ℕ} (cond (is_run is_start e) 1 0) 1 = ap (λ b. cond b 1 0) is in omega (arith, c, one, rest)
     by false is c rest = let one : ◌≡◌ {A = ℕ} (cond (is_run is_start e) 1 0) 0 = ap (λ b. cond b 1 0) is in omega (arith, c, one, rest)
 
-entries_length : (kept : List KeptAnswer) → length (map entry_of kept) ≡ length kept
-entries_length [] = refl
-entries_length (a ∷ kept) = ap suc (entries_length kept)
+same_length : (stored : List StoredEntry) → length (map entry_of stored) ≡ length stored
+same_length [] = refl
+same_length (a ∷ stored) = ap suc (same_length stored)
 
-pub kept_length : (s : Session) → IsFit s → length s.kept ≡ length (cache s.journal.events)
-kept_length s fit = let c = fit.cached in sym (ap length c.entries ∙ entries_length s.kept)
+pub entries_length : (s : Session) → IsFit s → length s.entries ≡ length (cache s.journal.events)
+entries_length s fit = let c = fit.cached in sym (ap length c.entries ∙ same_length s.entries)

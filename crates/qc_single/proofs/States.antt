@@ -11,14 +11,14 @@ use Rattle.qc_sql.specs.Database.{Name, Database, apply, apply_one, empty_databa
 use Rattle.qc_model.specs.declared.events.Event.{Event}
 use Rattle.qc_model.specs.declared.events.Event.TheVariants as event
 use Rattle.qc_model.specs.Journal.{Journal, operations, database_after, present, before}
-use Rattle.qc_model.specs.Session.{State, Transaction, snapshot_of, opened, snapshot_taken, at_snapshot, base, own_operations, none_open, with_transaction}
+use Rattle.qc_model.specs.Session.{State, Transaction, snapshot_of, opened, snapshot_taken, at_snapshot, base, own_operations, with_transaction}
 use Rattle.qc_model.specs.Licence.{IsLawful, IsLawfulAfter, IsLicensed, ops_fit, op_fits, is_within_rows}
-use Rattle.qc_bounds.specs.Names.{is_short}
-use Rattle.qc_fits.specs.Sound.{IsNoChangeAt, is_row_op}
-use Rattle.qc_trx.specs.Standings.{Standing, origin_taken, seen_on, after_begin, after_arrival, after_sight, after_end, with_operations, added, in_database}
+use Rattle.qc_laws.specs.sizes.Names.{is_short}
+use Rattle.qc_laws.specs.fits.Sound.{IsNoChangeAt, is_row_op}
+use Rattle.qc_trx.specs.SnapshotStates.{SnapshotState, origin_taken, seen_on, after_begin, after_end, with_operations, added, in_database}
 use Rattle.qc_trx.specs.Endings.{IsOriginIn, StandsIn}
-use Rattle.qc_single.specs.Sound.{is_simple, is_small_operation, IsSound, IsOrderly, MayFollow, AreOwn, HasSnapshot, IsFitAt, IsFitTransaction, IsFitIn, IsFitState, arrived_standing}
-use Rattle.qc_history.proofs.Events.{present_push}
+use Rattle.qc_single.specs.Sound.{is_simple, is_small_operation, IsSound, IsOrderly, MayFollow, AreOwn, HasSnapshot, IsFitAt, IsFitTransaction, IsFitIn, IsFitState, arrived_snapshot_state}
+use Rattle.qc_laws.proofs.history.Events.{present_push}
 use Rattle.qc_single.proofs.Sounds.{stays_orderly}
 
 -- ---- the database at a place of the journal
@@ -35,11 +35,11 @@ lawful_front : (options : Options) (earlier xs ys : Journal) → IsLawfulAfter o
 lawful_front options earlier [] ys h = tt
 lawful_front options earlier (x ∷ xs) ys h = (h.0, lawful_front options (earlier ++ x ∷ []) xs ys h.1)
 
-front_simple : (xs ys : Journal) → list_all is_simple (xs ++ ys) ≡ true → list_all is_simple xs ≡ true
-front_simple [] ys h = refl
-front_simple (x ∷ xs) ys h =
+prefix_simple : (xs ys : Journal) → list_all is_simple (xs ++ ys) ≡ true → list_all is_simple xs ≡ true
+prefix_simple [] ys h = refl
+prefix_simple (x ∷ xs) ys h =
     let p = and_parts (is_simple x) (list_all is_simple (xs ++ ys)) h in
-    and_from (is_simple x) (list_all is_simple xs) p.0 (front_simple xs ys p.1)
+    and_from (is_simple x) (list_all is_simple xs) p.0 (prefix_simple xs ys p.1)
 
 orderly_next : (o : Options) (J : Journal) (e : Event) → is_simple e ≡ true → IsLicensed o J e → IsOrderly (present J) → IsOrderly (apply (operations e) (present J))
 orderly_next o J (event.Commit who ops) h l ok =
@@ -72,7 +72,7 @@ pub orderly_before : {o : Options} (J : Journal) (d : Database) (place : ℕ) �
 orderly_before {o} J d place s =
     let n = place - 1 in
     let whole : take n J ++ drop n J ≡ J = split_at n J in
-    let simple = front_simple (take n J) (drop n J) (subst (λ (j : Journal). list_all is_simple j ≡ true) (sym whole) s.simple) in
+    let simple = prefix_simple (take n J) (drop n J) (subst (λ (j : Journal). list_all is_simple j ≡ true) (sym whole) s.simple) in
     let lawful = lawful_front o [] (take n J) (drop n J) (subst (λ (j : Journal). IsLawful o j) (sym whole) s.lawful) in
     orderly_from o [] (take n J) simple lawful orderly_start
 
@@ -88,8 +88,8 @@ seen_with : (J : Journal) (s : State) (t : Option Transaction) (origin : Option 
 seen_with J s None origin h = ap (λ (o : Option Database). unwrap_or o (present J)) h
 seen_with J s (Some t) origin h = seen_by J t.snapshot t.operations origin h
 
--- the database that a session's state shows is the one on which its statements are judged
-pub base_is : (J : Journal) (x : Standing) → IsFitState J x → seen_on (present J) x ≡ base x.state J
+-- the database that a session's state shows is the one on which its statements are validated
+pub base_is : (J : Journal) (x : SnapshotState) → IsFitState J x → seen_on (present J) x ≡ base x.state J
 base_is J x f = seen_with J x.state x.state.transaction x.origin f.transaction
 
 orderly_by : {o : Options} (J : Journal) (d : Database) (p : Option ℕ) (ops : List RowOp) (origin : Option Database) → IsSound o J d → IsFitAt J origin p ops
@@ -101,7 +101,7 @@ orderly_with : {o : Options} (J : Journal) (d : Database) (s : State) (t : Optio
 orderly_with J d s None origin sound h = subst IsOrderly sound.database sound.orderly
 orderly_with J d s (Some t) origin sound h = orderly_by J d t.snapshot t.operations origin sound h
 
-pub orderly_base : {o : Options} (J : Journal) (d : Database) (x : Standing) → IsSound o J d → IsFitState J x → IsOrderly (base x.state J)
+pub orderly_base : {o : Options} (J : Journal) (d : Database) (x : SnapshotState) → IsSound o J d → IsFitState J x → IsOrderly (base x.state J)
 orderly_base J d x s f = orderly_with J d x.state x.state.transaction x.origin s f.transaction
 
 -- ---- an event more
@@ -133,18 +133,18 @@ fit_with : (J : Journal) (t : Option Transaction) (origin : Option Database) (e 
 fit_with J None origin e h f = f
 fit_with J (Some t) origin e h f = fit_by J t.snapshot t.operations origin e h f
 
-pub fit_more : (J : Journal) (e : Event) (x : Standing) → operations e ≡ [] → IsFitState J x → IsFitState (J ++ e ∷ []) x
+pub fit_more : (J : Journal) (e : Event) (x : SnapshotState) → operations e ≡ [] → IsFitState J x → IsFitState (J ++ e ∷ []) x
 fit_more J e x h f = record { session = f.session; db = f.db; charset = f.charset; transaction = fit_with J x.state.transaction x.origin e h f.transaction }
 
 -- ---- what the calls make of it
 
-pub fit_ended : (J K : Journal) (x : Standing) → IsFitState J x → IsFitState K (after_end x)
+pub fit_ended : (J K : Journal) (x : SnapshotState) → IsFitState J x → IsFitState K (after_end x)
 fit_ended J K x f = record { session = f.session; db = f.db; charset = f.charset; transaction = refl }
 
-pub fit_begun : (J : Journal) (x : Standing) → IsFitState J x → x.origin ≡ None → IsFitState J (after_begin x)
+pub fit_begun : (J : Journal) (x : SnapshotState) → IsFitState J x → x.origin ≡ None → IsFitState J (after_begin x)
 fit_begun J x f h = record { session = f.session; db = f.db; charset = f.charset; transaction = (h, refl) }
 
-pub fit_in_database : (J : Journal) (name : Name) (x : Standing) → is_short name ≡ true → IsFitState J x → IsFitState J (in_database name x)
+pub fit_in_database : (J : Journal) (name : Name) (x : SnapshotState) → is_short name ≡ true → IsFitState J x → IsFitState J (in_database name x)
 fit_in_database J name x h f = record { session = f.session; db = h; charset = f.charset; transaction = f.transaction }
 
 -- ---- a statement on rows arrives
@@ -186,7 +186,7 @@ opened_with J autocommit s (Some t) origin h = h
 opened_with J true s None origin h = h
 opened_with J false s None origin h = (h, refl)
 
-pub fit_arrived : {o : Options} (J : Journal) (d : Database) (x : Standing) → IsSound o J d → IsFitState J x → IsFitState J (arrived_standing (length J + 1) d x)
+pub fit_arrived : {o : Options} (J : Journal) (d : Database) (x : SnapshotState) → IsSound o J d → IsFitState J x → IsFitState J (arrived_snapshot_state (length J + 1) d x)
 fit_arrived J d x s f = record {
   session = f.session;
   db = f.db;
@@ -229,7 +229,7 @@ added_with : (J : Journal) (s : State) (t : Option Transaction) (ops : List RowO
 added_with J s None ops origin there f a = f
 added_with J s (Some t) ops origin there f a = added_by J t.snapshot t.operations ops origin there f a
 
-pub fit_added : (J : Journal) (x : Standing) (ops : List RowOp) → IsFitState J x → is_some x.origin ≡ true → AreOwn ops (base x.state J) → IsFitState J (added ops x)
+pub fit_added : (J : Journal) (x : SnapshotState) (ops : List RowOp) → IsFitState J x → is_some x.origin ≡ true → AreOwn ops (base x.state J) → IsFitState J (added ops x)
 fit_added J x ops f there a = record { session = f.session; db = f.db; charset = f.charset; transaction = added_with J x.state x.state.transaction ops x.origin there f.transaction a }
 
 -- ---- before it has a snapshot, all journals are alike
@@ -245,7 +245,7 @@ unseen_with : (J K : Journal) (t : Option Transaction) (origin : Option Database
 unseen_with J K None origin e f = f
 unseen_with J K (Some t) origin e f = unseen_by J K t.snapshot t.operations origin e f
 
-pub fit_unseen : (J K : Journal) (x : Standing) → x.origin ≡ None → IsFitState J x → IsFitState K x
+pub fit_unseen : (J K : Journal) (x : SnapshotState) → x.origin ≡ None → IsFitState J x → IsFitState K x
 fit_unseen J K x e f = record { session = f.session; db = f.db; charset = f.charset; transaction = unseen_with J K x.state.transaction x.origin e f.transaction }
 
 -- ---- the database at its snapshot is one of this journal
@@ -274,7 +274,7 @@ stands_with : (J : Journal) (s : State) (t : Option Transaction) (origin : Optio
 stands_with J s None origin f = tt
 stands_with J s (Some t) origin f = stands_by J t.snapshot t.operations origin f
 
-pub stands_in : (J : Journal) (x : Standing) → IsFitState J x → StandsIn J x
+pub stands_in : (J : Journal) (x : SnapshotState) → IsFitState J x → StandsIn J x
 stands_in J x f = stands_with J x.state x.state.transaction x.origin f.transaction
 
 -- ---- with a snapshot the present plays no role
@@ -283,5 +283,5 @@ unwrap_there : (o : Option Database) (a b : Database) → is_some o ≡ true →
 unwrap_there (Some d) a b h = refl
 unwrap_there None a b h = absurd (true≢false (sym h))
 
-pub seen_there : (a b : Database) (x : Standing) → is_some x.origin ≡ true → seen_on a x ≡ seen_on b x
+pub seen_there : (a b : Database) (x : SnapshotState) → is_some x.origin ≡ true → seen_on a x ≡ seen_on b x
 seen_there a b x h = ap (apply (own_operations x.state)) (unwrap_there x.origin a b h)

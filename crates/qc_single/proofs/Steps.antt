@@ -1,6 +1,5 @@
 -- From what a command does to what it answers: its event, its line, and where the session then stands.
-use Rattle.std.proofs.Common.{◌≡◌, ℕ, ◌+◌, ◌≤◌, true, List, [], ◌∷◌, ◌++◌, length, take, refl, sym, ap, ◌∙◌, subst, arith, take_all, None, Some, MatchOption}
-use Rattle.std.specs.List.{list_all}
+use Rattle.std.proofs.Common.{◌≡◌, ℕ, ◌+◌, ◌≤◌, true, [], ◌∷◌, ◌++◌, length, take, refl, sym, ◌∙◌, subst, arith, None, Some, MatchOption}
 use Rattle.qc_types.specs.declared.options.Options.{Options}
 use Rattle.qc_sql.specs.declared.commands.Command.{Command}
 use Rattle.qc_sql.specs.declared.commands.Command.TheVariants as command
@@ -11,11 +10,10 @@ use Rattle.qc_model.specs.declared.reports.Word.TheVariants as word
 use Rattle.qc_model.specs.Journal.{Journal, before, event_count, events_of, is_by}
 use Rattle.qc_model.specs.Session.{State}
 use Rattle.qc_model.specs.Machine.{Local, Executes, local}
-use Rattle.qc_model.specs.Needs.{HasOwnNeeds}
 use Rattle.qc_model.specs.Agrees.{fill_ends, line, who_of, word_of, key_of_command}
-use Rattle.qc_sessions.specs.Runs.{Stand, stand, own, Answers, HasItsEvent, HasNoEvent}
-use Rattle.qc_sessions.proofs.Steps.{one_more, before_it}
-use Rattle.qc_sessions.proofs.Whole.{own_count}
+use Rattle.qc_laws.specs.runs.Runs.{Position, stand, own, Answers, HasItsEvent, HasNoEvent}
+use Rattle.qc_laws.proofs.runs.Steps.{one_more, before_it}
+use Rattle.qc_laws.proofs.runs.Whole.{own_count}
 use Rattle.qc_single.specs.Stage.{takes, first_machine}
 use Rattle.qc_single.specs.Sound.{next_who, is_simple}
 use Rattle.qc_single.proofs.Journals.{append_nil, own_needs}
@@ -51,8 +49,8 @@ taken options J state after place c e rest r session reached simple mine silent 
     let executed : Executes options (who_of state.session (length (own 1 J) + 1)) state c (before (length J + 1) (J ++ e ∷ rest)) e r after
     = subst (λ n. Executes options (who_of n (length (own 1 J) + 1)) state c (before (length J + 1) (J ++ e ∷ rest)) e r after) (sym session) numbered in
     let none : first_machine.without_event state (take place J) c ≡ None = not_local state J (take place J) c takes_it no_local in
-    let from : Stand = stand J state place in
-    let to : Stand = stand (J ++ e ∷ rest) after (length J + 1) in
+    let from : Position = stand J state place in
+    let to : Position = stand (J ++ e ∷ rest) after (length J + 1) in
     let l : ReportLine = line (length J + 1) (word_of e) r in
     record {
       begins = (e ∷ rest, refl);
@@ -66,8 +64,8 @@ pub told : (options : Options) (J : Journal) (state after : State) (place : ℕ)
     → Answers first_machine options 1 (stand J state place) c (line place word.Local r) (stand J after place)
 told options J state after place c r h =
     let seen : first_machine.without_event state (take place J) c ≡ first_machine.without_event state J c = same_local state (take place J) J c in
-    let from : Stand = stand J state place in
-    let to : Stand = stand J after place in
+    let from : Position = stand J state place in
+    let to : Position = stand J after place in
     let l : ReportLine = line place word.Local r in
     record {
       begins = ([], sym (append_nil J));

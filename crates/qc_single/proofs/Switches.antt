@@ -7,15 +7,14 @@ use Rattle.qc_sql.specs.declared.statements.Setting.TheVariants as setting
 use Rattle.qc_sql.specs.declared.statements.SetValue.{SetValue}
 use Rattle.qc_sql.specs.Database.{Name}
 use Rattle.qc_sql.specs.Rules.{same_word}
-use Rattle.qc_model.specs.Journal.{Journal}
 use Rattle.qc_model.specs.Session.{State, own_operations}
 use Rattle.qc_sql.specs.Errors.{unknown_variable}
-use Rattle.qc_bounds.specs.Names.{is_short}
+use Rattle.qc_laws.specs.sizes.Names.{is_short}
 use Rattle.qc_model.specs.Settings.{cache_kind, character_set, quotes, select_limit, set_to, switch, with}
-use Rattle.qc_trx.specs.Standings.{Standing}
+use Rattle.qc_trx.specs.SnapshotStates.{SnapshotState}
 use Rattle.qc_single.specs.declared.session.Session.{Session}
 use Rattle.qc_single.specs.Going.{IsFit}
-use Rattle.qc_single.specs.Sound.{IsFitIn, IsFitState}
+use Rattle.qc_single.specs.Sound.{IsFitIn}
 
 -- a state whose autocommit is set keeps the operations of its transaction
 pub own_kept : (state next : State) (b : Bool) (r : Result State SqlError) → Ok next ≡ r → r ≡ Ok (record state { autocommit = b }) → own_operations next ≡ own_operations state
@@ -62,7 +61,7 @@ set_keeps state next (setting.Variable name v) h =
     variable_keeps state next name v (same_word name (codes "autocommit")) (same_word name (codes "sql_select_limit")) (same_word name (codes "sql_mode")) (same_word name (codes "query_cache_type")) h
 
 -- a session in which a value was set is fit for its next command
-pub set_fit : (s : Session) (x : Setting) (next : Standing) → IsFit s → set_to s.state.state x ≡ Ok next.state → next.origin ≡ s.state.origin → IsFit (record s { state = next })
+pub set_fit : (s : Session) (x : Setting) (next : SnapshotState) → IsFit s → set_to s.state.state x ≡ Ok next.state → next.origin ≡ s.state.origin → IsFit (record s { state = next })
 set_fit s x next f is origin =
     let k = set_keeps s.state.state next.state x is in
     let state = f.state in

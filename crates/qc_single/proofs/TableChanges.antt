@@ -14,20 +14,20 @@ use Rattle.qc_sql.specs.declared.statements.Statement.TheVariants as statement
 use Rattle.qc_sql.specs.Database.{Name, Database, apply}
 use Rattle.qc_sql.specs.Effects.{Effect, effect}
 use Rattle.qc_sql.specs.Packets.{packets}
-use Rattle.qc_bounds.specs.Names.{is_short, is_short_statement}
-use Rattle.qc_fits.specs.Sound.{changes_tables}
-use Rattle.qc_fits.proofs.Changes.{changes_fit, changes_stay_within}
+use Rattle.qc_laws.specs.sizes.Names.{is_short, is_short_statement}
+use Rattle.qc_laws.specs.fits.Sound.{changes_tables}
+use Rattle.qc_laws.proofs.fits.Changes.{changes_fit, changes_stay_within}
 use Rattle.qc_model.specs.declared.events.Event.{Event}
 use Rattle.qc_model.specs.declared.events.Event.TheVariants as event
 use Rattle.qc_model.specs.declared.events.Who.{Who}
 use Rattle.qc_model.specs.Journal.{Journal}
 use Rattle.qc_model.specs.Session.{State, own_operations, with_transaction}
-use Rattle.qc_model.specs.Machine.{Given, committed, ok_reply, other, refused}
-use Rattle.qc_trx.specs.Standings.{Standing, after_end}
+use Rattle.qc_model.specs.Machine.{Given, committed, form_given, ok_reply, other, refused}
+use Rattle.qc_trx.specs.SnapshotStates.{SnapshotState, after_end}
 use Rattle.qc_journal.specs.Room.{Recorded}
 use Rattle.qc_single.specs.declared.session.Session.{Session}
 use Rattle.qc_single.specs.Sound.{next_who, IsSound, IsOrderly, MayFollow}
-use Rattle.qc_single.specs.Going.{GivesOut, Logs, forms_given}
+use Rattle.qc_single.specs.Going.{GivesOut, Logs}
 use Rattle.qc_single.proofs.Methods.{SameBut, given_out, moved}
 use Rattle.qc_single.proofs.Smalls.{change_small}
 use Rattle.qc_single.proofs.Sounds.{stays_orderly}
@@ -55,7 +55,7 @@ made_behind own ops both d made next is more same =
 
 -- ---- what is given
 
-pub forms_refused : (J : Journal) (state : State) (own : List RowOp) (r : Result Effect SqlError) (e : SqlError) → r ≡ Err e → other (next_who J) state (refused e) ≡ forms_given J state own r
+pub forms_refused : (J : Journal) (state : State) (own : List RowOp) (r : Result Effect SqlError) (e : SqlError) → r ≡ Err e → other (next_who J) state (refused e) ≡ form_given (next_who J) state own r
 forms_refused J state own r e h = rw h refl
 
 committed_some : (who : Who) (ops : List RowOp) → 0 < length ops → committed who ops ≡ event.Commit who ops
@@ -66,7 +66,7 @@ committed_some who (o ∷ os) h = refl
 pub forms_out : (old mid new : Session) (r : Result Effect SqlError) (x : Effect) (ops : List RowOp) (bytes : Text)
     → r ≡ Ok x → 0 < length x.operations → ops ≡ own_operations old.state.state ++ x.operations
     → SameBut old mid → mid.state ≡ after_end old.state → bytes ≡ packets (ok_reply mid.state.state x.affected)
-    → Logs mid new (committed (next_who mid.journal.events) ops) bytes → GivesOut old new (forms_given old.journal.events old.state.state (own_operations old.state.state) r)
+    → Logs mid new (committed (next_who mid.journal.events) ops) bytes → GivesOut old new (form_given (next_who old.journal.events) old.state.state (own_operations old.state.state) r)
 forms_out old mid new r x ops bytes is some all but state same l =
     let J = old.journal.events in
     let st = old.state.state in
@@ -76,13 +76,13 @@ forms_out old mid new r x ops bytes is some all but state same l =
     let long : 0 < length (own ++ x.operations) = omega (arith, length-append own x.operations, some) in
     let who : next_who mid.journal.events ≡ next_who J = ap (λ (j : Recorded). next_who j.events) but.journal in
     let its : committed (next_who mid.journal.events) ops ≡ g.event = ap (λ (w : Who). committed w ops) who ∙ ap (committed (next_who J)) all ∙ committed_some (next_who J) (own ++ x.operations) long in
-    let next : mid.state.state ≡ after = ap (λ (s : Standing). s.state) state in
+    let next : mid.state.state ≡ after = ap (λ (s : SnapshotState). s.state) state in
     let answered : bytes ≡ packets g.reply = same ∙ ap (λ (s : State). packets (ok_reply s x.affected)) next in
-    let given : g ≡ forms_given J st own r = given_is J st own r x is in
+    let given : g ≡ form_given (next_who J) st own r = given_is J st own r x is in
     subst (λ (k : Given). GivesOut old new k) given (moved old mid new g but (given_out mid new g bytes answered next (subst (λ (e : Event). Logs mid new e bytes) its l)))
   where
     given_is : (J : Journal) (state : State) (own : List RowOp) (r : Result Effect SqlError) (x : Effect) → r ≡ Ok x
-        → record { event = event.Commit (next_who J) (own ++ x.operations); reply = ok_reply (with_transaction state None) x.affected; next = with_transaction state None } ≡ forms_given J state own r
+        → record { event = event.Commit (next_who J) (own ++ x.operations); reply = ok_reply (with_transaction state None) x.affected; next = with_transaction state None } ≡ form_given (next_who J) state own r
     given_is J state own r x h = rw h refl
 
 -- ---- which statements these are

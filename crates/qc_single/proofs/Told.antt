@@ -23,7 +23,7 @@ use Rattle.qc_sql.specs.Rules.{in_capitals, capital, same_word}
 use Rattle.qc_sql.specs.Tokens.{Lexeme, Word, Quoted, Words, Digits, Sign, Token, LexFault, BadByte, OpenQuote, OpenComment, NumberTooLarge, TextTooLong, LongName, Executable, Front, Ends, Skips, Gives, Faults, Content, Lexed, front, comment, name_token, text_token, word_token, goes_on, goes_on_word, lexed_from, lexed, is_space, is_digit, is_dashed, line_bytes, comment_bytes, begins_word, quoted, quoted_text, number_from, two_signs}
 use Rattle.qc_sql.specs.Reading.{ParseFault, of_lexer, Unread, Stop, Before, Refused, Reader, pure, then_read, ◌>>=◌, stop, refuse, at_token, refuse_any, past, is_reserved, opened, read_as, read_first, reads, branch, optional, passed, at_most, many, listed, bracketed, with_word, with_words, in_place_of_syntax, name_in, word_in, digits_in, words_in, name, word, sign, is_word, is_sign, next_is, token_is, at_word, at_sign, at_name, at_number, at_words}
 use Rattle.qc_sql.specs.Grammar as rule
-use Rattle.qc_sql.specs.Grammar.{is_arithmetic, at_literal, at_call, at_aggregate, is_known_call, op_ahead, op_in, negated, grouped, like_at, at_further, with_source, is_unsupported, span_text, no_from, all_conds, other_kind, is_pattern, other_create, other_drop, other_show, unsupported, unsupported_at}
+use Rattle.qc_sql.specs.Grammar.{is_arithmetic, at_literal, at_call, at_aggregate, is_known_call, op_ahead, op_in, negated, grouped, like_at, at_further, with_source, is_unsupported, span_text, no_from, all_conds, other_kind, is_pattern, other_show, unsupported_at}
 use Rattle.qc_single.specs.Told.{IsTold}
 
 -- ---- tokens
@@ -540,35 +540,19 @@ create_table_calm = after _ _ (is_at (codes "TABLE")) (λ _. after _ _ table_cal
 fixed_any : {A : Type 0} (w : List ℕ) → nat_le (length w) 68 ≡ true → IsCalm (refuse_any {A = A} w)
 fixed_any w few = refuses_any w (grind (arith, nat_tests))
 
-create_statement_calm : IsCalm rule.create_statement
-unfolding rule.create_statement
-create_statement_calm =
+create_calm : IsCalm rule.create
+unfolding rule.create
+create_calm =
     after _ _ (is_at (codes "CREATE")) (λ _.
     either (at_word (codes "DATABASE")) _ _ (after _ _ (is_at (codes "DATABASE")) (λ _. after _ _ is_named (λ n. gives (statement.CreateDb n))))
     (either (at_word (codes "TABLE")) _ _ create_table_calm (fixed_any (codes "CREATE") refl)))
 
-few_created : (u : Unread) → AreShort u.tokens → IsFew (other_create u)
-few_created u h = by (at_word (codes "AUTO_INCREMENT") u) (at_word (codes "DEFAULT") u) (at_token u)
-  where
-    by : (a b c : Bool) → IsFew (cond a (Some (codes "AUTO_INCREMENT")) (cond b (Some (codes "DEFAULT")) (when c (codes "CREATE"))))
-    by true b c = fixed_few true (codes "AUTO_INCREMENT") refl
-    by false true c = fixed_few true (codes "DEFAULT") refl
-    by false false c = fixed_few c (codes "CREATE") refl
-
-create_calm : IsCalm rule.create
-unfolding rule.create
-create_calm = in_place_calm other_create _ few_created create_statement_calm
-
-drop_statement_calm : IsCalm rule.drop_statement
-unfolding rule.drop_statement
-drop_statement_calm =
+dropped_calm : IsCalm rule.dropped
+unfolding rule.dropped
+dropped_calm =
     after _ _ (is_at (codes "DROP")) (λ _.
     either (at_word (codes "DATABASE")) _ _ (after _ _ (is_at (codes "DATABASE")) (λ _. after _ _ is_named (λ n. gives (statement.DropDb n))))
     (either (at_word (codes "TABLE")) _ _ (after _ _ (is_at (codes "TABLE")) (λ _. after _ _ table_calm (λ t. gives (statement.DropTable t)))) (fixed_any (codes "DROP") refl)))
-
-dropped_calm : IsCalm rule.dropped
-unfolding rule.dropped
-dropped_calm = in_place_calm other_drop _ (λ u h. fixed_few (at_token u) (codes "DROP") refl) drop_statement_calm
 
 -- ---- the others
 

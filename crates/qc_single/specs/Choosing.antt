@@ -1,7 +1,6 @@
 -- What a session finds in the cache when a select comes.
-use Rattle.std.specs.Prelude.{◌≡◌, ℕ, ◌+◌, ◌==◌, ◌&&◌, ◌||◌, ◌++◌, [], ◌∷◌, Bool, true, false, not, List, length, Option, Some, None, Ok, option_map, find, nat_lt, if◌then◌else◌}
+use Rattle.std.specs.Prelude.{◌≡◌, ℕ, ◌+◌, ◌==◌, ◌&&◌, ◌||◌, ◌++◌, [], ◌∷◌, Bool, true, false, not, List, length, Option, Some, None, Ok, option_map, nat_lt, if◌then◌else◌}
 use Rattle.std.specs.List.{list_all, concat}
-use Rattle.qc_types.specs.declared.names.TableName.{TableName}
 use Rattle.qc_types.specs.declared.options.Options.{Options}
 use Rattle.qc_types.specs.declared.text.Text.{Text}
 use Rattle.qc_sql.specs.declared.statements.Select.{Select}
@@ -9,26 +8,23 @@ use Rattle.qc_sql.specs.declared.statements.Statement.TheVariants as statement
 use Rattle.qc_sql.specs.Grammar.{head_of, meaning, trimmed}
 use Rattle.qc_sql.specs.Packets.{numbered, packets}
 use Rattle.qc_sql.specs.Rows.{Rows, rows}
-use Rattle.qc_sql.specs.Rules.{asks, why_not}
-use Rattle.qc_sql.specs.Words.{◌or_else◌, when}
+use Rattle.qc_sql.specs.Rules.{asks}
 use Rattle.qc_model.specs.declared.events.Event.{Event}
 use Rattle.qc_model.specs.declared.events.Event.TheVariants as event
 use Rattle.qc_model.specs.declared.events.GoneWhy.TheVariants as gone
-use Rattle.qc_model.specs.declared.events.Reason.{Reason}
-use Rattle.qc_model.specs.declared.events.Reason.TheVariants as reason
 use Rattle.qc_model.specs.Cache.{Entry}
-use Rattle.qc_model.specs.Choice.{answering, is_asked, is_stale, stale_reason, wrote}
+use Rattle.qc_model.specs.Choice.{answering, is_asked}
 use Rattle.qc_model.specs.Journal.{Journal, present}
-use Rattle.qc_model.specs.Licence.{front_above}
+use Rattle.qc_model.specs.Licence.{prefix_above}
 use Rattle.qc_model.specs.Session.{State, answer, answer_packets, base, flags_of, key_of_text, opened, rows_reply, snapshot_taken, with_transaction}
-use Rattle.qc_history.specs.Answers.{CanBeKeyed}
-use Rattle.qc_history.specs.Seen.{is_current}
-use Rattle.qc_kept.specs.declared.answers.KeptAnswer.{KeptAnswer}
-use Rattle.qc_kept.specs.Fronts.{ArePayloads}
+use Rattle.qc_laws.specs.history.Answers.{CanBeKeyed}
+use Rattle.qc_laws.specs.history.Seen.{is_current}
+use Rattle.qc_single.specs.declared.entries.StoredEntry.{StoredEntry}
+use Rattle.qc_single.specs.Payloads.{ArePayloads}
 use Rattle.qc_single.specs.declared.hits.Found.{Found}
 use Rattle.qc_single.specs.declared.session.Session.{Session}
 
--- the state in which a select is judged that names a table
+-- the state in which a select is validated that names a table
 abbrev pub state_at : Session → State
 state_at s = let state = s.state.state in with_transaction state (option_map (snapshot_taken (length s.journal.events + 1)) (opened state))
 
@@ -70,13 +66,13 @@ pub record HasPackets (journal : Journal) (key : List ℕ) (bytes : Text) : Type
   pub packets : answer_packets key (present journal) ≡ Some (numbered 1 payloads)
   pub are : bytes ≡ concat (numbered 1 payloads)
 
--- what an answer shows that is kept under a text's key
-pub record ShowsFound (s : Session) (a : KeptAnswer) (found : Found) : Type 0 where
+-- what a stored entry of a text's key shows
+pub record ShowsFound (s : Session) (a : StoredEntry) (found : Found) : Type 0 where
   pub seen : list_all (is_current (state_at s) s.journal.events) a.tables ≡ true
   pub serial : found.serial ≡ a.serial
   pub reply : found.reply ≡ a.packets
 
-abbrev pub Shows : Session → KeptAnswer → Option Found → Type 0
+abbrev pub Shows : Session → StoredEntry → Option Found → Type 0
 Shows s a None = list_all (is_current (state_at s) s.journal.events) a.tables ≡ false
 Shows s a (Some found) = ShowsFound s a found
 
@@ -94,34 +90,21 @@ pub record GivesRows (s : Session) (select : Select) (reply : Text) : Type 0 whe
   pub are : rows select (base s.state.state s.journal.events) s.state.state.db (flags_of s.state.state) s.state.state.session ≡ Ok r
   pub reply_is : reply ≡ packets (rows_reply (flags_of s.state.state) r)
 
--- why the options, the cache type and the text keep a select out
-abbrev pub rule_reason : Options → State → List ℕ → Select → Option Reason
-rule_reason options state text select =
-    when (options.size == 0 || state.kind == 0) reason.Off
-    or_else when (not (is_asked (asks (head_of (trimmed text)) state.kind))) reason.NotAsked
-    or_else option_map reason.Rule (why_not state.db select)
-
--- why its tables may not be seen as they are
-abbrev pub unseen_reason : Session → List TableName → Option Reason
-unseen_reason s tables =
-    option_map reason.Written (find (wrote s.state.state) tables)
-    or_else stale_reason s.state.state s.journal.events (find (is_stale (state_at s) s.journal.events) tables)
-
 -- ---- an entry that begins
 
--- whether an answer is longer than what is kept
-abbrev pub is_too_large : Options → KeptAnswer → Bool
-is_too_large options a = nat_lt options.limit (length a.packets)
+-- whether a reply is longer than the limit
+abbrev pub is_too_large : Options → StoredEntry → Bool
+is_too_large options e = nat_lt options.limit (length e.packets)
 
--- the answers with one more, where it isn't too large
-abbrev pub kept_with : Options → KeptAnswer → List KeptAnswer → List KeptAnswer
-kept_with options a kept = if is_too_large options a then kept else kept ++ a ∷ []
+-- the entries with one more, where its reply isn't too large
+abbrev pub entries_with : Options → StoredEntry → List StoredEntry → List StoredEntry
+entries_with options a stored = if is_too_large options a then stored else stored ++ a ∷ []
 
 -- how its entry ends, if these are its packets
-abbrev pub end_of : Options → KeptAnswer → List (List ℕ) → Event
-end_of options a ps = if is_too_large options a then event.Gone a.serial (gone.TooLarge (front_above options.limit 0 ps) options.limit) else event.Done a.serial
+abbrev pub end_of : Options → StoredEntry → List (List ℕ) → Event
+end_of options a ps = if is_too_large options a then event.Gone a.serial (gone.TooLarge (prefix_above options.limit 0 ps) options.limit) else event.Done a.serial
 
-pub record Fills (old new : Session) (a : KeptAnswer) (end : Event) : Type 0 where
-  pub kept : new.kept ≡ kept_with old.options a old.kept
+pub record Fills (old new : Session) (a : StoredEntry) (end : Event) : Type 0 where
+  pub entries : new.entries ≡ entries_with old.options a old.entries
   pub ends : (payloads : List (List ℕ)) → ArePayloads payloads → a.packets ≡ concat (numbered 1 payloads) → end ≡ end_of old.options a (numbered 1 payloads)
-  pub same : new ≡ record old { kept = new.kept }
+  pub same : new ≡ record old { entries = new.entries }

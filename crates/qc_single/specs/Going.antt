@@ -1,5 +1,5 @@
 -- What a session's methods do.
-use Rattle.std.specs.Prelude.{◌≡◌, ℕ, ◌+◌, ◌≤◌, true, codes, List, [], ◌∷◌, ◌++◌, length, None, Result, Ok, Err, MatchResult}
+use Rattle.std.specs.Prelude.{◌≡◌, ℕ, ◌+◌, ◌≤◌, true, codes, List, [], ◌∷◌, ◌++◌, length, Ok, MatchResult}
 use Rattle.qc_types.specs.declared.options.Options.{Options}
 use Rattle.qc_types.specs.declared.text.Text.{Text}
 use Rattle.qc_sql.specs.declared.commands.Command.{Command}
@@ -12,7 +12,7 @@ use Rattle.qc_model.specs.declared.reports.Word.TheVariants as word
 use Rattle.qc_sql.specs.declared.replies.Reply.{Reply}
 use Rattle.qc_sql.specs.declared.statements.Select.{Select}
 use Rattle.qc_sql.specs.Rows.{rows}
-use Rattle.qc_sql.specs.Effects.{Effect, effect}
+use Rattle.qc_sql.specs.Effects.{effect}
 use Rattle.qc_model.specs.declared.events.Event.TheVariants as event
 use Rattle.qc_model.specs.declared.events.How.{How}
 use Rattle.qc_model.specs.declared.events.How.TheVariants as how
@@ -22,28 +22,27 @@ use Rattle.qc_model.specs.Machine.{Given, changed_rows, refused, ok_reply}
 use Rattle.qc_model.specs.Settings.{set_to}
 use Rattle.qc_sql.specs.Errors.{not_supported}
 use Rattle.qc_sql.specs.declared.statements.Setting.{Setting}
-use Rattle.qc_sql.specs.declared.tables.RowOp.{RowOp}
-use Rattle.qc_types.specs.declared.sql_error.SqlError.{SqlError}
-use Rattle.qc_model.specs.Session.{State, starting, base, flags_of, select_reply, with_transaction}
+use Rattle.qc_model.specs.Session.{State, starting, base, flags_of, select_reply}
 use Rattle.qc_model.specs.Agrees.{fill_ends, line, word_of}
-use Rattle.qc_sessions.specs.Runs.{Stand, stand, Answers, Runs}
+use Rattle.qc_laws.specs.runs.Runs.{Position, stand, Answers, Runs}
 use Rattle.qc_single.specs.declared.session.Session.{Session}
+use Rattle.qc_single.specs.Choosing.{IsAnswered}
 use Rattle.qc_single.specs.Stage.{first_machine, HasWords}
-use Rattle.qc_single.specs.Sound.{only_session, next_who, IsSound, IsCached, IsFitState, arrived_standing}
+use Rattle.qc_single.specs.Sound.{only_session, next_who, IsSound, IsCached, IsFitState, arrived_snapshot_state}
 
 -- where the session stands
-abbrev pub stand_of : Session → Stand
-stand_of s = stand s.journal.events s.state.state s.place
+abbrev pub position_of : Session → Position
+position_of s = stand s.journal.events s.state.state s.place
 
 -- where it begins
-abbrev pub begun : Options → Stand
+abbrev pub begun : Options → Position
 begun options = stand [] (starting only_session options.kind) 0
 
 -- what holds between two commands
 pub record IsFit (s : Session) : Type 0 where
   pub sound : IsSound s.options s.journal.events s.database
   pub state : IsFitState s.journal.events s.state
-  pub cached : IsCached s.journal.events s.kept
+  pub cached : IsCached s.journal.events s.entries
   pub words : HasWords s.options
   pub numbered : s.number ≡ event_count s.journal.events only_session + 1
   pub reached : s.place ≤ length s.journal.events
@@ -60,7 +59,7 @@ pub record Adds (old new : Session) (e : Event) (reply : Text) : Type 0 where
   pub number : new.number ≡ old.number + 1
   pub database : new.database ≡ old.database
   pub state : new.state ≡ old.state
-  pub kept : new.kept ≡ old.kept
+  pub entries : new.entries ≡ old.entries
   pub options : new.options ≡ old.options
 
 -- the event of a command is of the session, and behind it stands what becomes of an entry that it began
@@ -87,7 +86,7 @@ pub record Tells (old new : Session) (reply : Text) : Type 0 where
 
 -- a statement on rows has arrived
 pub record Arrives (old new : Session) : Type 0 where
-  pub state : new.state ≡ arrived_standing (length old.journal.events + 1) old.database old.state
+  pub state : new.state ≡ arrived_snapshot_state (length old.journal.events + 1) old.database old.state
   pub same : new ≡ record old { state = new.state }
 
 -- a command's event with its line, what it commits, and the session's next state
@@ -112,7 +111,7 @@ pub record TellsOut (old new : Session) (reply : Reply) (next : State) : Type 0 
 
 -- ---- what commands give
 
--- a select in the state in which it is judged, with an event of its own
+-- a select in the state in which it is validated, with an event of its own
 abbrev pub select_given : Journal → State → Select → How → Given
 select_given journal state s h = record {
   event = event.Run (next_who journal) h;
@@ -127,18 +126,9 @@ SelectsOut old new text s =
     let journal = old.journal.events in
     (h : How) × Allows old.options state text s journal h × GivesOut old new (select_given journal state s h)
 
--- a statement that changes rows, in the state in which it is judged
+-- a statement that changes rows, in the state in which it is validated
 abbrev pub rows_given : Journal → State → Statement → Given
 rows_given journal state s = changed_rows (next_who journal) state (effect s (base state journal) state.db state.session)
-
--- a statement that changes tables or databases, behind these operations of the transaction that it ends
-abbrev pub forms_given : Journal → State → List RowOp → Result Effect SqlError → Given
-forms_given journal state own (Err e) = record { event = event.Run (next_who journal) how.Other; reply = refused e; next = state }
-forms_given journal state own (Ok x) = record {
-  event = event.Commit (next_who journal) (own ++ x.operations);
-  reply = ok_reply (with_transaction state None) x.affected;
-  next = with_transaction state None;
-}
 
 abbrev pub form_refusal : Reply
 form_refusal = refused (not_supported (codes "form"))
@@ -147,11 +137,17 @@ form_refusal = refused (not_supported (codes "form"))
 abbrev pub SetsOther : Setting → Session → Session → Type 0
 SetsOther setting old new = MatchResult (set_to old.state.state setting) (λ next. TellsOut old new (ok_reply next 0) next) (λ e. TellsOut old new (refused e) old.state.state)
 
+-- the cache answers a command: its text, so no other command than a query's
+abbrev pub IsAnsweredBy : Session → Command → Type 0
+IsAnsweredBy s (command.Query text) = IsAnswered s text
+IsAnsweredBy s c = ⊥
+
 -- one command was answered
 pub record DoesOne (c : Command) (old new : Session) : Type 0 where
   pub answered : ReportLine
-  pub answers : Answers first_machine old.options only_session (stand_of old) c answered (stand_of new)
+  pub answers : Answers first_machine old.options only_session (position_of old) c answered (position_of new)
   pub lines : new.lines ≡ old.lines ++ answered ∷ []
+  pub hit : answered.how ≡ word.Hit → IsAnsweredBy old c
   pub options : new.options ≡ old.options
   pub fit : IsFit new
 
@@ -161,5 +157,5 @@ DoesStatement s old new = (text : List ℕ) → meaning (trimmed text) old.state
 
 -- the session has taken these commands
 pub record HasTaken (cs : List Command) (s : Session) : Type 0 where
-  pub runs : Runs first_machine s.options only_session (begun s.options) cs s.lines (stand_of s)
+  pub runs : Runs first_machine s.options only_session (begun s.options) cs s.lines (position_of s)
   pub fit : IsFit s

@@ -4,3 +4,7 @@ pub mod Ends
 pub mod Going
 pub mod Choosing
 pub mod Told
+pub mod Answers
+pub mod Entries
+pub mod Payloads
+pub mod Slots

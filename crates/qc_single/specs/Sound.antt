@@ -16,13 +16,14 @@ use Rattle.qc_model.specs.declared.events.Who.{Who}
 use Rattle.qc_model.specs.Agrees.{who_of}
 use Rattle.qc_model.specs.Cache.{Entry, cache, is_hit, is_start}
 use Rattle.qc_model.specs.Journal.{Journal, present, before, event_count}
-use Rattle.qc_model.specs.Session.{State, Transaction, answer}
+use Rattle.qc_model.specs.Session.{Transaction, answer}
 use Rattle.qc_model.specs.Licence.{IsLawful, ops_fit, is_within_rows}
-use Rattle.qc_bounds.specs.Names.{is_short}
-use Rattle.qc_bounds.specs.Replies.{is_bounded_database, is_bounded_operation}
-use Rattle.qc_fits.specs.Sound.{IsSoundDatabase, IsNoChangeAt, is_row_op}
-use Rattle.qc_trx.specs.Standings.{Standing, after_arrival, after_sight}
-use Rattle.qc_kept.specs.declared.answers.KeptAnswer.{KeptAnswer}
+use Rattle.qc_laws.specs.sizes.Names.{is_short}
+use Rattle.qc_laws.specs.sizes.Replies.{is_bounded_database, is_bounded_operation}
+use Rattle.qc_laws.specs.fits.Sound.{IsNoChangeAt, is_row_op}
+use Rattle.qc_model.specs.Sound.{IsSoundDatabase}
+use Rattle.qc_trx.specs.SnapshotStates.{SnapshotState, after_arrival, after_sight}
+use Rattle.qc_single.specs.declared.entries.StoredEntry.{StoredEntry}
 
 -- the number of the one session
 abbrev pub only_session : ℕ
@@ -91,16 +92,16 @@ pub record IsSound (options : Options) (journal : Journal) (d : Database) : Type
   pub database : d ≡ present journal
   pub orderly : IsOrderly d
 
--- ---- the answers that it keeps
+-- ---- the entries of its cache
 
--- an answer that is kept is a complete entry
-abbrev pub entry_of : KeptAnswer → Entry
+-- a stored entry, as the model has it: it is complete
+abbrev pub entry_of : StoredEntry → Entry
 entry_of a = record { serial = a.serial; key = a.key; tables = a.tables; complete = true }
 
--- the answers are the entries of the cache, and each has the packets that its statement has now
-pub record IsCached (journal : Journal) (kept : List KeptAnswer) : Type 0 where
-  pub entries : cache journal ≡ map entry_of kept
-  pub answers : AllByRecursion (λ a. answer a.key (present journal) ≡ Some a.packets) kept
+-- these are the entries of the cache, and each has the packets that its statement has now
+pub record IsCached (journal : Journal) (stored : List StoredEntry) : Type 0 where
+  pub entries : cache journal ≡ map entry_of stored
+  pub packets : AllByRecursion (λ a. answer a.key (present journal) ≡ Some a.packets) stored
 
 -- ---- its transaction
 
@@ -135,7 +136,7 @@ abbrev pub IsFitIn : Journal → Option Database → Option Transaction → Type
 IsFitIn journal origin None = origin ≡ None
 IsFitIn journal origin (Some t) = IsFitTransaction journal origin t
 
-pub record IsFitState (journal : Journal) (x : Standing) : Type 0 where
+pub record IsFitState (journal : Journal) (x : SnapshotState) : Type 0 where
   pub session : x.state.session ≡ only_session
   pub db : is_short x.state.db ≡ true
   pub charset : (x.state.charset == 33 || x.state.charset == 45) ≡ true
@@ -144,5 +145,5 @@ pub record IsFitState (journal : Journal) (x : Standing) : Type 0 where
 -- ---- what arrives
 
 -- a statement on rows has arrived at this place, on this database: where a transaction is open, or opens by itself, it has a snapshot now
-abbrev pub arrived_standing : ℕ → Database → Standing → Standing
-arrived_standing place now x = after_sight place now (after_arrival x)
+abbrev pub arrived_snapshot_state : ℕ → Database → SnapshotState → SnapshotState
+arrived_snapshot_state place now x = after_sight place now (after_arrival x)

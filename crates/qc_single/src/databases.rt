@@ -6,7 +6,7 @@ ghost use Rattle.qc_model.specs.Machine.{used};
 ghost use Rattle.qc_single.specs.Sound.{next_who};
 
 use crate::session::Session;
-use qc_errors::unknown_database;
+use qc_sql::errors::unknown_database;
 use qc_types::{NoMemory, Text};
 use std::alloc::Global;
 

@@ -10,8 +10,8 @@ ghost use Rattle.qc_single.specs.Ends.{Ends, is_commit};
 
 use crate::replies::{error_reply, ok_reply};
 use crate::session::Session;
-use qc_errors::{table_full, write_conflict};
 use qc_journal::How;
+use qc_sql::errors::{table_full, write_conflict};
 use qc_sql::tables::Ops;
 use qc_table::Database;
 use qc_trx::Conflict;
@@ -33,19 +33,19 @@ impl Session {
     ghost use Rattle.qc_single.specs.Going.{GivesOut, IsFit};
 
     /// How the open transaction ends where it ends now.
-    pub(crate) fn judge(&self, alloc: Global) -> Result<Ending, NoMemory>
+    pub(crate) fn validate(&self, alloc: Global) -> Result<Ending, NoMemory>
         requires { IsFit self.now }
         ensures { IfOk result (Ends self.now.state.state self.now.journal.events) }
     {
         match self.state.finish(alloc, &self.journal) {
-            Ok(ops) => self.judge_rows(alloc, ops),
+            Ok(ops) => self.validate_rows(alloc, ops),
             Err(Or::Other(conflict)) => Ok(Ending::Conflict(conflict)),
             Err(Or::Memory) => Err(NoMemory),
         }
     }
 
     /// The same where no later commit met one of its operations.
-    pub(crate) fn judge_rows(&self, alloc: Global, ops: &Ops) -> Result<Ending, NoMemory>
+    pub(crate) fn validate_rows(&self, alloc: Global, ops: &Ops) -> Result<Ending, NoMemory>
         requires fit { IsFit self.now }
         requires own { ops.now ≡ own_operations self.now.state.state }
         requires alone { conflict_in self.now.state.state self.now.journal.events ≡ None }

@@ -2,7 +2,7 @@
 
 ghost use Rattle.std.specs.Prelude.{◌≡◌, ◌+◌, ◌≤◌, true, None, OnOk, length};
 ghost use Rattle.qc_sql.specs.Database.{apply};
-ghost use Rattle.qc_bounds.specs.Replies.{FitsError};
+ghost use Rattle.qc_laws.specs.sizes.Replies.{FitsError};
 ghost use Rattle.qc_model.specs.declared.events.Event.TheVariants as event;
 ghost use Rattle.qc_model.specs.Licence.{MayRun};
 ghost use Rattle.qc_model.specs.Machine as machine;
@@ -12,9 +12,9 @@ ghost use Rattle.qc_single.specs.Sound.{next_who, is_quiet, MayFollow};
 
 use crate::replies::{error_reply, ok_reply};
 use crate::session::{ONLY_SESSION, Session};
-use qc_errors::not_supported;
 use qc_journal::{Event, How, Who};
 use qc_model::reports::{ReportLine, Word};
+use qc_sql::errors::not_supported;
 use qc_sql::tables::Ops;
 use qc_table::Database;
 use qc_types::{NoMemory, SqlError, Text};
@@ -42,7 +42,7 @@ impl Session {
         self.run(How::Other, reply)
     }
 
-    /// A commit of operations, where there are some; this is the database with them. Answers that use a table which they touch aren't kept any longer.
+    /// A commit of operations, where there are some; this is the database with them. Entries that use a table which they touch are removed.
     pub(crate) fn commit_ops(
         &mut self,
         ops: Ops,
@@ -59,7 +59,7 @@ impl Session {
             return self.run(How::Other, reply);
         }
         let who = self.next_who();
-        self.kept.forget(ops.items());
+        self.entries.remove_touched(ops.items());
         self.database = database;
         self.log(Event::Commit { who, ops }, reply)
     }

@@ -4,10 +4,10 @@ ghost use Rattle.std.specs.Prelude.{◌≡◌, ◌<◌, true, length, Ok, OnOk};
 ghost use Rattle.qc_sql.specs.declared.statements.Statement.TheVariants as statement;
 ghost use Rattle.qc_sql.specs.Database.{apply};
 ghost use Rattle.qc_sql.specs.Effects as meant;
-ghost use Rattle.qc_bounds.specs.Names.{is_short_statement};
+ghost use Rattle.qc_laws.specs.sizes.Names.{is_short_statement};
 ghost use Rattle.qc_model.specs.Session.{own_operations};
-ghost use Rattle.qc_model.specs.Machine.{changed_form};
-ghost use Rattle.qc_fits.specs.Sound.{changes_tables};
+ghost use Rattle.qc_model.specs.Machine.{changed_form, form_given};
+ghost use Rattle.qc_laws.specs.fits.Sound.{changes_tables};
 ghost use Rattle.qc_single.specs.Sound.{next_who, MayFollow};
 
 use crate::applied::applied;
@@ -22,7 +22,7 @@ use std::alloc::Global;
 use std::sync::ledger::Ledger;
 
 impl Session {
-    ghost use Rattle.qc_single.specs.Going.{GivesOut, IsFit, forms_given};
+    ghost use Rattle.qc_single.specs.Going.{GivesOut, IsFit};
 
     /// TRUNCATE, CREATE and DROP: a commit of the open transaction with the statement.
     pub(crate) fn change_forms<L: Ledger>(
@@ -36,7 +36,7 @@ impl Session {
         requires short { is_short_statement statement.now ≡ true }
         ensures { OnOk result (GivesOut self.old self.new (changed_form (next_who self.old.journal.events) self.old.state.state self.old.journal.events statement.now)) }
     {
-        match self.judge(alloc)? {
+        match self.validate(alloc)? {
             Ending::Commits(database) => {
                 self.change_forms_behind(alloc, statement, &database, steps)
             }
@@ -57,7 +57,7 @@ impl Session {
         requires short { is_short_statement statement.now ≡ true }
         requires made { database.now ≡ apply (own_operations self.old.state.state) self.old.database }
         requires good { MayFollow (own_operations self.old.state.state) self.old.database }
-        ensures { OnOk result (GivesOut self.old self.new (forms_given self.old.journal.events self.old.state.state (own_operations self.old.state.state) (meant.effect statement.now database.now self.old.state.state.db self.old.state.state.session))) }
+        ensures { OnOk result (GivesOut self.old self.new (form_given (next_who self.old.journal.events) self.old.state.state (own_operations self.old.state.state) (meant.effect statement.now database.now self.old.state.state.db self.old.state.state.session))) }
     {
         match effect(
             alloc,
@@ -85,7 +85,7 @@ impl Session {
         requires good { MayFollow (own_operations self.old.state.state) self.old.database }
         requires follows { MayFollow effect.operations database.now }
         requires some { 0 < length effect.operations }
-        ensures { OnOk result (GivesOut self.old self.new (forms_given self.old.journal.events self.old.state.state (own_operations self.old.state.state) (Ok effect))) }
+        ensures { OnOk result (GivesOut self.old self.new (form_given (next_who self.old.journal.events) self.old.state.state (own_operations self.old.state.state) (Ok effect))) }
     {
         let Effect {
             ops: forms,

@@ -1,16 +1,16 @@
-//! Answers that the cache holds.
+//! What the cache answers.
 
 ghost use Rattle.std.specs.Prelude.{◌≡◌, true, IfOk, MatchOption, OnOk};
 ghost use Rattle.std.specs.List.{list_all};
 ghost use Rattle.qc_sql.specs.declared.commands.Command.TheVariants as command;
 ghost use Rattle.qc_model.specs.Choice.{is_stale};
 ghost use Rattle.qc_model.specs.Session.{key_of_text};
-ghost use Rattle.qc_history.specs.Answers.{CanBeKeyed};
-ghost use Rattle.qc_history.specs.Seen.{is_current};
+ghost use Rattle.qc_laws.specs.history.Answers.{CanBeKeyed};
+ghost use Rattle.qc_laws.specs.history.Seen.{is_current};
 
+use crate::entries::StoredEntry;
 use crate::session::Session;
 use qc_journal::{Event, How};
-use qc_kept::KeptAnswer;
 use qc_key::key_bytes;
 use qc_lex::{head, trimmed};
 use qc_rules::{Asked, asks};
@@ -18,7 +18,7 @@ use qc_sql::session::Flags;
 use qc_types::{NoMemory, TableName, Text};
 use std::alloc::Global;
 
-/// An answer that the cache holds: the serial of its entry, and its packets.
+/// What was found for a text: the serial of its entry, and a copy of the packets.
 #[derive(Drop)]
 pub(crate) struct Found {
     pub(crate) serial: u64,
@@ -29,7 +29,7 @@ impl Session {
     ghost use Rattle.qc_single.specs.Choosing.{HasFound, HasNone, Shows, is_asked_for, state_at};
     ghost use Rattle.qc_single.specs.Going.{DoesOne, IsFit};
 
-    /// The answer that the cache holds for a text, where it is asked and this session may see the answer's tables as they are. No stored row is read.
+    /// What the cache has for a text, where it is asked and this session may see the entry's tables as they are. No stored row is read.
     pub(crate) fn look(&self, alloc: Global, text: &[u8]) -> Result<Option<Found>, NoMemory>
         requires { IsFit self.now }
         ensures { IfOk result (λ found. MatchOption found (HasNone self.now text.now) (HasFound self.now text.now)) }
@@ -38,26 +38,26 @@ impl Session {
             return Ok(None);
         }
         let key = self.key(alloc, text)?;
-        match self.kept.find(key.bytes()) {
+        match self.entries.find(key.bytes()) {
             None => Ok(None),
-            Some(answer) => self.show(alloc, answer),
+            Some(entry) => self.show(alloc, entry),
         }
     }
 
-    /// An answer that is kept, where the session may see its tables as they are.
-    fn show(&self, alloc: Global, answer: &KeptAnswer) -> Result<Option<Found>, NoMemory>
+    /// A stored entry's packets, where the session may see its tables as they are.
+    fn show(&self, alloc: Global, entry: &StoredEntry) -> Result<Option<Found>, NoMemory>
         requires { IsFit self.now }
-        ensures { IfOk result (λ found. Shows self.now answer.now found) }
+        ensures { IfOk result (λ found. Shows self.now entry.now found) }
     {
-        if !self.sees_all(answer.tables.items()) {
+        if !self.sees_all(entry.tables.items()) {
             return Ok(None);
         }
-        let serial = answer.serial;
-        let reply = answer.packets.copy(alloc)?;
+        let serial = entry.serial;
+        let reply = entry.packets.copy(alloc)?;
         Ok(Some(Found { serial, reply }))
     }
 
-    /// Answers a text by what was found for it. The answer becomes the most recently used one.
+    /// Answers a text by what was found for it. Its entry becomes the most recently used one.
     pub(crate) fn hit(&mut self, found: Found) -> Result<(), NoMemory>
         requires { IsFit self.old }
         ensures { (text : _) → HasFound self.old text found → OnOk result (DoesOne (command.Query text) self.old self.new) }
@@ -65,7 +65,7 @@ impl Session {
         self.arrive()?;
         let Found { serial, reply } = found;
         let who = self.next_who();
-        self.kept.use_again(serial);
+        self.entries.use_again(serial);
         let how = How::Hit(serial);
         self.log(Event::Run { who, how }, reply)
     }

@@ -4,17 +4,19 @@
 mod applied;
 mod databases;
 mod ending;
+mod entries;
 mod events;
 mod forms;
 mod hits;
+mod prefixes;
 mod replies;
+mod result_set;
 mod rows;
+mod select_reply;
 mod selects;
 mod session;
 mod settings;
 mod single;
-#[cfg(test)]
-mod tests;
 mod transactions;
 
 pub use session::ONLY_SESSION;

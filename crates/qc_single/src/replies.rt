@@ -3,13 +3,13 @@
 ghost use Rattle.std.specs.Prelude.{◌≡◌, ◌≤◌, IfOk};
 ghost use Rattle.qc_sql.specs.declared.replies.Reply.TheVariants as reply;
 ghost use Rattle.qc_sql.specs.Packets.{packets};
-ghost use Rattle.qc_bounds.specs.Replies.{FitsError};
+ghost use Rattle.qc_laws.specs.sizes.Replies.{FitsError};
 ghost use Rattle.qc_model.specs.Machine as machine;
 ghost use Rattle.qc_parse.specs.Refusals.{as_meant};
 ghost use Rattle.qc_single.specs.Told.{IsTold};
 
-use qc_errors::{not_supported, syntax_error, too_many_tables};
 use qc_parse::ParseRefusal;
+use qc_sql::errors::{not_supported, syntax_error, too_many_tables};
 use qc_types::{NoMemory, SqlError, Text};
 use qc_wire::{put_err, put_ok};
 use std::alloc::Global;

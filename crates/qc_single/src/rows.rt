@@ -3,10 +3,10 @@
 ghost use Rattle.std.specs.Prelude.{◌≡◌, ◌⊎◌, ◌+◌, ◌<◌, [], true, None, Ok, IsSome, OnOk};
 ghost use Rattle.qc_sql.specs.declared.statements.Statement.TheVariants as statement;
 ghost use Rattle.qc_sql.specs.Database.{apply};
-ghost use Rattle.qc_bounds.specs.Names.{is_short_statement};
+ghost use Rattle.qc_laws.specs.sizes.Names.{is_short_statement};
 ghost use Rattle.qc_model.specs.Session.{base};
 ghost use Rattle.qc_model.specs.Machine.{changed_rows, full_table};
-ghost use Rattle.qc_trx.specs.Standings.{MayAdd, added, seen_on};
+ghost use Rattle.qc_trx.specs.SnapshotStates.{MayAdd, added, seen_on};
 ghost use Rattle.qc_single.specs.Stage.{changes_rows};
 ghost use Rattle.qc_single.specs.Sound.{next_who, AreOwn};
 

@@ -1,22 +1,25 @@
 //! SELECT.
 
-ghost use Rattle.std.specs.Prelude.{◌≡◌, ◌+◌, true, Some, Ok, IfOk, OnOk, find};
+ghost use Rattle.std.specs.Prelude.{◌≡◌, ◌+◌, true, Some, Ok, IfOk, OnOk, find, option_map};
 ghost use Rattle.std.specs.Option.{option_copied};
 ghost use Rattle.qc_sql.specs.declared.commands.Command.TheVariants as command;
 ghost use Rattle.qc_sql.specs.declared.statements.Statement.TheVariants as statement;
 ghost use Rattle.qc_sql.specs.Grammar as grammar;
-ghost use Rattle.qc_bounds.specs.Names.{is_short_select};
+ghost use Rattle.qc_sql.specs.Words.{◌or_else◌};
+ghost use Rattle.qc_laws.specs.sizes.Names.{is_short_select};
 ghost use Rattle.qc_model.specs.declared.events.Event.TheVariants as event;
 ghost use Rattle.qc_model.specs.declared.events.How.TheVariants as how;
+ghost use Rattle.qc_model.specs.declared.events.Reason.TheVariants as reason;
 ghost use Rattle.qc_model.specs.Choice as choice;
-ghost use Rattle.qc_model.specs.Choice.{start_count};
+ghost use Rattle.qc_model.specs.Choice.{rule_reason, start_count, unseen_reason};
 ghost use Rattle.qc_model.specs.Licence.{MayStart};
 ghost use Rattle.qc_single.specs.Sound.{next_who};
 
+use crate::entries::StoredEntry;
+use crate::prefixes::prefix_above;
+use crate::select_reply::{Answer, answer_select};
 use crate::session::{ONLY_SESSION, Session};
-use qc_answer::{Answer, answer_select};
 use qc_journal::{Event, GoneWhy, How, Reason};
-use qc_kept::{KeptAnswer, front_above};
 use qc_model::reports::{ReportLine, Word};
 use qc_parse::tables;
 use qc_rules::{Verdict, verdict};
@@ -26,10 +29,10 @@ use std::alloc::Global;
 use std::sync::ledger::Ledger;
 
 impl Session {
-    ghost use Rattle.qc_single.specs.Choosing.{Comes, Fills, GivesRows, HasNone, HasPackets, rule_reason, state_at, unseen_reason};
+    ghost use Rattle.qc_single.specs.Choosing.{Comes, Fills, GivesRows, HasNone, HasPackets, state_at};
     ghost use Rattle.qc_single.specs.Going.{DoesOne, IsFit, Logs, SelectsOut};
 
-    /// A SELECT that the cache doesn't answer: its rows, or the error that refuses it. One that names a table is judged at a transaction's snapshot.
+    /// A SELECT that the cache doesn't answer: its rows, or the error that refuses it. One that names a table is validated at a transaction's snapshot.
     pub(crate) fn select<L: Ledger>(
         &mut self,
         alloc: Global,
@@ -125,7 +128,20 @@ impl Session {
     /// Why the session may not see one of these tables as it is now.
     fn unseen(&self, alloc: Global, tables: &[TableName]) -> Result<Option<Reason>, NoMemory>
         requires fit { IsFit self.now }
-        ensures { IfOk result (λ reason. reason ≡ unseen_reason self.now tables.now) }
+        ensures { IfOk result (λ reason. reason ≡ unseen_reason (state_at self.now) self.now.journal.events tables.now) }
+    {
+        self.unseen_by_snapshot(alloc, tables)
+    }
+
+    /// The same, by the operations and the snapshot that the session has itself.
+    fn unseen_by_snapshot(
+        &self,
+        alloc: Global,
+        tables: &[TableName],
+    ) -> Result<Option<Reason>, NoMemory>
+        requires fit { IsFit self.now }
+        ensures { IfOk result (λ why. why ≡ (option_map reason.Written (find (choice.wrote self.now.state.state) tables.now)
+            or_else choice.stale_reason self.now.state.state self.now.journal.events (find (choice.is_stale (state_at self.now) self.now.journal.events) tables.now))) }
     {
         if let Some(table) = self.first_written(tables) {
             return Ok(Some(Reason::Written(table.duplicate(alloc)?)));
@@ -206,14 +222,14 @@ impl Session {
         requires { IsFit self.now }
         ensures { result ≡ start_count self.now.journal.events + 1 }
     {
-        let entries = self.kept.len() as u64;
+        let entries = self.entries.len() as u64;
         let begun = self.journal.counters(entries).inserts;
         let events = self.journal.len();
         prove!(begun <= events);
         begun + 1
     }
 
-    /// Keeps the reply as the answer of an entry that begins, where it isn't longer than the limit. Gives the event of the entry's end.
+    /// Stores an entry that begins with its reply, where that isn't longer than the limit. Gives the event of the entry's end.
     fn fill(
         &mut self,
         alloc: Global,
@@ -226,11 +242,11 @@ impl Session {
     {
         let limit = self.options.limit;
         if reply.bytes().len() > limit as usize {
-            let length = front_above(limit, reply.bytes());
+            let length = prefix_above(limit, reply.bytes());
             let why = GoneWhy::TooLarge { length, limit };
             return Ok(Event::Gone { serial, why });
         }
-        self.kept.push(KeptAnswer {
+        self.entries.push(StoredEntry {
             serial,
             key: key.copy(alloc)?,
             tables: tables.duplicate(alloc)?,

@@ -5,17 +5,17 @@ ghost use Rattle.qc_sql.specs.declared.commands.Command.TheVariants as sent;
 ghost use Rattle.qc_sql.specs.Commands.{command_payload};
 ghost use Rattle.qc_sql.specs.Grammar as grammar;
 ghost use Rattle.qc_sql.specs.Packets.{most_payload};
-ghost use Rattle.qc_bounds.specs.Names.{is_short_statement};
+ghost use Rattle.qc_laws.specs.sizes.Names.{is_short_statement};
 ghost use Rattle.qc_single.specs.Stage.{HasWords, is_select};
 
+use crate::entries::StoredEntries;
 use crate::replies::fault_error;
-use qc_errors::unknown_command;
 use qc_journal::Journal;
-use qc_kept::KeptAnswers;
 use qc_lex::trimmed;
 use qc_model::reports::ReportLines;
 use qc_parse::parse;
 use qc_sql::commands::Command;
+use qc_sql::errors::unknown_command;
 use qc_sql::statements::Statement;
 use qc_table::Database;
 use qc_trx::SessionState;
@@ -26,15 +26,15 @@ use std::sync::ledger::Ledger;
 /// The number of the one session.
 pub const ONLY_SESSION: u8 = 1;
 
-/// A session on a database of its own: its state, the database as the journal makes it, the journal, the answers that its cache keeps, and what it has
-/// answered so far.
+/// A session on a database of its own: what its statements see (`SessionState`), the database as the journal makes it, the journal, the entries of its
+/// cache, and what it has answered so far.
 #[derive(Drop)]
 pub(crate) struct Session {
     pub(crate) options: Options,
     pub(crate) state: SessionState,
     pub(crate) database: Database,
     pub(crate) journal: Journal,
-    pub(crate) kept: KeptAnswers,
+    pub(crate) entries: StoredEntries,
     /// The number of its next event, from 1.
     pub(crate) number: u64,
     /// The place of its last line, or 0.
@@ -57,7 +57,7 @@ impl Session {
             state: SessionState::new(alloc, ONLY_SESSION, options.kind),
             database: Database::empty(alloc)?,
             journal: Journal::new(alloc),
-            kept: KeptAnswers::new(alloc),
+            entries: StoredEntries::new(alloc),
             number: 1,
             place: 0,
             lines: ReportLines::new(alloc),

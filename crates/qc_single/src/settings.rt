@@ -2,7 +2,7 @@
 
 ghost use Rattle.std.specs.Prelude.{◌≡◌, true, false, None, Ok, OnOk, is_ok, unwrap_or};
 ghost use Rattle.qc_sql.specs.declared.statements.Statement.TheVariants as statement;
-ghost use Rattle.qc_bounds.specs.Names.{is_short_setting};
+ghost use Rattle.qc_laws.specs.sizes.Names.{is_short_setting};
 ghost use Rattle.qc_model.specs.Session.{with_transaction};
 ghost use Rattle.qc_model.specs.Settings as settings;
 ghost use Rattle.qc_model.specs.Settings.{is_autocommit, set_to};
@@ -61,7 +61,7 @@ impl Session {
         requires good { set_to self.old.state.state setting.now ≡ Ok (record self.old.state.state { autocommit = true }) }
         ensures { OnOk result (GivesOut self.old self.new (ended_with (next_who self.old.journal.events) self.old.state.state self.old.journal.events (with_transaction (record self.old.state.state { autocommit = true }) None))) }
     {
-        match self.judge(alloc)? {
+        match self.validate(alloc)? {
             Ending::Commits(database) => {
                 self.put(alloc, setting)?;
                 let ops = self.state.end();

@@ -1,9 +1,10 @@
 //! A session that runs by itself, as its callers have it.
 
-ghost use Rattle.std.specs.Prelude.{◌≡◌, ◌≢◌, ◌≤◌, [], length, IfOk};
+ghost use Rattle.std.specs.Prelude.{◌≡◌, ◌≢◌, ◌≤◌, [], ◌∷◌, ◌++◌, length, IfOk};
 ghost use Rattle.qc_sql.specs.declared.commands.Command.TheVariants as sent;
 ghost use Rattle.qc_sql.specs.Commands.{command_payload};
 ghost use Rattle.qc_sql.specs.Packets.{most_payload};
+ghost use Rattle.qc_model.specs.declared.reports.Word.TheVariants as word;
 ghost use Rattle.qc_model.specs.Cache.{cache};
 ghost use Rattle.qc_single.specs.Stage.{HasWords};
 
@@ -17,7 +18,7 @@ use std::marker::Model;
 use std::sync::ledger::Ledger;
 
 /// A session that runs by itself, on a database and with a cache of its own. It stands between two commands, and is fit for the next. Contracts see
-/// its state, database, journal, kept answers and lines.
+/// its state, database, journal, entries and lines.
 #[derive(Drop)]
 pub struct SingleSession {
     session: Session,
@@ -72,6 +73,7 @@ impl SingleSession {
         requires answered { command.now ≢ sent.Quit }
         ensures does { IfOk result (DoesOne command.now self) }
         ensures steps { IfOk result (λ s. (text : _) → command.now ≡ sent.Query text → IsAnswered self text → steps.new ≡ steps.old) }
+        ensures hits_read_no_row { IfOk result (λ s. (line : _) → s.lines ≡ self.lines ++ line ∷ [] → line.how ≡ word.Hit → steps.new ≡ steps.old) }
     {
         let SingleSession { mut session } = self;
         session.execute(alloc, command, steps)?;
@@ -90,12 +92,12 @@ impl SingleSession {
             state: _,
             database: _,
             journal,
-            kept,
+            entries,
             number: _,
             place: _,
             lines,
         } = session;
-        let entries = kept.len() as u64;
+        let entries = entries.len() as u64;
         Finished {
             journal,
             entries,

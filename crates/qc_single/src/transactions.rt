@@ -19,7 +19,7 @@ impl Session {
         requires { IsFit self.old }
         ensures { OnOk result (GivesOut self.old self.new (ended_with (next_who self.old.journal.events) self.old.state.state self.old.journal.events (begun self.old.state.state))) }
     {
-        match self.judge(alloc)? {
+        match self.validate(alloc)? {
             Ending::Commits(database) => {
                 let ops = self.state.end();
                 self.state.begin();
@@ -34,7 +34,7 @@ impl Session {
         requires { IsFit self.old }
         ensures { OnOk result (GivesOut self.old self.new (ended_with (next_who self.old.journal.events) self.old.state.state self.old.journal.events (with_transaction self.old.state.state None))) }
     {
-        match self.judge(alloc)? {
+        match self.validate(alloc)? {
             Ending::Commits(database) => {
                 let ops = self.state.end();
                 self.commit_ended(alloc, ops, database)

@@ -1,5 +1,5 @@
 -- Operations leave a database in order.
-use Rattle.std.proofs.Common.{◌≡◌, Bool, true, false, cond, List, [], ◌∷◌, map, sym, ap, subst, ◌∙◌, refl, ℤ}
+use Rattle.std.proofs.Common.{◌≡◌, Bool, true, false, cond, List, [], ◌∷◌, sym, ap, subst, ◌∙◌, refl, ℤ}
 use Rattle.std.specs.Prelude.{is_some}
 use Rattle.std.specs.Ordering.{int_cmp, match_ordering, ordering_reverse}
 use Rattle.std.specs.declared.cmp.Ordering.{Ordering}
@@ -13,7 +13,7 @@ use Rattle.std.proofs.lemmas.Cmp.{nat_list_cmp_total, int_cmp_total}
 use Rattle.qc_types.specs.declared.names.Value.{Value}
 use Rattle.qc_sql.specs.declared.tables.RowOp.{RowOp}
 use Rattle.qc_sql.specs.declared.tables.RowOp.TheVariants as op
-use Rattle.qc_sql.specs.Database.{Name, name_cmp, MapOf, Table, Tables, Database, no_tables, change_at, key_of, with_row, without_row, tables_of, apply, apply_one}
+use Rattle.qc_sql.specs.Database.{Name, name_cmp, MapOf, Table, Tables, Database, no_tables, change_at, key_of, with_row, without_row, tables_of, apply_one}
 use Rattle.qc_sql.specs.Order.{RowsRise, AreOrdered, IsOrdered}
 use Rattle.qc_sql.specs.Laws.{StaysOrdered}
 use Rattle.qc_sql.proofs.Untouched.{at}

@@ -41,7 +41,7 @@ payload_at bytes = take (length_at bytes) (drop 4 bytes)
 abbrev pub behind_packet : List ℕ → List ℕ
 behind_packet bytes = drop (4 + length_at bytes) bytes
 
--- Why no whole packet of a command stands in front, or none where one does. The header is judged as a whole, its length before its sequence number.
+-- Why no whole packet of a command stands in front, or none where one does. The header is validated as a whole, its length before its sequence number.
 abbrev pub command_end : List ℕ → Option CommandEnd
 command_end bytes =
     if length bytes == 0 then Some end.EndOfInput else

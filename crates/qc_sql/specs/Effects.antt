@@ -25,7 +25,7 @@ use Rattle.qc_sql.specs.declared.statements.Part.TheVariants as part
 use Rattle.qc_sql.specs.declared.statements.PartKind.TheVariants as part_kind
 use Rattle.qc_sql.specs.declared.statements.TableRef.{TableRef}
 use Rattle.qc_sql.specs.declared.statements.Cond.{Cond}
-use Rattle.qc_sql.specs.Database.{Name, Database, Table, Tables, tables_of, table_of, key_of}
+use Rattle.qc_sql.specs.Database.{Name, Database, Table, Tables, tables_of, table_of, key_of, is_int, most_rows}
 use Rattle.qc_sql.specs.Rules.{full_name}
 use Rattle.qc_sql.specs.Rows.{◌>>=◌, each, refuse_if, refuse_some, first_repeated, Bound, bound_in, Scope, Combination, condition, value_cmp, is_null, mixes, sort_of_kind, sort_of_value}
 use Rattle.qc_sql.specs.Errors.{no_database_selected, database_exists, no_database_to_drop, unknown_database, null_column, table_exists, unknown_table, unknown_column, duplicate_column, duplicate_entry, no_key_column, column_named_twice, table_full, too_many_columns, wrong_value_count, not_supported, value_needed, too_long}
@@ -34,8 +34,8 @@ pub record Effect : Type 0 where
   pub operations : List RowOp
   pub affected : ℕ
 
-abbrev pub Judged : Type 0
-Judged = Result Effect SqlError
+abbrev pub Validated : Type 0
+Validated = Result Effect SqlError
 
 abbrev pub effect_of : List RowOp → ℕ → Effect
 effect_of ops affected = record { operations = ops; affected = affected }
@@ -117,10 +117,10 @@ new_rows t table named taken number (tuple ∷ tuples) =
     let row = whole_row table.columns given in
     let key = key_of table.columns row in
     refuse_if (has_key table key || list_any (λ k. is_eq (int_cmp k key)) taken) (duplicate_entry key) >>= λ _.
-    refuse_if (nat_lt 1048576 (length table.rows + number)) (table_full t) >>= λ _.
+    refuse_if (nat_lt most_rows (length table.rows + number)) (table_full t) >>= λ _.
     new_rows t table named (key ∷ taken) (number + 1) tuples >>= λ rows. Ok (row ∷ rows)
 
-abbrev pub insert_effect : Database → Name → Insert → Judged
+abbrev pub insert_effect : Database → Name → Insert → Validated
 insert_effect d db insert =
     let t = full_name db insert.table in
     bound_in d t t.name >>= λ b.
@@ -179,7 +179,7 @@ matching table keeps = filter (λ entry. keeps (entry.1 ∷ [])) table.rows
 abbrev pub scope_of : Bound → Name → ℕ → Scope
 scope_of b db session = record { bounds = b ∷ []; db = db; session = session }
 
-abbrev pub update_effect : Database → Name → ℕ → Update → Judged
+abbrev pub update_effect : Database → Name → ℕ → Update → Validated
 update_effect d db session update =
     let t = full_name db update.table in
     bound_in d t t.name >>= λ b.
@@ -189,7 +189,7 @@ update_effect d db session update =
     let changed = filter (λ (p : List Value × List Value). not (same_values p.0 p.1)) pairs in
     Ok (effect_of (map (λ p. op.Put t p.1) changed) (length changed))
 
-abbrev pub delete_effect : Database → Name → ℕ → TableRef → Option Cond → Judged
+abbrev pub delete_effect : Database → Name → ℕ → TableRef → Option Cond → Validated
 delete_effect d db session table cond =
     let t = full_name db table in
     bound_in d t t.name >>= λ b.
@@ -216,10 +216,6 @@ bad_length _ = false
 abbrev pub marked : List Name → Column → Column
 marked keys c = record { name = c.name; kind = c.kind; not_null = c.not_null || c.primary || list_any (bytes_eq c.name) keys; primary = c.primary || list_any (bytes_eq c.name) keys }
 
-abbrev pub is_int : Kind → Bool
-is_int kind.Int = true
-is_int (kind.Str n) = false
-
 abbrev pub has_one_key : List Column → List Name → List Column → Bool
 has_one_key written keys columns =
     count_by (λ c. c.primary) written + length keys == 1 && list_all (λ c. not c.primary || is_int c.kind) columns
@@ -227,7 +223,7 @@ has_one_key written keys columns =
 abbrev pub known_database : Database → TableName → Result (Unit {0}) SqlError
 known_database d t = refuse_if (length t.db == 0) no_database_selected >>= λ _. refuse_if (is_none (tables_of t.db d)) (unknown_database t.db)
 
-abbrev pub create_effect : Database → Name → TableRef → List Part → Judged
+abbrev pub create_effect : Database → Name → TableRef → List Part → Validated
 create_effect d db table parts =
     let t = full_name db table in
     let written = filter_map new_column parts in
@@ -242,28 +238,28 @@ create_effect d db table parts =
     refuse_if (list_any bad_length parts) (not_supported (codes "VARCHAR length")) >>= λ _.
     Ok (effect_of (op.CreateTable t columns ∷ []) 0)
 
-abbrev pub drop_effect : Database → Name → TableRef → Judged
+abbrev pub drop_effect : Database → Name → TableRef → Validated
 drop_effect d db table =
     let t = full_name db table in
     known_database d t >>= λ _.
     refuse_if (is_none (table_of t d)) (unknown_table t) >>= λ _.
     Ok (effect_of (op.DropTable t ∷ []) 0)
 
-abbrev pub truncate_effect : Database → Name → TableRef → Judged
+abbrev pub truncate_effect : Database → Name → TableRef → Validated
 truncate_effect d db table =
     let t = full_name db table in
     bound_in d t t.name >>= λ b.
     Ok (effect_of (op.DropTable t ∷ op.CreateTable t b.table.columns ∷ []) 0)
 
-abbrev pub create_db_effect : Database → Name → Judged
+abbrev pub create_db_effect : Database → Name → Validated
 create_db_effect d name = refuse_if (is_some (tables_of name d)) (database_exists name) >>= λ _. Ok (effect_of (op.CreateDb name ∷ []) 1)
 
-abbrev pub drop_db_of : Name → Option Tables → Judged
+abbrev pub drop_db_of : Name → Option Tables → Validated
 drop_db_of name None = Err (no_database_to_drop name)
 drop_db_of name (Some tables) = Ok (effect_of (op.DropDb name ∷ []) (length tables))
 
 -- what a statement does to a database, for a session with this current database and number
-unfoldable pub effect : Statement → Database → Name → ℕ → Judged
+unfoldable pub effect : Statement → Database → Name → ℕ → Validated
 effect (statement.Insert i) d db session = insert_effect d db i
 effect (statement.Update u) d db session = update_effect d db session u
 effect (statement.Delete x) d db session = delete_effect d db session x.table x.cond

@@ -17,13 +17,13 @@ use Rattle.qc_types.specs.declared.memory.Or.TheVariants as or
 use Rattle.qc_types.specs.declared.names.TableName.{TableName}
 use Rattle.qc_types.specs.declared.names.Value.{Value}
 use Rattle.qc_sql.specs.declared.tables.Column.{Column}
-use Rattle.qc_sql.specs.Database.{Name, MapOf, Table, Tables, name_cmp, key_of, with_row, without_row}
-use Rattle.qc_model.specs.Licence.{columns_fit, most_rows}
+use Rattle.qc_sql.specs.Database.{Name, MapOf, Table, Tables, name_cmp, key_of, with_row, without_row, most_rows}
+use Rattle.qc_model.specs.Licence.{columns_fit}
 use Rattle.qc_model.specs.Machine.{full_in}
 use Rattle.qc_table.specs.declared.database.TableFull.{TableFull}
 use Rattle.qc_table.specs.Fitting.{unless, fitting_table, IsRefusal}
-use Rattle.qc_table.specs.Tables.{Changes, IsChange, IsDraft, IsSound, IsStored, with_changes}
-use Rattle.qc_table.proofs.Merging.{one_more, merged_rises, rises_none}
+use Rattle.qc_table.specs.Tables.{Changes, IsChange, IsDraft, IsStored, with_changes}
+use Rattle.qc_table.proofs.Merging.{one_more, rises_none}
 
 -- a change that fits, put among those that fit
 pub change_put : (cs : List Column) (k : ℤ) (c : Option (List Value)) (m : Changes) → IsChange cs (k, c) → AllByRecursion (IsChange cs) m → AllByRecursion (IsChange cs) (insert_entry int_cmp m k c)
@@ -37,21 +37,14 @@ change_put cs k c (d ∷ m) one all =
 
 pub put_is_row : (t : Table) (m : Changes) (row : List Value) → IsDraft t m → with_changes t (insert_entry int_cmp m (key_of t.columns row) (Some row)) ≡ with_row row (with_changes t m)
 put_is_row t m row d =
-    ap (λ (rows : MapOf ℤ (List Value)). let made : Table = record { columns = t.columns; rows = rows } in made) (one_more (key_of t.columns row) (Some row) t.rows m d.base.ordered d.ordered)
+    ap (λ (rows : MapOf ℤ (List Value)). let made : Table = record { columns = t.columns; rows = rows } in made) (one_more (key_of t.columns row) (Some row) t.rows m d.base.sound.ordered d.ordered)
 
 pub del_is_row : (t : Table) (m : Changes) (k : ℤ) → IsDraft t m → with_changes t (insert_entry int_cmp m k None) ≡ without_row k (with_changes t m)
 del_is_row t m k d =
-    ap (λ (rows : MapOf ℤ (List Value)). let made : Table = record { columns = t.columns; rows = rows } in made) (one_more k None t.rows m d.base.ordered d.ordered)
+    ap (λ (rows : MapOf ℤ (List Value)). let made : Table = record { columns = t.columns; rows = rows } in made) (one_more k None t.rows m d.base.sound.ordered d.ordered)
 
 pub none_stored : (columns : List Column) → columns_fit columns ≡ true → IsStored (record { columns = columns; rows = [] })
-none_stored columns fit = record { sound = record { columns = fit; rows = tt }; ordered = rises_none; within = omega arith }
-
-pub draft_stored : (t made : Table) (m : Changes) → IsDraft t m → made ≡ with_changes t m → IsSound made → length made.rows ≤ most_rows → IsStored made
-draft_stored t made m d is sound within = record {
-  sound = sound;
-  ordered = subst (λ (u : Table). IsStrictlySortedBy int_cmp (keys_of u.rows)) (sym is) (merged_rises t.rows m d.base.ordered d.ordered);
-  within = within;
-}
+none_stored columns fit = record { sound = record { columns = fit; rows = tt; ordered = rises_none }; within = omega arith }
 
 -- ---- by names in order
 

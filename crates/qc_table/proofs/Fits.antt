@@ -4,9 +4,9 @@ use Rattle.std.specs.Prelude.{◌&&◌, Ok, nat_le, nat_lt}
 use Rattle.std.proofs.lemmas.Bool.Decides.{nat_tests}
 use Rattle.std.specs.List.{list_all}
 use Rattle.qc_types.specs.declared.names.TableName.{TableName}
-use Rattle.qc_sql.specs.Database.{Name, Database, Tables}
+use Rattle.qc_sql.specs.Database.{Name, Database, Tables, most_rows}
 use Rattle.qc_sql.specs.Words.{◌or_else◌, when}
-use Rattle.qc_model.specs.Licence.{is_within_rows, most_rows}
+use Rattle.qc_model.specs.Licence.{is_within_rows}
 use Rattle.qc_model.specs.Machine.{full_in, full_table}
 use Rattle.qc_table.specs.Fitting.{fitting, unless}
 

@@ -8,7 +8,7 @@ use Rattle.qc_types.specs.declared.names.Value.TheVariants as value
 use Rattle.qc_sql.specs.Database.{key_value}
 use Rattle.qc_table.specs.Bits.{bit_at, IsPacked}
 use Rattle.qc_table.specs.Columns.{ints_from}
-use Rattle.qc_model.specs.Licence.{is_null}
+use Rattle.qc_sql.specs.Rows.{is_null}
 use Rattle.std.proofs.lemmas.List.{get_or_default}
 use Rattle.qc_table.specs.Views.{int_value, value_at, IsNulls}
 

@@ -11,12 +11,12 @@ use Rattle.std.specs.List.Sorted.{IsStrictlySortedBy}
 use Rattle.std.proofs.lemmas.Map.Keys.{sorted_head, sorted_tail}
 use Rattle.std.proofs.lemmas.Map.Lookups.{exact_bytes}
 use Rattle.qc_sql.specs.Database.{Name, MapOf, name_cmp, at_name, change_at}
-use Rattle.qc_table.specs.Lent.{EndsWith}
+use Rattle.qc_table.specs.Borrowed.{IsSetAt, EndsWith}
 
 abbrev at : Name → Name → Bool
 at n k = is_at (name_cmp n) k
 
-equal_is : (r : Ordering) → is_eq r ≡ true → r ≡ Equal
+pub equal_is : (r : Ordering) → is_eq r ≡ true → r ≡ Equal
 equal_is Less e = absurd cc
 equal_is Equal e = refl
 equal_is Greater e = absurd cc
@@ -61,40 +61,38 @@ module _ {K X : Type 0} (f : K → Name) where
   named_in_order [] s = tt
   named_in_order (e ∷ es) s = (all_named (λ n. name_cmp (f e.0) n ≡ Less) es s.0, named_in_order es s.1)
 
-  -- the keys behind that of the name are others
-  change_at-none : (name : Name) (make : X → X) (es : List (K × X)) → AllByRecursion (λ k. name_cmp name (f k) ≡ Less) (keys_of es) → change_at name make (named es) ≡ named es
-  change_at-none name make [] later = refl
-  change_at-none name make (e ∷ es) later = rw (ap is_eq later.0) (ap (λ rest. (f e.0, e.1) ∷ rest) (change_at-none name make es later.1))
+  pub set_value-named : (name : Name) (es : List (K × X)) (w : X) → named (set_value (λ k. at name (f k)) es w) ≡ set_value (at name) (named es) w
+  set_value-named name [] w = refl
+  set_value-named name (e ∷ es) w =
+      elim (at name (f e.0)) as (λ b. named (cond b ((e.0, w) ∷ es) (e ∷ set_value (λ k. at name (f k)) es w)) ≡ cond b ((f e.0, w) ∷ named es) ((f e.0, e.1) ∷ set_value (at name) (named es) w)) [
+        | true ↦ refl
+        | false ↦ ap (λ rest. (f e.0, e.1) ∷ rest) (set_value-named name es w)
+      ]
 
-  pub set_value-named : (name : Name) (es : List (K × X)) (w : X) → IsStrictlySortedBy (cmp f) (keys_of es) → (make : X → X) → IfSome (at_name name (named es)) (λ v. w ≡ make v)
-      → named (set_value (λ k. at name (f k)) es w) ≡ change_at name make (named es)
-  set_value-named name [] w sorted make made = refl
-  set_value-named name (e ∷ es) w sorted make made =
-      elim (at name (f e.0)) as (λ b. at name (f e.0) ≡ b → IfSome (cond b (Some e.1) (at_name name (named es))) (λ v. w ≡ make v)
-      → named (cond b ((e.0, w) ∷ es) (e ∷ set_value (λ k. at name (f k)) es w)) ≡ (cond b (f e.0, make e.1) (f e.0, e.1)) ∷ change_at name make (named es)) [
+-- ---- what is changed
+
+module _ {X : Type 0} where
+  -- the keys behind that of the name are others
+  change_at-none : (name : Name) (make : X → X) (m : MapOf Name X) → AllByRecursion (λ k. name_cmp name k ≡ Less) (keys_of m) → change_at name make m ≡ m
+  change_at-none name make [] later = refl
+  change_at-none name make (e ∷ m) later = rw (ap is_eq later.0) (ap (λ rest. e ∷ rest) (change_at-none name make m later.1))
+
+  -- where the names rise, the value that is set is that of the one place that has the name
+  pub set_value-change : (name : Name) (m : MapOf Name X) (w : X) → IsStrictlySortedBy name_cmp (keys_of m) → (make : X → X) → IfSome (at_name name m) (λ v. w ≡ make v) → set_value (at name) m w ≡ change_at name make m
+  set_value-change name [] w sorted make made = refl
+  set_value-change name (e ∷ m) w sorted make made =
+      elim (at name e.0) as (λ b. at name e.0 ≡ b → IfSome (cond b (Some e.1) (at_name name m)) (λ v. w ≡ make v)
+      → (cond b ((e.0, w) ∷ m) (e ∷ set_value (at name) m w)) ≡ (cond b (e.0, make e.1) e) ∷ change_at name make m) [
         | true ↦ λ p q.
-            let same : name ≡ f e.0 = exact_bytes name (f e.0) (equal_is (name_cmp name (f e.0)) p) in
-            let later = sorted_head (cmp f) e.0 (keys_of es) sorted in
-            rw (q, change_at-none name make es (rw same later)) refl
-        | false ↦ λ p q. ap (λ rest. (f e.0, e.1) ∷ rest) (set_value-named name es w (sorted_tail (cmp f) e.0 (keys_of es) sorted) make q)
+            let same : name ≡ e.0 = exact_bytes name e.0 (equal_is (name_cmp name e.0) p) in
+            let later = sorted_head name_cmp e.0 (keys_of m) sorted in
+            rw (q, change_at-none name make m (rw same later)) refl
+        | false ↦ λ p q. ap (λ rest. e ∷ rest) (set_value-change name m w (sorted_tail name_cmp e.0 (keys_of m) sorted) make q)
       ] refl made
 
--- what is changed into itself stays as it is
-pub change_at-itself : {X : Type 0} (name : Name) (m : MapOf Name X) → change_at name (λ v. v) m ≡ m
-change_at-itself name [] = refl
-change_at-itself name (e ∷ m) =
-    elim (at name e.0) as (λ b. (cond b (e.0, e.1) e) ∷ change_at name (λ v. v) m ≡ e ∷ m) [
-      | true ↦ ap (λ rest. e ∷ rest) (change_at-itself name m)
-      | false ↦ ap (λ rest. e ∷ rest) (change_at-itself name m)
-    ]
-
--- what changes the value that the name has, changes the map
-pub changed : {X : Type 0} (name : Name) (m : MapOf Name X) (v w : X) (after : MapOf Name X) (make : X → X) → EndsWith name m w after → Some v ≡ at_name name m → w ≡ make v → after ≡ change_at name make m
-changed name m v w after make ends found made = ends make (rw (← found) made)
-
--- what leaves it as it is, leaves the map
-pub kept : {X : Type 0} (name : Name) (m : MapOf Name X) (v w : X) (after : MapOf Name X) → EndsWith name m w after → Some v ≡ at_name name m → w ≡ v → after ≡ m
-kept name m v w after ends found same = changed name m v w after (λ u. u) ends found same ∙ change_at-itself name m
+  -- what changes the value that the name has, changes the map
+  pub changed : (name : Name) (m : MapOf Name X) (v w : X) (after : MapOf Name X) (make : X → X) → IsSetAt name m w after × EndsWith name m w after → Some v ≡ at_name name m → w ≡ make v → after ≡ change_at name make m
+  changed name m v w after make ends found made = ends.1 make (rw (← found) made)
 
 pub none_in_order : IsStrictlySortedBy name_cmp []
 unfolding IsStrictlySortedBy

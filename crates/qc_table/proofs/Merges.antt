@@ -2,19 +2,23 @@
 use Rattle.std.proofs.Common.{◌≡◌, ℕ, ◌+◌, ◌≤◌, ℤ, Bool, true, false, List, [], ◌∷◌, ◌++◌, map, length, take, drop, refl, sym, ap, ◌∙◌, arith, append_assoc, append-nil, length-drop, Option, Some, None}
 use Rattle.std.specs.Prelude.{is_some, IfSome}
 use Rattle.std.specs.List.{AllByRecursion}
+use Rattle.std.specs.List.Sorted.{IsStrictlySortedBy}
+use Rattle.std.specs.Map.{keys_of}
 use Rattle.std.specs.Ordering.{int_cmp, match_ordering}
 use Rattle.std.specs.declared.cmp.Ordering.TheVariants.{Less, Equal, Greater}
 use Rattle.std.proofs.lemmas.List.{take_all, drop-map, take-map, map-append}
 use Rattle.qc_types.specs.declared.names.Value.{Value}
 use Rattle.qc_sql.specs.declared.tables.Column.{Column}
-use Rattle.qc_sql.specs.Database.{MapOf, Table}
+use Rattle.qc_sql.specs.Database.{MapOf, Table, is_int}
 use Rattle.qc_model.specs.Licence.{kind_fits, row_fits}
 use Rattle.qc_table.specs.Changes.{above, below, left_by, merged}
 use Rattle.qc_types.specs.declared.names.Value.TheVariants as value
 use Rattle.qc_sql.specs.declared.tables.Kind.{Kind}
 use Rattle.qc_sql.specs.declared.tables.Kind.TheVariants as kind
-use Rattle.qc_table.specs.Stored.{is_int, takes}
-use Rattle.qc_table.specs.Tables.{Changes, IsChange, IsRow, IsSound, with_changes}
+use Rattle.qc_table.specs.Stored.{takes}
+use Rattle.qc_table.specs.Tables.{Changes, IsChange, with_changes}
+use Rattle.qc_model.specs.Sound.{IsRow, IsSoundTable}
+use Rattle.qc_table.proofs.Merging.{merged_rises}
 use Rattle.qc_table.proofs.Rows.{row_length}
 
 module _ {Y : Type 0} (g : ℤ × List Value → Y) where
@@ -82,8 +86,12 @@ merged_fits cs es (c ∷ changes) a b =
     all_append (IsRow cs) (below c.0 es) _ (below_fits (IsRow cs) c.0 es a)
     (all_append (IsRow cs) (left_by c.0 c.1) _ (left_fits cs c.0 c.1 b.0) (merged_fits cs (above c.0 es) changes (above_fits (IsRow cs) c.0 es a) b.1))
 
-pub merged_sound : (t : Table) (changes : Changes) → IsSound t → AllByRecursion (IsChange t.columns) changes → IsSound (with_changes t changes)
-merged_sound t changes s fits = record { columns = s.columns; rows = merged_fits t.columns t.rows changes s.rows fits }
+pub merged_sound : (t : Table) (changes : Changes) → IsSoundTable t → AllByRecursion (IsChange t.columns) changes → IsStrictlySortedBy int_cmp (keys_of changes) → IsSoundTable (with_changes t changes)
+merged_sound t changes s fits rise = record {
+  columns = s.columns;
+  rows = merged_fits t.columns t.rows changes s.rows fits;
+  ordered = merged_rises t.rows changes s.ordered rise;
+}
 
 pub rows_wide : (cs : List Column) (es : MapOf ℤ (List Value)) → AllByRecursion (IsRow cs) es → AllByRecursion (λ e. length e.1 ≡ length cs) es
 rows_wide cs [] a = tt

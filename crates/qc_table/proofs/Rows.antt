@@ -13,7 +13,7 @@ use Rattle.std.proofs.lemmas.Map.Entries.{length-keys_of}
 use Rattle.qc_sql.specs.Database.{MapOf, key_of}
 use Rattle.qc_model.specs.Licence.{row_fits, kind_fits}
 use Rattle.qc_table.specs.Views.{kind_at, value_at, row_at, text_value, IsWithin}
-use Rattle.qc_table.specs.Tables.{IsRow}
+use Rattle.qc_model.specs.Sound.{IsRow}
 
 pub both : (a b : Bool) → (a && b) ≡ true → (a ≡ true) × (b ≡ true)
 both true b h = (refl, h)

@@ -9,9 +9,9 @@ use Rattle.qc_types.specs.declared.names.Value.{Value}
 use Rattle.qc_types.specs.declared.names.Value.TheVariants as value
 use Rattle.qc_sql.specs.declared.tables.Column.{Column}
 use Rattle.qc_sql.specs.declared.tables.Kind.{Kind}
-use Rattle.qc_sql.specs.Database.{MapOf}
+use Rattle.qc_sql.specs.Database.{MapOf, is_int}
 use Rattle.qc_table.specs.declared.cells.Cells.{Cells}
-use Rattle.qc_table.specs.Stored.{values_of, is_int, is_ints, cell_values, row_of, rows_of, column_of, IsCells, IsColumn, IsStore, IsFilled, AreFilled}
+use Rattle.qc_table.specs.Stored.{values_of, is_ints, cell_values, row_of, rows_of, column_of, IsCells, IsColumn, IsStore, IsFilled, AreFilled}
 use Rattle.qc_table.specs.Views.{kind_at, row_at, value_at}
 use Rattle.qc_table.proofs.Rows.{column_shows}
 

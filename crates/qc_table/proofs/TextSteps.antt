@@ -5,7 +5,7 @@ use Rattle.std.specs.Borrow.{Bor}
 use Rattle.std.proofs.lemmas.List.{take-append-le, take_all}
 use Rattle.qc_types.specs.declared.names.Value.{Value}
 use Rattle.qc_types.specs.declared.names.Value.TheVariants as value
-use Rattle.qc_model.specs.Licence.{is_null}
+use Rattle.qc_sql.specs.Rows.{is_null}
 use Rattle.qc_table.specs.Bits.{bit_at, IsPacked}
 use Rattle.qc_table.specs.Columns.{texts_from, Climbs}
 use Rattle.qc_table.specs.Views.{text_value, value_at, IsNulls}

@@ -4,8 +4,7 @@ use Rattle.qc_types.specs.declared.names.TableName.{TableName}
 use Rattle.qc_types.specs.declared.memory.Or.{Or}
 use Rattle.qc_types.specs.declared.memory.Or.TheVariants as or
 use Rattle.qc_table.specs.declared.database.TableFull.{TableFull}
-use Rattle.qc_sql.specs.Database.{Name, Database, Table, Tables}
-use Rattle.qc_model.specs.Licence.{most_rows}
+use Rattle.qc_sql.specs.Database.{Name, Database, Table, Tables, most_rows}
 use Rattle.qc_model.specs.Machine.{full_in, full_table}
 
 abbrev pub unless : {X : Type 0} → Option TableName → X → Result X TableName

@@ -1,8 +1,8 @@
 pub mod Bits
+pub mod Borrowed
 pub mod Changes
 pub mod Columns
 pub mod Fitting
-pub mod Lent
 pub mod Stored
 pub mod Tables
 pub mod Views

@@ -7,7 +7,7 @@ use Rattle.qc_types.specs.declared.names.Value.TheVariants as value
 use Rattle.qc_sql.specs.declared.tables.Column.{Column}
 use Rattle.qc_sql.specs.declared.tables.Kind.{Kind}
 use Rattle.qc_sql.specs.declared.tables.Kind.TheVariants as kind
-use Rattle.qc_sql.specs.Database.{MapOf}
+use Rattle.qc_sql.specs.Database.{MapOf, is_int}
 use Rattle.qc_table.specs.declared.cells.Cells.{Cells}
 use Rattle.qc_table.specs.declared.cells.Cells.TheVariants as cells
 use Rattle.qc_table.specs.Columns.{ints_of, texts_of, IsInts, IsTexts}
@@ -20,10 +20,6 @@ values_of (cells.Texts c) = texts_of c
 abbrev pub is_ints : Cells → Bool
 is_ints (cells.Ints c) = true
 is_ints (cells.Texts c) = false
-
-abbrev pub is_int : Kind → Bool
-is_int kind.Int = true
-is_int (kind.Str n) = false
 
 abbrev pub IsCells : Cells → Type 0
 IsCells (cells.Ints c) = IsInts c

@@ -6,24 +6,19 @@ use Rattle.std.specs.Map.{keys_of}
 use Rattle.std.specs.Ordering.{int_cmp}
 use Rattle.qc_types.specs.declared.names.Value.{Value}
 use Rattle.qc_sql.specs.declared.tables.Column.{Column}
-use Rattle.qc_sql.specs.Database.{Database, MapOf, Table, key_of}
-use Rattle.qc_sql.specs.Order.{RowsRise, IsOrdered}
-use Rattle.qc_model.specs.Licence.{columns_fit, row_fits, is_within_rows, most_rows}
+use Rattle.qc_sql.specs.Database.{Database, MapOf, Table, most_rows}
+use Rattle.qc_sql.specs.Order.{IsOrdered}
+use Rattle.qc_model.specs.Licence.{is_within_rows}
 use Rattle.qc_table.specs.Changes.{merged}
+use Rattle.qc_model.specs.Sound.{IsRow, IsSoundTable}
 
--- a row fits the columns, and stands under its key
-abbrev pub IsRow : List Column → ℤ × List Value → Type 0
-IsRow columns e = (row_fits columns e.1 ≡ true) × (e.0 ≡ key_of columns e.1)
+-- the columns and the rows of a table fit, and the rows stand by rising key
+abbrev pub IsSound : Table → Type 0
+IsSound = IsSoundTable
 
--- the columns and the rows of a table fit
-pub record IsSound (t : Table) : Type 0 where
-  pub columns : columns_fit t.columns ≡ true
-  pub rows : AllByRecursion (IsRow t.columns) t.rows
-
--- so many rows may be stored, by rising key
+-- so many rows may be stored
 pub record IsStored (t : Table) : Type 0 where
-  pub sound : IsSound t
-  pub ordered : RowsRise t
+  pub sound : IsSoundTable t
   pub within : length t.rows ≤ most_rows
 
 -- rows to be put or, where there is none, taken out, by key

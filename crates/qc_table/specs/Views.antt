@@ -8,7 +8,7 @@ use Rattle.qc_sql.specs.declared.tables.Column.{Column}
 use Rattle.qc_sql.specs.declared.tables.Kind.{Kind}
 use Rattle.qc_sql.specs.declared.tables.Kind.TheVariants as kind
 use Rattle.std.specs.Map.{keys_of}
-use Rattle.qc_model.specs.Licence.{is_null}
+use Rattle.qc_sql.specs.Rows.{is_null}
 use Rattle.qc_table.specs.Bits.{bit_at}
 use Rattle.qc_sql.specs.Database.{MapOf, Table, Name, Database, tables_of}
 

@@ -1,7 +1,8 @@
 //! Columns as they are stored.
 
 ghost use Rattle.std.specs.Prelude.{◌≡◌, ◌-◌, ◌<◌, ◌≤◌, [], ◌∷◌, ◌++◌, length, take, drop, true, false, option_copied, OnOk};
-ghost use Rattle.qc_table.specs.Stored.{is_int, is_ints, takes, values_of, IsCells};
+ghost use Rattle.qc_table.specs.Stored.{is_ints, takes, values_of, IsCells};
+ghost use Rattle.qc_sql.specs.Database.{is_int};
 ghost use Rattle.qc_table.specs.Views.{int_value, text_value, value_at, IsNulls};
 
 use crate::ints::Ints;
@@ -55,12 +56,29 @@ impl Cells {
         ensures kind { OnOk result (is_ints self.new ≡ is_ints self.old) }
         ensures values { OnOk result (values_of self.new ≡ values_of self.old ++ take (to - from) (drop from (values_of other.now))) }
     {
+        for row in from..to {
+            self.push_from(other, row)?;
+        }
+        Ok(())
+    }
+
+    /// Puts the value at an index of a column of the same kind at the end. Linear in its length over many calls.
+    fn push_from(&mut self, other: &Cells, row: usize) -> Result<(), NoMemory>
+        requires ready { IsCells self.old }
+        requires other { IsCells other.now }
+        requires kind { is_ints self.old ≡ is_ints other.now }
+        requires row { row < length (values_of other.now) }
+        ensures ready { OnOk result (IsCells self.new) }
+        ensures kind { OnOk result (is_ints self.new ≡ is_ints self.old) }
+        ensures values { OnOk result (values_of self.new ≡ values_of self.old ++ value_at (values_of other.now) row ∷ []) }
+    {
         match (self, other) {
-            (Cells::Ints(ints), Cells::Ints(other)) => ints.append(other, from, to),
-            (Cells::Texts(texts), Cells::Texts(other)) => texts.append(other, from, to),
+            (Cells::Ints(ints), Cells::Ints(other)) => ints.push(other.get(row)),
+            (Cells::Texts(texts), Cells::Texts(other)) => texts.push(other.get(row)),
             (Cells::Ints(_), Cells::Texts(_)) | (Cells::Texts(_), Cells::Ints(_)) => unreachable!(),
         }
     }
+
     /// The bits that tell which values are NULL.
     pub(crate) fn nulls(&self) -> &[u64]
         requires { IsCells self.now }

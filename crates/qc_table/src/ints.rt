@@ -1,6 +1,6 @@
 //! BIGINT columns as they are stored.
 
-ghost use Rattle.std.specs.Prelude.{◌≡◌, ◌<◌, [], ◌∷◌, ◌++◌, ◌-◌, ◌≤◌, length, take, drop, OnOk};
+ghost use Rattle.std.specs.Prelude.{◌≡◌, ◌<◌, [], ◌∷◌, ◌++◌, length, OnOk};
 ghost use Rattle.qc_table.specs.Columns.{ints_of, IsInts};
 ghost use Rattle.qc_table.specs.Views.{int_value, value_at};
 
@@ -47,20 +47,5 @@ impl Ints {
             return None;
         }
         Some(self.values[row])
-    }
-
-    /// Puts the values from one index up to another of the other column at the end. Linear in what they hold over many calls.
-    pub(crate) fn append(&mut self, other: &Ints, from: usize, to: usize) -> Result<(), NoMemory>
-        requires ready { IsInts self.old }
-        requires other { IsInts other.now }
-        requires order { from ≤ to }
-        requires within { to ≤ length (ints_of other.now) }
-        ensures ready { OnOk result (IsInts self.new) }
-        ensures values { OnOk result (ints_of self.new ≡ ints_of self.old ++ take (to - from) (drop from (ints_of other.now))) }
-    {
-        for row in from..to {
-            self.push(other.get(row))?;
-        }
-        Ok(())
     }
 }

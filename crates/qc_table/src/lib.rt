@@ -19,5 +19,6 @@ mod views;
 
 pub use database::{Database, TableFull};
 pub use keys::{copy_of_columns, key_of_row};
+pub use name_map::NameMap;
 pub use table_version::TableVersion;
 pub use views::{ColumnView, RowView};

@@ -2,10 +2,13 @@
 
 ghost use Rattle.std.specs.Prelude.{◌≡◌, ◌≤◌, [], ◌++◌, true, length, drop, IfOk, IfSome, OnOk, Some, ◌<◌};
 ghost use Rattle.std.specs.List.{AllByRecursion};
+ghost use Rattle.std.specs.List.Sorted.{IsStrictlySortedBy};
+ghost use Rattle.std.specs.Ordering.{int_cmp};
 ghost use Rattle.std.specs.Map.{keys_of};
 ghost use Rattle.qc_model.specs.Licence.{columns_fit};
 ghost use Rattle.qc_table.specs.Changes.{above, below, left_by, merged};
-ghost use Rattle.qc_table.specs.Stored.{column_of, is_int, is_ints, values_of, IsCells, IsFilled};
+ghost use Rattle.qc_table.specs.Stored.{column_of, is_ints, values_of, IsCells, IsFilled};
+ghost use Rattle.qc_sql.specs.Database.{is_int};
 ghost use Rattle.qc_table.specs.Tables.{IsChange, with_changes};
 ghost use Rattle.qc_table.specs.Views.{kind_at};
 
@@ -36,7 +39,8 @@ pub(crate) fn merge(
     base: &TableRows,
     changes: &BTreeMap<i64, Option<StoredRow>>,
 ) -> Result<TableRows, NoMemory>
-    requires { AllByRecursion (IsChange base.now.columns) changes.now.entries }
+    requires fit { AllByRecursion (IsChange base.now.columns) changes.now.entries }
+    requires ordered { IsStrictlySortedBy int_cmp (keys_of changes.now.entries) }
     ensures { IfOk result (λ t. t ≡ with_changes base.now changes.now.entries) }
 {
     let columns = base.columns();

@@ -1,21 +1,21 @@
 //! Maps from names.
 
-ghost use Rattle.std.specs.Prelude.{◌≡◌, [], OnOk, option_copied};
+ghost use Rattle.std.specs.Prelude.{◌≡◌, [], OnOk, OnErr, option_copied};
 ghost use Rattle.std.specs.Option.{option_copied_mut};
 ghost use Rattle.std.specs.Borrow.{sem};
 ghost use Rattle.std.specs.BTreeMap.{insert_entry, is_at};
 ghost use Rattle.std.specs.Map.{remove_entry};
 ghost use Rattle.qc_sql.specs.Database.{at_name, name_cmp};
-ghost use Rattle.qc_table.specs.Lent.{lends_value};
+ghost use Rattle.qc_table.specs.Borrowed.{borrows_value};
 
 use qc_types::NoMemory;
 use std::alloc::Global;
 use std::collections::BTreeMap;
 use std::marker::Model;
 
-/// A map from names, by the order of their bytes, that changes. Each call costs the logarithm of how many names it has.
+/// A map from names, by the order of their bytes. Contracts see its entries. Each call costs the logarithm of how many names it has.
 #[derive(Drop)]
-pub(crate) struct NameMap<V> {
+pub struct NameMap<V> {
     pub(crate) held: BTreeMap<Vec<u8>, V>,
 }
 
@@ -32,7 +32,7 @@ impl<V> Model for NameMap<V> {
 
 impl<V: Drop> NameMap<V> {
     /// A map with no name.
-    pub(crate) fn new(alloc: Global) -> NameMap<V>
+    pub fn new(alloc: Global) -> NameMap<V>
         ensures { result ≡ [] }
     {
         NameMap {
@@ -40,9 +40,25 @@ impl<V: Drop> NameMap<V> {
         }
     }
 
-    /// Gives the name this value, in the place of the one that it may have.
-    pub(crate) fn insert(&mut self, alloc: Global, name: &[u8], value: V) -> Result<(), NoMemory>
-        ensures { OnOk result (self.new ≡ insert_entry name_cmp self.old name.now value) }
+    /// What the name has, where it has something.
+    pub fn get(&self, name: &[u8]) -> Option<&V>
+        ensures { option_copied result ≡ at_name name.now self.now }
+    {
+        self.held.get(name)
+    }
+
+    /// What the name has, where it has something, to be changed.
+    pub fn get_mut(&mut self, name: &[u8]) -> Option<&mut V>
+        ensures* writes_back { sem 𝓛 (borrows_value V.row self.entry name.now result) }
+        ensures value { option_copied_mut result ≡ at_name name.now self.old }
+    {
+        self.held.get_mut(name)
+    }
+
+    /// Gives the name this value, in the place of the one that it may have. Where memory runs out, the map stays as it was.
+    pub fn insert(&mut self, alloc: Global, name: &[u8], value: V) -> Result<(), NoMemory>
+        ensures ok { OnOk result (self.new ≡ insert_entry name_cmp self.old name.now value) }
+        ensures err { OnErr result (self.new ≡ self.old) }
     {
         let name = Vec::from_slice(alloc, name)?;
         self.held.insert(name, value)?;
@@ -50,17 +66,9 @@ impl<V: Drop> NameMap<V> {
     }
 
     /// Takes out what the name may have.
-    pub(crate) fn remove(&mut self, name: &[u8])
+    pub fn remove(&mut self, name: &[u8])
         ensures { self.new ≡ remove_entry (is_at (name_cmp name.now)) self.old }
     {
         let _ = self.held.remove(name);
-    }
-
-    /// What the name has, where it has something, to be changed.
-    pub(crate) fn get_mut(&mut self, name: &[u8]) -> Option<&mut V>
-        ensures* writes_back { sem 𝓛 (lends_value V.row self.entry name.now result) }
-        ensures value { option_copied_mut result ≡ at_name name.now self.old }
-    {
-        self.held.get_mut(name)
     }
 }

@@ -3,11 +3,11 @@
 ghost use Rattle.std.specs.Prelude.{◌≡◌, ◌-◌, ◌<◌, ◌≤◌, [], ◌∷◌, ◌++◌, length, take, drop, map, option_copied, IfOk, IfSome, OnOk, Some, true};
 ghost use Rattle.std.specs.Map.{keys_of};
 ghost use Rattle.qc_sql.specs.declared.tables.Kind.TheVariants as kind;
-ghost use Rattle.qc_sql.specs.Database.{key_value};
+ghost use Rattle.qc_sql.specs.Database.{key_value, is_int};
 ghost use Rattle.qc_model.specs.Licence.{columns_fit};
+ghost use Rattle.qc_model.specs.Sound.{IsSoundTable};
 ghost use Rattle.qc_table.specs.Changes.{above, below};
-ghost use Rattle.qc_table.specs.Stored.{column_of, is_int, is_ints, rows_of, values_of, IsCells, IsStore};
-ghost use Rattle.qc_table.specs.Tables.{IsSound};
+ghost use Rattle.qc_table.specs.Stored.{column_of, is_ints, rows_of, values_of, IsCells, IsStore};
 ghost use Rattle.qc_table.specs.Views.{int_value, text_value, kind_at, row_at, value_at, IsNulls, IsTextAt, IsWithin};
 
 use crate::cells::Cells;
@@ -28,13 +28,13 @@ impl Model for TableRows {
     ghost use Rattle.std.specs.Prelude.{length};
     ghost use Rattle.qc_sql.specs.Database.{Table};
     ghost use Rattle.qc_table.specs.Stored.{rows_of, IsStore};
-    ghost use Rattle.qc_table.specs.Tables.{IsSound};
+    ghost use Rattle.qc_model.specs.Sound.{IsSoundTable};
 
     ghost Value = { Table };
 
     ghost view = { λ t. record { columns = t.columns; rows = rows_of (length t.columns) t.keys.items t.cells.items } };
 
-    ghost invariant = { λ t. IsStore t.columns (length t.keys.items) t.cells.items × IsSound (record { columns = t.columns; rows = rows_of (length t.columns) t.keys.items t.cells.items }) };
+    ghost invariant = { λ t. IsStore t.columns (length t.keys.items) t.cells.items × IsSoundTable (record { columns = t.columns; rows = rows_of (length t.columns) t.keys.items t.cells.items }) };
 }
 
 /// Where entries by rising key stand apart from a key.
@@ -50,7 +50,7 @@ impl TableRows {
     /// The table of these columns and keys, with the values of each column. Constant time.
     pub(crate) fn new(columns: Columns, keys: Vec<i64>, cells: Vec<Cells>) -> TableRows
         requires store { IsStore columns (length keys.items) cells.items }
-        requires sound { IsSound (record { columns = columns; rows = rows_of (length columns) keys.items cells.items }) }
+        requires sound { IsSoundTable (record { columns = columns; rows = rows_of (length columns) keys.items cells.items }) }
         ensures { result ≡ record { columns = columns; rows = rows_of (length columns) keys.items cells.items } }
     {
         TableRows {
@@ -63,7 +63,7 @@ impl TableRows {
     pub(crate) fn columns(&self) -> &Columns
         ensures value { result.now ≡ self.now.columns }
         ensures few { length result.now ≤ 64 }
-        ensures sound { IsSound self.now }
+        ensures sound { IsSoundTable self.now }
     {
         &self.columns
     }
@@ -81,7 +81,7 @@ impl TableRows {
         ensures ready { IsCells result.now }
         ensures values { values_of result.now ≡ column_of column self.now.rows }
         ensures kind { IfSome (kind_at self.now.columns column) (λ k. is_ints result.now ≡ is_int k) }
-        ensures sound { IsSound self.now }
+        ensures sound { IsSoundTable self.now }
     {
         &self.cells[column]
     }

@@ -6,7 +6,8 @@ ghost use Rattle.std.specs.Ordering.{int_cmp};
 ghost use Rattle.std.specs.BTreeMap.{is_at};
 ghost use Rattle.std.specs.Map.{keys_of, lookup};
 ghost use Rattle.qc_sql.specs.Order.{RowsRise};
-ghost use Rattle.qc_table.specs.Tables.{IsSound, IsStored};
+ghost use Rattle.qc_model.specs.Sound.{IsSoundTable};
+ghost use Rattle.qc_table.specs.Tables.{IsStored};
 ghost use Rattle.qc_table.specs.Views.{kind_at, column_values, row_values};
 
 use crate::table_rows::TableRows;
@@ -68,7 +69,7 @@ impl TableVersion {
     /// The same version once more. Constant time. Fails where memory runs out.
     pub fn share(&self) -> Result<TableVersion, NoMemory>
         ensures same { IfOk result (λ t. t ≡ self.now) }
-        ensures sound { IsSound self.now }
+        ensures sound { IsSoundTable self.now }
         ensures ordered { RowsRise self.now }
     {
         Ok(TableVersion {
@@ -88,7 +89,7 @@ impl TableVersion {
     pub fn columns(&self) -> &Columns
         ensures value { result.now ≡ self.now.columns }
         ensures few { length result.now ≤ 64 }
-        ensures sound { IsSound self.now }
+        ensures sound { IsSoundTable self.now }
     {
         self.stored.columns()
     }

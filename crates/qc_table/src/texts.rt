@@ -1,6 +1,6 @@
 //! VARCHAR columns as they are stored.
 
-ghost use Rattle.std.specs.Prelude.{◌≡◌, ◌<◌, ◌≤◌, [], ◌∷◌, ◌++◌, ◌-◌, length, take, drop, option_copied, slice_index, OnOk};
+ghost use Rattle.std.specs.Prelude.{◌≡◌, ◌<◌, ◌≤◌, [], ◌∷◌, ◌++◌, length, option_copied, slice_index, OnOk};
 ghost use Rattle.qc_table.specs.Columns.{part_at, texts_of, IsTexts};
 ghost use Rattle.qc_table.specs.Views.{text_value, value_at};
 
@@ -91,20 +91,5 @@ impl Texts {
         } else {
             Some(self.part(row))
         }
-    }
-
-    /// Puts the values from one index up to another of the other column at the end. Linear in what they hold over many calls.
-    pub(crate) fn append(&mut self, other: &Texts, from: usize, to: usize) -> Result<(), NoMemory>
-        requires ready { IsTexts self.old }
-        requires other { IsTexts other.now }
-        requires order { from ≤ to }
-        requires within { to ≤ length (texts_of other.now) }
-        ensures ready { OnOk result (IsTexts self.new) }
-        ensures values { OnOk result (texts_of self.new ≡ texts_of self.old ++ take (to - from) (drop from (texts_of other.now))) }
-    {
-        for row in from..to {
-            self.push(other.get(row))?;
-        }
-        Ok(())
     }
 }

@@ -5,7 +5,8 @@ use Rattle.std.specs.Prelude.{Contains}
 use Rattle.std.proofs.lemmas.Bool.{le-leb}
 use Rattle.qc_tiles.specs.declared.blocks.Block.{Block}
 use Rattle.qc_tiles.specs.declared.blocks.Tile.{Tile}
-use Rattle.qc_tiles.specs.Tiles.{tile, free_tile, block_of, least, CoversFrom, FreeApart, IsTiling, region_words, joined, replaced, cut, cut_words, raised, taken, after_take, may_move, after_trim, after_give_back, after_pin, movable, swapped, after_move_down, handed_out}
+use Rattle.qc_types.specs.Blocks.{least_block, raised}
+use Rattle.qc_tiles.specs.Tiles.{tile, free_tile, block_of, CoversFrom, FreeApart, IsTiling, region_words, joined, replaced, cut, cut_words, taken, after_take, may_move, after_trim, after_give_back, after_pin, movable, swapped, after_move_down, handed_out}
 use Rattle.qc_tiles.specs.Kept.{tile_at, InHand, IsMovable}
 use Rattle.qc_tiles.specs.Cells.{IsAt, lower_of, block_at}
 use Rattle.qc_tiles.specs.Sizes.{Indexed, by_size, insert_block}
@@ -70,8 +71,8 @@ gives_back words lowest low k ts mid new free out block whole ready hand mid_is 
 
 -- ---- cutting
 
-cut_two : (wanted : ℕ) (pinned : Bool) (t : Tile) → wanted + least ≤ t.words → cut wanted pinned t ≡ tile t.first wanted false pinned ∷ free_tile (t.first + wanted) (t.words - wanted) ∷ []
-cut_two wanted pinned t h = rw (le-leb (wanted + least) t.words h) refl
+cut_two : (wanted : ℕ) (pinned : Bool) (t : Tile) → wanted + least_block ≤ t.words → cut wanted pinned t ≡ tile t.first wanted false pinned ∷ free_tile (t.first + wanted) (t.words - wanted) ∷ []
+cut_two wanted pinned t h = rw (le-leb (wanted + least_block) t.words h) refl
 
 -- the two blocks that a cut leaves, and the list with them
 pub record Cut (words k used : ℕ) (ts mid : List Tile) (free : Indexed) (block : Block) : Type 0 where
@@ -79,7 +80,7 @@ pub record Cut (words k used : ℕ) (ts mid : List Tile) (free : Indexed) (block
   pub hole : IsHole words mid free (record { first = block.first + raised used; words = block.words - raised used }) (k + 1)
   pub covers : CoversFrom 0 words mid
 
-pub cuts : (words lowest k used : ℕ) (ts mid : List Tile) (free : Indexed) (block : Block) → IsReady words ts free lowest → InHand ts block k → raised used + least ≤ block.words
+pub cuts : (words lowest k used : ℕ) (ts mid : List Tile) (free : Indexed) (block : Block) → IsReady words ts free lowest → InHand ts block k → raised used + least_block ≤ block.words
     → mid ≡ take k ts ++ (tile block.first (raised used) false (tile_at ts k).pinned ∷ free_tile (block.first + raised used) (block.words - raised used) ∷ drop (k + 1) ts) → Cut words k used ts mid free block
 cuts words lowest k used ts mid free block ready hand large mid_is =
     let t = tile_at ts k in
@@ -109,13 +110,13 @@ trims words lowest low k used ts mid new free out block whole ready hand c mid_i
     }
 
 -- a block that can't be cut stays
-whole_is : (wanted : ℕ) (t : Tile) → t.words < wanted + least → t.free ≡ false → cut wanted t.pinned t ≡ t ∷ []
+whole_is : (wanted : ℕ) (t : Tile) → t.words < wanted + least_block → t.free ≡ false → cut wanted t.pinned t ≡ t ∷ []
 whole_is wanted t h used = cut_whole wanted t.pinned t h ∙ same t used
   where
     same : (u : Tile) → u.free ≡ false → tile u.first u.words false u.pinned ∷ [] ≡ u ∷ []
     same u e = rw (← e) refl
 
-pub stays_whole : (words k used : ℕ) (ts : List Tile) (block : Block) → IsTiling words ts → InHand ts block k → block.words < raised used + least → ts ≡ after_trim block.first used ts
+pub stays_whole : (words k used : ℕ) (ts : List Tile) (block : Block) → IsTiling words ts → InHand ts block k → block.words < raised used + least_block → ts ≡ after_trim block.first used ts
 stays_whole words k used ts block h hand small =
     let t = tile_at ts k in
     let one : cut (raised used) t.pinned t ≡ t ∷ [] = whole_is (raised used) t (omega (arith, hand.words, small)) hand.used in
@@ -205,7 +206,7 @@ takes words lowest low need ts new free out block result ready p o low_is =
     let first : t.first ≡ block.first = ap (λ (b : Block). b.first) p.same in
     let behind : AllByRecursion (λ u. low ≤ u.first) zs = covers_from (0 + region_words (take k ts)) words low zs (covers_back 0 words (take k ts) zs covers) (omega (arith, low_is, r.start, first)) in
     let quiet : NoneBelow low (take k ts ++ zs) = quiet_front lowest low (take k ts) (t ∷ drop (k + 1) ts) zs (subst (λ (xs : List Tile). NoneBelow lowest xs) r.split ready.quiet) r.apart (omega (arith, low_is)) behind
-    (λ x was apart below. cut_seam x t w (drop (k + 1) ts) (nat_le (w + least) t.words) p.best.free apart) in
+    (λ x was apart below. cut_seam x t w (drop (k + 1) ts) (nat_le (w + least_block) t.words) p.best.free apart) in
     let answer : Some result ≡ taken need ts = ap (λ b. Some b) o.block ∙ (ap (λ (b : Block). Some (record { first = b.first; words = cut_words w b.words })) (sym p.same) ∙ sym (taken_block need ts k p.best)) in (
       record {
         tiles = tiles;
@@ -222,8 +223,8 @@ pub record Moves (words k : ℕ) (ts : List Tile) (free : Indexed) (lower upper 
   pub next : IsAt ts (k + 1) upper.first upper.words
   pub near : upper.first ≡ lower.first + lower.words
   pub fits : upper.first + upper.words ≤ words
-  pub some : least ≤ lower.words
-  pub more : least ≤ upper.words
+  pub some : least_block ≤ lower.words
+  pub more : least_block ≤ upper.words
   pub indexed : free.blocks ≡ insert_block lower (by_size (take k ts ++ drop (k + 2) ts))
   pub swap : swapped ts ≡ take k ts ++ (tile lower.first upper.words false false ∷ free_tile (lower.first + upper.words) lower.words ∷ drop (k + 2) ts)
   pub free_below : (tile_at ts k).free ≡ true
@@ -297,7 +298,7 @@ move_hole words lowest k ts mid free out lower upper ready m is index =
     let covers : CoversFrom 0 words (low ++ (back ∷ high)) = subst (λ (xs : List Tile). CoversFrom 0 words xs) (sym (shape ∙ is)) (swapped-covers 0 words ts ready.tiling.covers) in
     let rest_apart : FreeApart (tile_at ts (k + 1) ∷ high) = subst (λ (xs : List Tile). FreeApart xs) (rw two at (drop_at ts (k + 1) m.next.within)) r.high in
     let hole = hole_between words low high out rest sizes (omega (arith, ready.indexed.room, more, ap length blocks, ap (λ (i : Indexed). i.room) index)) covers
-    (each_three (λ u. least ≤ u.words) (take k ts) (front ∷ []) [] r.large_low (m.more, tt) tt) m.some (back_each (λ u. least ≤ u.words) ts (k + 2) ready.tiling.large) ready.region
+    (each_three (λ u. least_block ≤ u.words) (take k ts) (front ∷ []) [] r.large_low (m.more, tt) tt) m.some (back_each (λ u. least_block ≤ u.words) ts (k + 2) ready.tiling.large) ready.region
     (apart_front (take k ts) (tile_at ts k ∷ drop (k + 1) ts) (front ∷ []) r.apart (λ _. refl) tt) (apart_tail (tile_at ts (k + 1)) high rest_apart) in
     let count : length low ≡ k + 1 = length-append (take k ts) (front ∷ []) ∙ ap (λ n. n + 1) r.length in
     subst (λ (n : ℕ). IsHole words mid out rest n) count (subst (λ (xs : List Tile). IsHole words xs out rest (length low)) shape hole)

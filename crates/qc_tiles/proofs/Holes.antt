@@ -3,7 +3,8 @@ use Rattle.std.proofs.Common.{length-append, subst, ◌≡◌, ℕ, ◌+◌, ◌
 use Rattle.std.proofs.lemmas.Bool.{le-leb, lt-leb}
 use Rattle.qc_tiles.specs.declared.blocks.Block.{Block}
 use Rattle.qc_tiles.specs.declared.blocks.Tile.{Tile}
-use Rattle.qc_tiles.specs.Tiles.{tile, free_tile, block_of, least, CoversFrom, FreeApart, IsTiling, region_words, cut, cut_words, best}
+use Rattle.qc_types.specs.Blocks.{least_block}
+use Rattle.qc_tiles.specs.Tiles.{tile, free_tile, block_of, CoversFrom, FreeApart, IsTiling, region_words, cut, cut_words, best}
 use Rattle.qc_tiles.specs.Kept.{tile_at, InHand}
 use Rattle.qc_tiles.specs.Cells.{IsAt}
 use Rattle.qc_tiles.specs.Sizes.{Indexed, by_size, insert_block, added, block_words, Parts, first_of}
@@ -25,7 +26,7 @@ pub record Round (words : ℕ) (ts : List Tile) (k : ℕ) : Type 0 where
   pub length : length (take k ts) ≡ k
   pub large_low : AreLarge (take k ts)
   pub large_high : AreLarge (drop (k + 1) ts)
-  pub large : least ≤ (tile_at ts k).words
+  pub large : least_block ≤ (tile_at ts k).words
   pub apart : FreeApart (take k ts ++ (tile_at ts k ∷ drop (k + 1) ts))
   pub high : FreeApart (drop (k + 1) ts)
   pub fits : (tile_at ts k).first + (tile_at ts k).words ≤ words
@@ -43,8 +44,8 @@ round words ts k h within =
       split = split;
       start = begins words ts k h.covers within;
       length = take-length ts k (omega arith);
-      large_low = front_each (λ u. least ≤ u.words) ts k h.large;
-      large_high = back_each (λ u. least ≤ u.words) ts (k + 1) h.large;
+      large_low = front_each (λ u. least_block ≤ u.words) ts k h.large;
+      large_high = back_each (λ u. least_block ≤ u.words) ts (k + 1) h.large;
       large = large_at ts k h.large within;
       apart = apart;
       high = apart_tail (tile_at ts k) (drop (k + 1) ts) (apart_back (take k ts) (tile_at ts k ∷ drop (k + 1) ts) apart);
@@ -78,7 +79,7 @@ back_is : (low : List Tile) (z : Tile) (zs : List Tile) → drop (length low + 1
 back_is [] z zs = refl
 back_is (x ∷ low) z zs = let e : suc (length low) + 1 ≡ suc (length low + 1) = omega arith in rw e (back_is low z zs)
 
-pub hole_between : (words : ℕ) (low high : List Tile) (free : Indexed) (block : Block) → free.blocks ≡ by_size (low ++ high) → words ≤ least * (length free.blocks + free.room) → CoversFrom 0 words (low ++ (free_tile block.first block.words ∷ high)) → AreLarge low → least ≤ block.words → AreLarge high
+pub hole_between : (words : ℕ) (low high : List Tile) (free : Indexed) (block : Block) → free.blocks ≡ by_size (low ++ high) → words ≤ least_block * (length free.blocks + free.room) → CoversFrom 0 words (low ++ (free_tile block.first block.words ∷ high)) → AreLarge low → least_block ≤ block.words → AreLarge high
     → words ≤ 8388608 → FreeApart low → FreeApart high → IsHole words (low ++ (free_tile block.first block.words ∷ high)) free block (length low)
 hole_between words low high free block sizes room covers large_low large large_high region apart_low apart_high =
     let t = free_tile block.first block.words in
@@ -88,7 +89,7 @@ hole_between words low high free block sizes room covers large_low large large_h
       sizes = sizes ∙ sym (ap by_size (ap (λ xs. xs ++ drop (length low + 1) (low ++ (t ∷ high))) (front_is low (t ∷ high)) ∙ ap (λ xs. low ++ xs) (back_is low t high)));
       room = room;
       covers = covers;
-      large = each_three (λ u. least ≤ u.words) low (t ∷ []) high large_low (large, tt) large_high;
+      large = each_three (λ u. least_block ≤ u.words) low (t ∷ []) high large_low (large, tt) large_high;
       region = region;
       low = subst (λ (xs : List Tile). FreeApart xs) (sym (front_is low (t ∷ high))) apart_low;
       high = subst (λ (xs : List Tile). FreeApart xs) (sym (back_is low t high)) apart_high;
@@ -122,7 +123,7 @@ hole_given words ts free block k h region index hand =
 -- ---- the rest of a block that is cut
 
 pub hole_behind : (words : ℕ) (ts : List Tile) (free : Indexed) (front back : Tile) (block : Block) (k : ℕ) → IsTiling words ts → words ≤ 8388608 → IsIndexed words ts free → k < length ts → (tile_at ts k).free ≡ false
-    → front.free ≡ false → front.first ≡ (tile_at ts k).first → back ≡ free_tile block.first block.words → block.first ≡ front.first + front.words → front.words + block.words ≡ (tile_at ts k).words → least ≤ front.words → least ≤ block.words
+    → front.free ≡ false → front.first ≡ (tile_at ts k).first → back ≡ free_tile block.first block.words → block.first ≡ front.first + front.words → front.words + block.words ≡ (tile_at ts k).words → least_block ≤ front.words → least_block ≤ block.words
     → IsHole words (take k ts ++ (front ∷ back ∷ drop (k + 1) ts)) free block (k + 1)
 hole_behind words ts free front back block k h region index within used front_used first back_is behind sum front_large back_large =
     let r = round words ts k h within in
@@ -134,7 +135,7 @@ hole_behind words ts free front back block k h region index within used front_us
     ∙ (sym (without_used (take k ts) front high front_used) ∙ ap by_size (sym (append_assoc (take k ts) (front ∷ []) high))))) in
     let two : CoversFrom (tile_at ts k).first ((tile_at ts k).first + (tile_at ts k).words) (front ∷ t ∷ []) = (first, (omega (arith, behind, first), omega (arith, sum))) in
     let covers : CoversFrom 0 words (low ++ (t ∷ high)) = subst (λ (xs : List Tile). CoversFrom 0 words xs) (sym (append_assoc (take k ts) (front ∷ []) (t ∷ high))) (round_covers words ts k (front ∷ t ∷ []) h within two) in
-    let large_low : AreLarge low = each_three (λ u. least ≤ u.words) (take k ts) (front ∷ []) [] r.large_low (front_large, tt) tt in
+    let large_low : AreLarge low = each_three (λ u. least_block ≤ u.words) (take k ts) (front ∷ []) [] r.large_low (front_large, tt) tt in
     let apart_low : FreeApart low = apart_front (take k ts) (tile_at ts k ∷ high) (front ∷ []) r.apart (λ _. front_used) tt in
     let hole = hole_between words low high free block sizes index.room covers large_low back_large r.large_high region apart_low r.high in
     let count : length low ≡ k + 1 = length-append (take k ts) (front ∷ []) ∙ ap (λ n. n + 1) r.length in
@@ -153,7 +154,7 @@ free_at words ts free block k wanted h = record { within = h.within; first = ap 
 -- after it is taken out
 pub record Out (words : ℕ) (ts : List Tile) (free : Indexed) (block : Block) (k : ℕ) : Type 0 where
   pub blocks : free.blocks ≡ by_size (take k ts ++ drop (k + 1) ts)
-  pub room : words ≤ least * (length free.blocks + free.room)
+  pub room : words ≤ least_block * (length free.blocks + free.room)
   pub spare : 0 < free.room
   pub fits : block_words free.blocks + block.words ≤ words
 
@@ -171,16 +172,16 @@ taken_out words ts free out block k wanted h is =
       fits = omega (arith, ap block_words blocks, by_size-words (low ++ high), free_words-bound (low ++ high), words_append low high, sum, ap (λ (t : Tile). t.words) h.is, covers_words 0 words ts h.tiling.covers);
     }
 
-whole_words : (wanted words : ℕ) → words < wanted + least → cut_words wanted words ≡ words
-whole_words wanted words h = rw (lt-leb (wanted + least) words h) refl
+whole_words : (wanted words : ℕ) → words < wanted + least_block → cut_words wanted words ≡ words
+whole_words wanted words h = rw (lt-leb (wanted + least_block) words h) refl
 
-front_words : (wanted words : ℕ) → wanted + least ≤ words → cut_words wanted words ≡ wanted
-front_words wanted words h = rw (le-leb (wanted + least) words h) refl
+front_words : (wanted words : ℕ) → wanted + least_block ≤ words → cut_words wanted words ≡ wanted
+front_words wanted words h = rw (le-leb (wanted + least_block) words h) refl
 
-cut_two : (wanted : ℕ) (pinned : Bool) (t : Tile) → wanted + least ≤ t.words → cut wanted pinned t ≡ tile t.first wanted false pinned ∷ free_tile (t.first + wanted) (t.words - wanted) ∷ []
-cut_two wanted pinned t h = rw (le-leb (wanted + least) t.words h) refl
+cut_two : (wanted : ℕ) (pinned : Bool) (t : Tile) → wanted + least_block ≤ t.words → cut wanted pinned t ≡ tile t.first wanted false pinned ∷ free_tile (t.first + wanted) (t.words - wanted) ∷ []
+cut_two wanted pinned t h = rw (le-leb (wanted + least_block) t.words h) refl
 
-pub hands_whole : (words k wanted : ℕ) (ts new : List Tile) (free out : Indexed) (block : Block) → IsFree words ts free block k wanted → Out words ts out block k → block.words < wanted + least → new ≡ set ts k (tile block.first block.words false false) → HandsOut words k wanted ts new out block block
+pub hands_whole : (words k wanted : ℕ) (ts new : List Tile) (free out : Indexed) (block : Block) → IsFree words ts free block k wanted → Out words ts out block k → block.words < wanted + least_block → new ≡ set ts k (tile block.first block.words false false) → HandsOut words k wanted ts new out block block
 hands_whole words k wanted ts new free out block h o small made =
     let t = tile block.first block.words false false in
     let shape : new ≡ take k ts ++ (t ∷ drop (k + 1) ts) = made ∙ set_is ts k t h.within in
@@ -192,7 +193,7 @@ hands_whole words k wanted ts new free out block h o small made =
       block = size;
     }
 
-pub hands_front : (words k wanted : ℕ) (ts new : List Tile) (free out index : Indexed) (block : Block) → IsFree words ts free block k wanted → Out words ts out block k → wanted + least ≤ block.words
+pub hands_front : (words k wanted : ℕ) (ts new : List Tile) (free out index : Indexed) (block : Block) → IsFree words ts free block k wanted → Out words ts out block k → wanted + least_block ≤ block.words
     → new ≡ take k ts ++ (tile block.first wanted false false ∷ free_tile (block.first + wanted) (block.words - wanted) ∷ drop (k + 1) ts)
     → index ≡ record { blocks = insert_block (record { first = block.first + wanted; words = block.words - wanted }) out.blocks; room = out.room - 1 } → HandsOut words k wanted ts new index block (record { first = block.first; words = wanted })
 hands_front words k wanted ts new free out index block h o large made is =
@@ -234,7 +235,7 @@ picked_is words need ts free result h index parts =
     let own : Parts 0 need (by_size ts) (λ low high. result ≡ first_of high) = subst (λ (bs : List Block). Parts 0 need bs (λ low high. result ≡ first_of high)) index.sizes parts in
     first_fitting need (by_size ts) result (by_size-sorted ts) own ∙ sym (best-fitting need 0 words ts h.covers h.large)
 
-pub picked : (words need : ℕ) (ts : List Tile) (free : Indexed) (block : Block) → IsTiling words ts → words ≤ 8388608 → IsIndexed words ts free → least ≤ need → option_map block_of (best need ts) ≡ Some block → Picked words need ts free block
+pub picked : (words need : ℕ) (ts : List Tile) (free : Indexed) (block : Block) → IsTiling words ts → words ≤ 8388608 → IsIndexed words ts free → least_block ≤ need → option_map block_of (best need ts) ≡ Some block → Picked words need ts free block
 picked words need ts free block h region index some is =
     let one = some_of (best need ts) block is in
     let p = best_at need ts one.0 one.1 in

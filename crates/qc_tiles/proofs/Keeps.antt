@@ -4,7 +4,8 @@ use Rattle.std.specs.Prelude.{◌==◌}
 use Rattle.std.specs.List.{AllByRecursion}
 use Rattle.std.proofs.lemmas.Bool.{leb-true}
 use Rattle.qc_tiles.specs.declared.blocks.Tile.{Tile}
-use Rattle.qc_tiles.specs.Tiles.{tile, free_tile, least, CoversFrom, FreeApart, IsTiling, replaced, cut, raised, best, cut_from, after_take, after_trim, after_give_back, after_pin, may_move, movable, swapped, after_move_down}
+use Rattle.qc_types.specs.Blocks.{least_block, raised}
+use Rattle.qc_tiles.specs.Tiles.{tile, free_tile, CoversFrom, FreeApart, IsTiling, replaced, cut, best, cut_from, after_take, after_trim, after_give_back, after_pin, may_move, movable, swapped, after_move_down}
 use Rattle.qc_tiles.specs.Kept.{tile_at}
 use Rattle.qc_tiles.proofs.Tilings.{AreLarge, AreUnpinned, joined-tiling, joined_apart}
 use Rattle.qc_tiles.proofs.Walks.{split_at, none_swapped}
@@ -25,7 +26,7 @@ replaced_covers_more : (place first end : ℕ) (f : Tile → List Tile) (t : Til
 replaced_covers_more place first end f t ts true parts at rest = covers_then first (first + t.words) end (f t) (replaced place f ts) (subst (λ (m : ℕ). CoversFrom m (m + t.words) (f t)) at parts) rest
 replaced_covers_more place first end f t ts false parts at rest = (at, rest)
 
-pub replaced-covers : (place first end : ℕ) (f : Tile → List Tile) (ts : List Tile) → ((t : Tile) → least ≤ t.words → CoversFrom t.first (t.first + t.words) (f t)) → CoversFrom first end ts → AreLarge ts → CoversFrom first end (replaced place f ts)
+pub replaced-covers : (place first end : ℕ) (f : Tile → List Tile) (ts : List Tile) → ((t : Tile) → least_block ≤ t.words → CoversFrom t.first (t.first + t.words) (f t)) → CoversFrom first end ts → AreLarge ts → CoversFrom first end (replaced place f ts)
 replaced-covers place first end f [] divides h large = h
 replaced-covers place first end f (t ∷ ts) divides h large =
     replaced_covers_more place first end f t ts (t.first == place) (divides t large.0) h.0 (replaced-covers place (first + t.words) end f ts divides h.1 large.1)
@@ -40,30 +41,30 @@ replaced-each P place f (t ∷ ts) each h = replaced_each_more P place f t ts (t
 
 -- ---- cutting
 
-cut_covers_by : (wanted : ℕ) (pinned : Bool) (t : Tile) (b : Bool) → (b ≡ true → wanted + least ≤ t.words)
+cut_covers_by : (wanted : ℕ) (pinned : Bool) (t : Tile) (b : Bool) → (b ≡ true → wanted + least_block ≤ t.words)
     → CoversFrom t.first (t.first + t.words) (cond b (tile t.first wanted false pinned ∷ free_tile (t.first + wanted) (t.words - wanted) ∷ []) (tile t.first t.words false pinned ∷ []))
 cut_covers_by wanted pinned t true h = (refl, (refl, omega (arith, h refl)))
 cut_covers_by wanted pinned t false h = (refl, refl)
 
 pub cut-covers : (wanted : ℕ) (pinned : Bool) (t : Tile) → CoversFrom t.first (t.first + t.words) (cut wanted pinned t)
-cut-covers wanted pinned t = cut_covers_by wanted pinned t (nat_le (wanted + least) t.words) (leb-true (wanted + least) t.words)
+cut-covers wanted pinned t = cut_covers_by wanted pinned t (nat_le (wanted + least_block) t.words) (leb-true (wanted + least_block) t.words)
 
-cut_large_by : (wanted : ℕ) (pinned : Bool) (t : Tile) (b : Bool) → (b ≡ true → wanted + least ≤ t.words) → least ≤ wanted → least ≤ t.words
+cut_large_by : (wanted : ℕ) (pinned : Bool) (t : Tile) (b : Bool) → (b ≡ true → wanted + least_block ≤ t.words) → least_block ≤ wanted → least_block ≤ t.words
     → AreLarge (cond b (tile t.first wanted false pinned ∷ free_tile (t.first + wanted) (t.words - wanted) ∷ []) (tile t.first t.words false pinned ∷ []))
 cut_large_by wanted pinned t true h some large = (some, (omega (arith, h refl), tt))
 cut_large_by wanted pinned t false h some large = (large, tt)
 
-pub cut-large : (wanted : ℕ) (pinned : Bool) (t : Tile) → least ≤ wanted → least ≤ t.words → AreLarge (cut wanted pinned t)
-cut-large wanted pinned t some large = cut_large_by wanted pinned t (nat_le (wanted + least) t.words) (leb-true (wanted + least) t.words) some large
+pub cut-large : (wanted : ℕ) (pinned : Bool) (t : Tile) → least_block ≤ wanted → least_block ≤ t.words → AreLarge (cut wanted pinned t)
+cut-large wanted pinned t some large = cut_large_by wanted pinned t (nat_le (wanted + least_block) t.words) (leb-true (wanted + least_block) t.words) some large
 
 cut_unpinned_by : (wanted : ℕ) (pinned : Bool) (t : Tile) (b : Bool) → AreUnpinned (cond b (tile t.first wanted false pinned ∷ free_tile (t.first + wanted) (t.words - wanted) ∷ []) (tile t.first t.words false pinned ∷ []))
 cut_unpinned_by wanted pinned t true = (λ e. absurd (cc e), (λ e. refl, tt))
 cut_unpinned_by wanted pinned t false = (λ e. absurd (cc e), tt)
 
 pub cut-unpinned : (wanted : ℕ) (pinned : Bool) (t : Tile) → AreUnpinned (cut wanted pinned t)
-cut-unpinned wanted pinned t = cut_unpinned_by wanted pinned t (nat_le (wanted + least) t.words)
+cut-unpinned wanted pinned t = cut_unpinned_by wanted pinned t (nat_le (wanted + least_block) t.words)
 
-pub raised_some : (need : ℕ) → least ≤ raised need
+pub raised_some : (need : ℕ) → least_block ≤ raised need
 raised_some need = omega arith
 
 -- ---- free blocks stay apart
@@ -108,12 +109,12 @@ cut_head_by wanted pinned t ts false = refl
 pub cut-apart : (wanted : ℕ) (pinned : Bool) (xs : List Tile) (t : Tile) (ts : List Tile) → t.free ≡ true → FreeApart (xs ++ (t ∷ ts)) → FreeApart (xs ++ (cut wanted pinned t ++ ts))
 cut-apart wanted pinned xs t ts free h =
     let back = apart_back xs (t ∷ ts) h in
-    apart_front xs (t ∷ ts) (cut wanted pinned t ++ ts) h (λ _. cut_head_by wanted pinned t ts (nat_le (wanted + least) t.words))
-    (cut_apart_by wanted pinned t ts (nat_le (wanted + least) t.words) (apart_head t ts back free) (apart_tail t ts back))
+    apart_front xs (t ∷ ts) (cut wanted pinned t ++ ts) h (λ _. cut_head_by wanted pinned t ts (nat_le (wanted + least_block) t.words))
+    (cut_apart_by wanted pinned t ts (nat_le (wanted + least_block) t.words) (apart_head t ts back free) (apart_tail t ts back))
 
 -- ---- the changes
 
-cut_best : (words wanted : ℕ) (ts : List Tile) (o : Option Tile) → IsTiling words ts → least ≤ wanted → best wanted ts ≡ o → IsTiling words (cut_from wanted o ts)
+cut_best : (words wanted : ℕ) (ts : List Tile) (o : Option Tile) → IsTiling words ts → least_block ≤ wanted → best wanted ts ≡ o → IsTiling words (cut_from wanted o ts)
 cut_best words wanted ts None h some e = h
 cut_best words wanted ts (Some t) h some e =
     let one = best_at wanted ts t e in
@@ -123,7 +124,7 @@ cut_best words wanted ts (Some t) h some e =
     let apart : FreeApart (take k ts ++ (tile_at ts k ∷ drop (k + 1) ts)) = subst (λ (x : List Tile). FreeApart x) split h.apart in
     record {
       covers = replaced-covers t.first 0 words (cut wanted false) ts (λ u large. cut-covers wanted false u) h.covers h.large;
-      large = replaced-each (λ u. least ≤ u.words) t.first (cut wanted false) ts (λ u large. cut-large wanted false u some large) h.large;
+      large = replaced-each (λ u. least_block ≤ u.words) t.first (cut wanted false) ts (λ u large. cut-large wanted false u some large) h.large;
       apart = subst (λ (x : List Tile). FreeApart x) (sym made ∙ ap (λ (u : Tile). replaced u.first (cut wanted false) ts) one.1.is) (cut-apart wanted false (take k ts) (tile_at ts k) (drop (k + 1) ts) (ap (λ (u : Tile). u.free) one.1.is ∙ one.1.free) apart);
       unpinned = replaced-each (λ u. u.free ≡ true → u.pinned ≡ false) t.first (cut wanted false) ts (λ u _. cut-unpinned wanted false u) h.unpinned;
     }
@@ -135,14 +136,14 @@ pub after_trim-tiling : (words first used : ℕ) (ts : List Tile) → IsTiling w
 after_trim-tiling words first used ts h =
     joined-tiling words (replaced first (λ t. cut (raised used) t.pinned t) ts)
     (replaced-covers first 0 words (λ t. cut (raised used) t.pinned t) ts (λ u large. cut-covers (raised used) u.pinned u) h.covers h.large)
-    (replaced-each (λ u. least ≤ u.words) first (λ t. cut (raised used) t.pinned t) ts (λ u large. cut-large (raised used) u.pinned u (raised_some used) large) h.large)
+    (replaced-each (λ u. least_block ≤ u.words) first (λ t. cut (raised used) t.pinned t) ts (λ u large. cut-large (raised used) u.pinned u (raised_some used) large) h.large)
     (replaced-each (λ u. u.free ≡ true → u.pinned ≡ false) first (λ t. cut (raised used) t.pinned t) ts (λ u _. cut-unpinned (raised used) u.pinned u) h.unpinned)
 
 pub after_give_back-tiling : (words first : ℕ) (ts : List Tile) → IsTiling words ts → IsTiling words (after_give_back first ts)
 after_give_back-tiling words first ts h =
     joined-tiling words (replaced first (λ t. free_tile t.first t.words ∷ []) ts)
     (replaced-covers first 0 words (λ t. free_tile t.first t.words ∷ []) ts (λ u large. (refl, refl)) h.covers h.large)
-    (replaced-each (λ u. least ≤ u.words) first (λ t. free_tile t.first t.words ∷ []) ts (λ u large. (large, tt)) h.large)
+    (replaced-each (λ u. least_block ≤ u.words) first (λ t. free_tile t.first t.words ∷ []) ts (λ u large. (large, tt)) h.large)
     (replaced-each (λ u. u.free ≡ true → u.pinned ≡ false) first (λ t. free_tile t.first t.words ∷ []) ts (λ u _. (λ e. refl, tt)) h.unpinned)
 
 -- a block that is handed out in place of any one
@@ -166,7 +167,7 @@ pin_apart place p (t ∷ ts) h =
 pub after_pin-tiling : (words first : ℕ) (p : Bool) (ts : List Tile) → IsTiling words ts → IsTiling words (after_pin p first ts)
 after_pin-tiling words first p ts h = record {
   covers = replaced-covers first 0 words (λ t. tile t.first t.words false p ∷ []) ts (λ u large. (refl, refl)) h.covers h.large;
-  large = replaced-each (λ u. least ≤ u.words) first (λ t. tile t.first t.words false p ∷ []) ts (λ u large. (large, tt)) h.large;
+  large = replaced-each (λ u. least_block ≤ u.words) first (λ t. tile t.first t.words false p ∷ []) ts (λ u large. (large, tt)) h.large;
   apart = pin_apart first p ts h.apart;
   unpinned = replaced-each (λ u. u.free ≡ true → u.pinned ≡ false) first (λ t. tile t.first t.words false p ∷ []) ts (λ u _. (λ e. absurd (cc e), tt)) h.unpinned;
 }

@@ -20,4 +20,4 @@ pub mod Passing
 pub mod Changes
 pub mod Crowds
 pub mod Refusals
-pub mod Examples
+mod examples

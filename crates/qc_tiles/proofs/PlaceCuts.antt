@@ -3,7 +3,8 @@ use Rattle.std.proofs.Common.{length-append, subst, ◌≡◌, ℕ, ◌+◌, ◌
 use Rattle.std.proofs.Math.ListN.{length-set}
 use Rattle.std.specs.List.{AllByRecursion}
 use Rattle.qc_tiles.specs.declared.blocks.Tile.{Tile}
-use Rattle.qc_tiles.specs.Tiles.{least, CoversFrom, region_words}
+use Rattle.qc_types.specs.Blocks.{least_block}
+use Rattle.qc_tiles.specs.Tiles.{CoversFrom, region_words}
 use Rattle.qc_tiles.specs.Kept.{tile_at}
 use Rattle.qc_tiles.specs.Cells.{begun, IsMarked, IsPlaced, IsAt}
 use Rattle.qc_tiles.proofs.Tilings.{AreLarge, each_both}
@@ -16,7 +17,7 @@ each_push P low t h k = each_both P low (t ∷ []) h (k, tt)
 
 -- ---- one block in two
 
-pub cut_view : (s : List (Option Tile)) (e : List ℕ) (n k i j : ℕ) (front back : Tile) → IsPlaced s e n → IsAt (begun s) k front.first (front.words + back.words) → back.first ≡ front.first + front.words → least ≤ front.words → least ≤ back.words
+pub cut_view : (s : List (Option Tile)) (e : List ℕ) (n k i j : ℕ) (front back : Tile) → IsPlaced s e n → IsAt (begun s) k front.first (front.words + back.words) → back.first ≡ front.first + front.words → least_block ≤ front.words → least_block ≤ back.words
     → 64 * i ≤ front.first → front.first < 64 * i + 64 → 64 * j ≤ back.first → back.first < 64 * j + 64
     → begun (set (set s i (Some front)) j (Some back)) ≡ take k (begun s) ++ (front ∷ back ∷ drop (k + 1) (begun s))
 cut_view s e n k i j front back h at behind fl bl i_low i_high j_low j_high =
@@ -37,7 +38,7 @@ cut_view s e n k i j front back h at behind fl bl i_low i_high j_low j_high =
 count_four : (low high us vs : List Tile) (t a b : Tile) → us ≡ low ++ (t ∷ high) → vs ≡ low ++ (a ∷ b ∷ high) → length vs ≡ length us + 1
 count_four low high us vs t a b e f = omega (arith, ap length e, ap length f, length-append low (t ∷ high), length-append low (a ∷ b ∷ high))
 
-pub cut_placed : (s : List (Option Tile)) (e : List ℕ) (n k i j p q : ℕ) (front back : Tile) → IsPlaced s e n → IsAt (begun s) k front.first (front.words + back.words) → back.first ≡ front.first + front.words → least ≤ front.words → least ≤ back.words
+pub cut_placed : (s : List (Option Tile)) (e : List ℕ) (n k i j p q : ℕ) (front back : Tile) → IsPlaced s e n → IsAt (begun s) k front.first (front.words + back.words) → back.first ≡ front.first + front.words → least_block ≤ front.words → least_block ≤ back.words
     → 64 * i ≤ front.first → front.first < 64 * i + 64 → 64 * j ≤ back.first → back.first < 64 * j + 64 → p + 1 ≡ back.first → q ≡ back.first + (back.words - 1)
     → IsPlaced (set (set s i (Some front)) j (Some back)) (set (set e (p / 64) front.first) (q / 64) back.first) (n + 1)
 cut_placed s e n k i j p q front back h at behind fl bl i_low i_high j_low j_high p_is q_is =
@@ -63,7 +64,7 @@ cut_placed s e n k i j p q front back h at behind fl bl i_low i_high j_low j_hig
     let back2 : IsMarked e2 back = marked_here e1 q back (sym q_is) (last_cell e1 (length s) q (same_e1 ∙ h.marks) (omega (arith, parts.fits, q_is, behind, bl))) in
     record {
       covers = rw (made, same) (replaced_covers s e n k front.first (front.words + back.words) (front ∷ back ∷ []) h at (refl, (behind, stop)));
-      large = rw made (each_three (λ u. least ≤ u.words) low (front ∷ back ∷ []) high parts.large_low (fl, (bl, tt)) parts.large_high);
+      large = rw made (each_three (λ u. least_block ≤ u.words) low (front ∷ back ∷ []) high parts.large_low (fl, (bl, tt)) parts.large_high);
       placed = placed_set 0 j s1 back (placed_set 0 i s front h.placed (omega arith) (omega arith)) (omega arith) (omega arith);
       marks = same_e ∙ (h.marks ∙ sym same);
       marked = rw made (each_three (IsMarked e2) low (front ∷ back ∷ []) high low2 (front2, (back2, tt)) high2);
@@ -136,7 +137,7 @@ join_placed s e n k i j first words upper size q t h at next t_first t_words i_l
     let same_e : length e1 ≡ length e = length-set e (q / 64) first in
     let made = join_view s e n k i j first words upper size t h at next i_low i_high j_low j_high in
     let split = split_two ts k next.within in
-    let large_high : AreLarge high = back_each (λ v. least ≤ v.words) ts (k + 2) h.large in
+    let large_high : AreLarge high = back_each (λ v. least_block ≤ v.words) ts (k + 2) h.large in
     let starts : AllByRecursion (λ v. upper + size ≤ v.first) high = rw two at u.high in
     let a : first ≡ 0 + region_words low = p.begins in
     let stop : first + (words + size) ≡ 0 + region_words low + region_words (tile_at ts k ∷ tile_at ts (k + 1) ∷ []) = omega (arith, p.begins, at.words, next.words) in
@@ -146,7 +147,7 @@ join_placed s e n k i j first words upper size q t h at next t_first t_words i_l
     let here : IsMarked e1 t = subst (λ (m : ℕ). IsMarked (set e (q / 64) m) t) t_first (marked_here e q t (omega (arith, q_is, near, t_first, t_words, u.some)) (last_cell e (length s) q h.marks (omega (arith, u.fits, q_is, u.some)))) in
     record {
       covers = rw (made, same) (swap_middle 0 (64 * length s) low (tile_at ts k ∷ tile_at ts (k + 1) ∷ []) high (t ∷ []) (subst (λ (xs : List Tile). CoversFrom 0 (64 * length s) xs) split h.covers) covers);
-      large = rw made (each_three (λ v. least ≤ v.words) low (t ∷ []) high p.large_low (omega (arith, t_words, p.some), tt) large_high);
+      large = rw made (each_three (λ v. least_block ≤ v.words) low (t ∷ []) high p.large_low (omega (arith, t_words, p.some), tt) large_high);
       placed = placed_set 0 i s1 t (placed_clear 0 j s h.placed) (omega (arith, t_first)) (omega (arith, t_first));
       marks = same_e ∙ (h.marks ∙ sym same);
       marked = rw made (each_three (IsMarked e1) low (t ∷ []) high low1 (here, tt) high1);

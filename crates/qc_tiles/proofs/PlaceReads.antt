@@ -8,7 +8,7 @@ use Rattle.qc_tiles.specs.Tiles.{CoversFrom}
 use Rattle.qc_tiles.specs.Kept.{tile_at}
 use Rattle.qc_tiles.specs.Cells.{begun, PlacedFrom, IsMarked, IsPlaced, IsAt, block_at, lower_of}
 use Rattle.qc_tiles.proofs.Tilings.{AreLarge}
-use Rattle.qc_tiles.proofs.Standing.{place_bounds, large_at, each_at, later_first, same_index}
+use Rattle.qc_tiles.proofs.Standing.{large_at, each_at, later_first, same_index}
 use Rattle.qc_tiles.proofs.CellWalks.{get_is}
 use Rattle.qc_tiles.proofs.PlaceCuts.{next_first}
 
@@ -74,10 +74,6 @@ none_before s e n (suc k) first words h at zero_is =
     let some : 0 < length (begun s) = omega (arith, at.within) in
     let same : 0 ≡ suc k = same_index 0 (64 * length s) (begun s) 0 (suc k) h.covers h.large some at.within (starts_at_0 (64 * length s) (begun s) h.covers some ∙ sym (at.first ∙ zero_is)) in
     absurd (omega (arith, same))
-
-pub mark_within : (s : List (Option Tile)) (e : List ℕ) (n k first words i : ℕ) → IsPlaced s e n → IsAt (begun s) k first words → 64 * i < first → i < length e
-mark_within s e n k first words i h at low =
-    omega (arith, (place_bounds 0 (64 * length s) (begun s) k h.covers at.within).1, at.first, h.marks)
 
 pub found_before : (s : List (Option Tile)) (e : List ℕ) (n k first words below : ℕ) → IsPlaced s e n → IsAt (begun s) k first words → (first ≡ 0 → ⊥) → below ≡ slice_index e ((first - 1) / 64) → block_at below (begun s) ≡ lower_of k (begun s)
 found_before s e n zero first words below h at some mark = absurd (some (sym at.first ∙ starts_at_0 (64 * length s) (begun s) h.covers at.within))

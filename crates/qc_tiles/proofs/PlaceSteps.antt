@@ -4,7 +4,8 @@ use Rattle.std.proofs.Math.ListN.{length-set}
 use Rattle.std.specs.List.{AllByRecursion}
 use Rattle.std.specs.Prelude.{slice_index}
 use Rattle.qc_tiles.specs.declared.blocks.Tile.{Tile}
-use Rattle.qc_tiles.specs.Tiles.{least, CoversFrom, region_words}
+use Rattle.qc_types.specs.Blocks.{least_block}
+use Rattle.qc_tiles.specs.Tiles.{CoversFrom, region_words}
 use Rattle.qc_tiles.specs.Kept.{tile_at}
 use Rattle.qc_tiles.specs.Cells.{begun, IsMarked, IsPlaced, IsAt}
 use Rattle.qc_tiles.proofs.Tilings.{AreLarge, covers_back, covers_both, each_both}
@@ -61,7 +62,7 @@ around_of s e n k first words i h at low high =
     let t = tile_at (begun s) k in
     let large = large_at (begun s) k h.large at.within in
     around_one s i (take k (begun s)) t (drop (k + 1) (begun s)) h.placed (cell_within s e n k first words i h at (omega arith)) (split_at (begun s) k at.within)
-    (ends_below t.first (64 * i) (take k (begun s)) (front_each (λ u. least ≤ u.words) (begun s) k h.large) (low_ends 0 (64 * length s) (begun s) k h.covers at.within) (omega (arith, at.first)))
+    (ends_below t.first (64 * i) (take k (begun s)) (front_each (λ u. least_block ≤ u.words) (begun s) k h.large) (low_ends 0 (64 * length s) (begun s) k h.covers at.within) (omega (arith, at.first)))
     (omega (arith, at.first)) (omega (arith, at.first))
     (starts_from (t.first + t.words) (64 * i + 64) (drop (k + 1) (begun s)) (high_starts 0 (64 * length s) (begun s) k h.covers at.within) (omega (arith, at.first, large)))
 
@@ -111,7 +112,7 @@ pub record PartsAt (s : List (Option Tile)) (e : List ℕ) (k first words : ℕ)
   pub marked_low : AllByRecursion (IsMarked e) (take k (begun s))
   pub marked_high : AllByRecursion (IsMarked e) (drop (k + 1) (begun s))
   pub fits : first + words ≤ 64 * length s
-  pub some : least ≤ words
+  pub some : least_block ≤ words
   pub begins : first ≡ 0 + region_words (take k (begun s))
   pub split : begun s ≡ take k (begun s) ++ (tile_at (begun s) k ∷ drop (k + 1) (begun s))
 
@@ -119,8 +120,8 @@ pub parts_at : (s : List (Option Tile)) (e : List ℕ) (n k first words : ℕ) �
 parts_at s e n k first words h at =
     let ts = begun s in
     record {
-      large_low = front_each (λ u. least ≤ u.words) ts k h.large;
-      large_high = back_each (λ u. least ≤ u.words) ts (k + 1) h.large;
+      large_low = front_each (λ u. least_block ≤ u.words) ts k h.large;
+      large_high = back_each (λ u. least_block ≤ u.words) ts (k + 1) h.large;
       low = subst (λ (m : ℕ). AllByRecursion (λ u. u.first + u.words ≤ m) (take k ts)) at.first (low_ends 0 (64 * length s) ts k h.covers at.within);
       high = subst (λ (m : ℕ). AllByRecursion (λ u. m ≤ u.first) (drop (k + 1) ts)) (ap (λ m. m + (tile_at ts k).words) at.first ∙ ap (λ m. first + m) at.words) (high_starts 0 (64 * length s) ts k h.covers at.within);
       marked_low = front_each (IsMarked e) ts k h.marked;
@@ -160,7 +161,7 @@ change_placed s e n k i t h at low high =
     let marked : IsMarked e t = subst (λ (m : ℕ). slice_index e ((m + (t.words - 1)) / 64) ≡ m) at.first (subst (λ (m : ℕ). slice_index e (((tile_at ts k).first + (m - 1)) / 64) ≡ (tile_at ts k).first) at.words (each_at (IsMarked e) ts k h.marked at.within)) in
     record {
       covers = rw (made, same) (replaced_covers s e n k t.first t.words (t ∷ []) h at (refl, refl));
-      large = rw made (each_three (λ u. least ≤ u.words) (take k ts) (t ∷ []) (drop (k + 1) ts) p.large_low (p.some, tt) p.large_high);
+      large = rw made (each_three (λ u. least_block ≤ u.words) (take k ts) (t ∷ []) (drop (k + 1) ts) p.large_low (p.some, tt) p.large_high);
       placed = placed_set 0 i s t h.placed (omega arith) (omega arith);
       marks = h.marks ∙ sym same;
       marked = rw made (each_three (IsMarked e) (take k ts) (t ∷ []) (drop (k + 1) ts) p.marked_low (marked, tt) p.marked_high);

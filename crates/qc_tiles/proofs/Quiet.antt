@@ -26,10 +26,6 @@ pub quiet_head : (c : ℕ) (x : Tile) (zs : List Tile) → NoneBelow c (x ∷ zs
 quiet_head c x [] h k = tt
 quiet_head c x (z ∷ zs) h k = h.0 k
 
-pub quiet_tail : (c : ℕ) (x : Tile) (zs : List Tile) → NoneBelow c (x ∷ zs) → NoneBelow c zs
-quiet_tail c x [] h = tt
-quiet_tail c x (z ∷ zs) h = h.1
-
 pub quiet_from : (c : ℕ) (zs : List Tile) → AllByRecursion (λ t. c ≤ t.first) zs → NoneBelow c zs
 quiet_from c [] h = tt
 quiet_from c (z ∷ zs) h = quiet_cons c z zs (λ low. absurd (omega (arith, h.0))) (quiet_from c zs h.1)

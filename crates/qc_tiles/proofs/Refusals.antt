@@ -4,7 +4,8 @@ use Rattle.std.specs.Prelude.{◌&&◌, is_some, nat_le, option_map}
 use Rattle.std.proofs.lemmas.Bool.Decides.{nat_tests}
 use Rattle.qc_tiles.specs.declared.blocks.Tile.{Tile}
 use Rattle.qc_tiles.specs.declared.blocks.Block.{Block}
-use Rattle.qc_tiles.specs.Tiles.{best, smaller, raised, taken, largest_free, cut_words}
+use Rattle.qc_types.specs.Blocks.{raised}
+use Rattle.qc_tiles.specs.Tiles.{best, smaller, taken, largest_free, cut_words}
 use Rattle.qc_tiles.proofs.Keeps.{raised_some}
 
 none_holds : (need : ℕ) → 0 < need → false ≡ nat_le need 0

@@ -61,12 +61,6 @@ upper_joins words ts new free free_new block k u h some is_free made index =
       tiles = made ∙ sym (tiles ∙ ap (λ (t : Tile). take k ts ++ (t ∷ drop (k + 2) ts)) whole);
     }
 
--- ---- below
-
-some_lower : (k : ℕ) (ts : List Tile) (t : Tile) → lower_of k ts ≡ Some t → (j : ℕ) × (k ≡ suc j) × (tile_at ts j ≡ t)
-some_lower zero ts t h = absurd (cc h)
-some_lower (suc j) ts t h = (j, refl, cc h)
-
 none_lower : (k : ℕ) (ts : List Tile) → lower_of k ts ≡ None → k ≡ 0
 none_lower zero ts h = refl
 none_lower (suc j) ts h = absurd (cc h)

@@ -2,7 +2,8 @@
 use Rattle.std.proofs.Common.{subst, ◌≡◌, ℕ, ◌+◌, ◌*◌, ◌<◌, ◌≤◌, true, false, List, [], ◌∷◌, ◌++◌, length, take, drop, refl, sym, ap, ◌∙◌, arith, zero, suc, Option, Some, None}
 use Rattle.qc_tiles.specs.declared.blocks.Block.{Block}
 use Rattle.qc_tiles.specs.declared.blocks.Tile.{Tile}
-use Rattle.qc_tiles.specs.Tiles.{free_tile, least, CoversFrom, FreeApart, region_words, joined_to}
+use Rattle.qc_types.specs.Blocks.{least_block}
+use Rattle.qc_tiles.specs.Tiles.{free_tile, CoversFrom, FreeApart, region_words, joined_to}
 use Rattle.qc_tiles.specs.Kept.{tile_at}
 use Rattle.qc_tiles.specs.Cells.{IsAt, block_at}
 use Rattle.qc_tiles.specs.Sizes.{Indexed, by_size}
@@ -101,7 +102,7 @@ pub record IsPair (words : ℕ) (ts : List Tile) (i : ℕ) : Type 0 where
   pub high : FreeApart (drop (i + 2) ts)
 
 pub paired_hole : (words : ℕ) (ts : List Tile) (free : Indexed) (i : ℕ) (block : Block) → IsPair words ts i → block.first ≡ (tile_at ts i).first → block.words ≡ (tile_at ts i).words + (tile_at ts (i + 1)).words
-    → free.blocks ≡ by_size (take i ts ++ drop (i + 2) ts) → words ≤ least * (length free.blocks + free.room)
+    → free.blocks ≡ by_size (take i ts ++ drop (i + 2) ts) → words ≤ least_block * (length free.blocks + free.room)
     → IsHole words (take i ts ++ (free_tile block.first block.words ∷ drop (i + 2) ts)) free block i
 paired_hole words ts free i block h first size blocks room =
     let low = take i ts in
@@ -119,7 +120,7 @@ paired_hole words ts free i block h first size blocks room =
       sizes = blocks ∙ sym (ap by_size (ap (λ xs. xs ++ drop (i + 1) (low ++ (t ∷ high))) (take_made ts i (t ∷ high) lt) ∙ ap (λ xs. low ++ xs) (drop_made ts i t high lt)));
       room = room;
       covers = swap_middle 0 words low mid high (t ∷ []) (subst (λ (xs : List Tile). CoversFrom 0 words xs) (split_two ts i h.within) h.covers) covers;
-      large = each_three (λ u. least ≤ u.words) low (t ∷ []) high (front_each (λ u. least ≤ u.words) ts i h.large) (omega (arith, size, large_a), tt) (back_each (λ u. least ≤ u.words) ts (i + 2) h.large);
+      large = each_three (λ u. least_block ≤ u.words) low (t ∷ []) high (front_each (λ u. least_block ≤ u.words) ts i h.large) (omega (arith, size, large_a), tt) (back_each (λ u. least_block ≤ u.words) ts (i + 2) h.large);
       region = h.region;
       low = subst (λ (xs : List Tile). FreeApart xs) (sym (take_made ts i (t ∷ high) lt)) h.low;
       high = subst (λ (xs : List Tile). FreeApart xs) (sym (drop_made ts i t high lt)) h.high;

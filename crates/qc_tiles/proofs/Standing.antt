@@ -1,12 +1,13 @@
 -- Where a block stands in a tiling.
-use Rattle.std.proofs.Common.{◌≡◌, ℕ, ◌+◌, ◌<◌, ◌≤◌, Bool, true, false, cond, List, [], ◌∷◌, ◌++◌, length, take, drop, nat_le, refl, sym, ap, ◌∙◌, arith, zero, suc, Option, Some, None, ◌⊎◌, inl, inr}
+use Rattle.std.proofs.Common.{◌≡◌, ℕ, ◌+◌, ◌<◌, ◌≤◌, Bool, true, false, cond, List, [], ◌∷◌, ◌++◌, length, take, drop, nat_le, refl, ap, ◌∙◌, arith, zero, suc, Option, Some, None, ◌⊎◌, inl, inr}
 use Rattle.std.specs.Prelude.{◌&&◌, ◌==◌, Contains}
 use Rattle.std.specs.List.{AllByRecursion}
 use Rattle.std.proofs.lemmas.Bool.{leb-true}
 use Rattle.std.proofs.Common.{eq-eqb}
 use Rattle.qc_tiles.specs.declared.blocks.Tile.{Tile}
 use Rattle.qc_tiles.specs.declared.blocks.Block.{Block}
-use Rattle.qc_tiles.specs.Tiles.{block_of, least, CoversFrom, IsTiling, replaced, handed_out, best, holds, smaller}
+use Rattle.qc_types.specs.Blocks.{least_block}
+use Rattle.qc_tiles.specs.Tiles.{block_of, CoversFrom, replaced, handed_out, best, holds, smaller}
 use Rattle.qc_tiles.specs.Kept.{tile_at, InHand}
 use Rattle.qc_tiles.proofs.Tilings.{AreLarge, covers_words}
 
@@ -18,7 +19,7 @@ place_bounds first end (t ∷ ts) (suc k) h within =
     let rest = place_bounds (first + t.words) end ts k h.1 (omega arith) in
     (omega (arith, rest.0), rest.1)
 
-pub large_at : (ts : List Tile) (k : ℕ) → AreLarge ts → k < length ts → least ≤ (tile_at ts k).words
+pub large_at : (ts : List Tile) (k : ℕ) → AreLarge ts → k < length ts → least_block ≤ (tile_at ts k).words
 large_at [] k h within = absurd (omega arith)
 large_at (t ∷ ts) zero h within = h.0
 large_at (t ∷ ts) (suc k) h within = large_at ts k h.1 (omega arith)
@@ -29,7 +30,7 @@ each_at P (t ∷ ts) zero h within = h.0
 each_at P (t ∷ ts) (suc k) h within = each_at P ts k h.1 (omega arith)
 
 -- blocks behind a place aren't there
-pub later_first : (first end : ℕ) (t : Tile) (ts : List Tile) (k : ℕ) → CoversFrom first end (t ∷ ts) → least ≤ t.words → k < length ts → t.first < (tile_at ts k).first
+pub later_first : (first end : ℕ) (t : Tile) (ts : List Tile) (k : ℕ) → CoversFrom first end (t ∷ ts) → least_block ≤ t.words → k < length ts → t.first < (tile_at ts k).first
 later_first first end t ts k h large within = omega (arith, h.0, (place_bounds (first + t.words) end ts k h.1 within).0)
 
 -- two blocks at one place are one
@@ -119,13 +120,6 @@ hand_contains (t ∷ ts) b (suc k) h =
       | true ↦ λ e. rw (used-free t ts e) rest
       | false ↦ λ e. rw (used-used t ts e) (contains_later b (block_of t) (handed_out ts) rest)
     ] refl
-
--- the block at the place of one that is handed out is that one
-pub found : (words : ℕ) (ts : List Tile) (b : Block) (k : ℕ) → IsTiling words ts → Contains (handed_out ts) b → k < length ts → (tile_at ts k).first ≡ b.first → InHand ts b k
-found words ts b k tiling contains within place =
-    let one = in_hand ts b contains in
-    let same : one.0 ≡ k = same_index 0 words ts one.0 k tiling.covers tiling.large one.1.within within (one.1.first ∙ sym place) in
-    rw same at one.1
 
 -- ---- the smallest block that holds a need
 

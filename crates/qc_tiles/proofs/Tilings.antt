@@ -3,7 +3,8 @@ use Rattle.std.proofs.Common.{◌≡◌, ℕ, ◌+◌, ◌*◌, ◌≤◌, Bool,
 use Rattle.std.specs.Prelude.{◌&&◌}
 use Rattle.std.specs.List.{AllByRecursion}
 use Rattle.qc_tiles.specs.declared.blocks.Tile.{Tile}
-use Rattle.qc_tiles.specs.Tiles.{free_tile, least, CoversFrom, FreeApart, IsTiling, region_words, joined_to, joined}
+use Rattle.qc_types.specs.Blocks.{least_block}
+use Rattle.qc_tiles.specs.Tiles.{free_tile, CoversFrom, FreeApart, IsTiling, region_words, joined_to, joined}
 
 pub covers_words : (first end : ℕ) (ts : List Tile) → CoversFrom first end ts → end ≡ first + region_words ts
 covers_words first end [] h = omega (arith, h)
@@ -12,16 +13,13 @@ covers_words first end (t ∷ ts) h = omega (arith, covers_words (first + t.word
 pub tiling_words : (words : ℕ) (ts : List Tile) → IsTiling words ts → words ≡ region_words ts
 tiling_words words ts h = omega (arith, covers_words 0 words ts h.covers)
 
-abbrev pub IsLarge : Tile → Type 0
-IsLarge t = least ≤ t.words
-
 abbrev pub AreLarge : List Tile → Type 0
-AreLarge ts = AllByRecursion (λ t. least ≤ t.words) ts
+AreLarge ts = AllByRecursion (λ t. least_block ≤ t.words) ts
 
 abbrev pub AreUnpinned : List Tile → Type 0
 AreUnpinned ts = AllByRecursion (λ t. t.free ≡ true → t.pinned ≡ false) ts
 
-pub length_words : (ts : List Tile) → AreLarge ts → least * length ts ≤ region_words ts
+pub length_words : (ts : List Tile) → AreLarge ts → least_block * length ts ≤ region_words ts
 length_words [] h = omega arith
 length_words (t ∷ ts) h = omega (arith, h.0, length_words ts h.1)
 
@@ -43,32 +41,9 @@ covers_both first end (x ∷ xs) ys zs h k =
     let same : (first + x.words) + region_words xs ≡ first + (x.words + region_words xs) = omega arith in
     (h.0, covers_both (first + x.words) end xs ys zs h.1 (rw same k))
 
-pub each_front : (P : Tile → Type 0) (xs ys : List Tile) → AllByRecursion P (xs ++ ys) → AllByRecursion P xs
-each_front P [] ys h = tt
-each_front P (x ∷ xs) ys h = (h.0, each_front P xs ys h.1)
-
-pub each_back : (P : Tile → Type 0) (xs ys : List Tile) → AllByRecursion P (xs ++ ys) → AllByRecursion P ys
-each_back P [] ys h = h
-each_back P (x ∷ xs) ys h = each_back P xs ys h.1
-
 pub each_both : (P : Tile → Type 0) (xs ys : List Tile) → AllByRecursion P xs → AllByRecursion P ys → AllByRecursion P (xs ++ ys)
 each_both P [] ys h k = k
 each_both P (x ∷ xs) ys h k = (h.0, each_both P xs ys h.1 k)
-
--- ---- joining
-
-to_words : (t u : Tile) (us : List Tile) (a b : Bool) → region_words (cond (a && b) (free_tile t.first (t.words + u.words) ∷ us) (t ∷ u ∷ us)) ≡ t.words + (u.words + region_words us)
-to_words t u us true true = omega arith
-to_words t u us true false = omega arith
-to_words t u us false b = omega arith
-
-pub joined_to-words : (t : Tile) (us : List Tile) → region_words (joined_to t us) ≡ t.words + region_words us
-joined_to-words t [] = refl
-joined_to-words t (u ∷ us) = to_words t u us t.free u.free
-
-pub joined-words : (ts : List Tile) → region_words (joined ts) ≡ region_words ts
-joined-words [] = refl
-joined-words (t ∷ ts) = omega (arith, joined_to-words t (joined ts), joined-words ts)
 
 to_covers : (first end : ℕ) (t u : Tile) (us : List Tile) (a b : Bool) → CoversFrom first end (t ∷ u ∷ us) → CoversFrom first end (cond (a && b) (free_tile t.first (t.words + u.words) ∷ us) (t ∷ u ∷ us))
 to_covers first end t u us true true h =

@@ -3,7 +3,8 @@ use Rattle.std.specs.Prelude.{◌≡◌, ℕ, ◌+◌, ◌*◌, ◌-◌, ◌/◌
 use Prim.Native.Nat.{zero, suc}
 use Rattle.std.specs.List.{AllByRecursion}
 use Rattle.qc_tiles.specs.declared.blocks.Tile.{Tile}
-use Rattle.qc_tiles.specs.Tiles.{least, CoversFrom}
+use Rattle.qc_types.specs.Blocks.{least_block}
+use Rattle.qc_tiles.specs.Tiles.{CoversFrom}
 use Rattle.qc_tiles.specs.Kept.{tile_at}
 
 -- the blocks that begin in the cells
@@ -24,7 +25,7 @@ IsMarked ends t = slice_index ends ((t.first + (t.words - 1)) / 64) ≡ t.first
 
 pub record IsPlaced (starts : List (Option Tile)) (ends : List ℕ) (count : ℕ) : Type 0 where
   pub covers : CoversFrom 0 (64 * length starts) (begun starts)
-  pub large : AllByRecursion (λ t. least ≤ t.words) (begun starts)
+  pub large : AllByRecursion (λ t. least_block ≤ t.words) (begun starts)
   pub placed : PlacedFrom 0 starts
   pub marks : length ends ≡ length starts
   pub marked : AllByRecursion (IsMarked ends) (begun starts)

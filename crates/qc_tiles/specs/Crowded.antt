@@ -2,7 +2,8 @@
 use Rattle.std.specs.Prelude.{◌≡◌, ℕ, ◌+◌, ◌*◌, ◌<◌, ◌≤◌, true, false, List, length, is_some, nat_le}
 use Rattle.std.specs.List.{AllByRecursion}
 use Rattle.qc_tiles.specs.declared.blocks.Tile.{Tile}
-use Rattle.qc_tiles.specs.Tiles.{IsTiling, handed_out, raised, taken, largest_free}
+use Rattle.qc_types.specs.Blocks.{raised}
+use Rattle.qc_tiles.specs.Tiles.{IsTiling, handed_out, taken, largest_free}
 
 -- the words of a handed-out block are at most `most`, and those of a free one fewer
 pub record IsBelow (most : ℕ) (t : Tile) : Type 0 where

@@ -2,17 +2,11 @@
 use Rattle.std.specs.Prelude.{◌≡◌, ℕ, ◌+◌, ◌*◌, ◌≤◌, ◌<◌, true, false, List, length, slice_index_or}
 use Rattle.qc_tiles.specs.declared.blocks.Tile.{Tile}
 use Rattle.qc_tiles.specs.declared.blocks.Block.{Block}
-use Rattle.qc_tiles.specs.Tiles.{tile, IsTiling, least, may_move}
+use Rattle.qc_tiles.specs.Tiles.{tile, may_move}
 
 -- the block at an index
 abbrev pub tile_at : List Tile → ℕ → Tile
 tile_at tiles k = slice_index_or tiles k (tile 0 0 false false)
-
--- a tiling of so many words, with room for as many blocks as they can make
-pub record IsKept (words : ℕ) (tiles : List Tile) (capacity : ℕ) : Type 0 where
-  pub tiling : IsTiling words tiles
-  pub region : words ≤ 8388608
-  pub room : words ≤ least * capacity
 
 -- a block that is handed out, by its index among all
 pub record InHand (ts : List Tile) (b : Block) (k : ℕ) : Type 0 where

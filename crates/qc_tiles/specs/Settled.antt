@@ -4,7 +4,8 @@ use Prim.Native.Nat.{zero, suc}
 use Rattle.std.specs.List.{AllByRecursion}
 use Rattle.qc_tiles.specs.declared.blocks.Block.{Block}
 use Rattle.qc_tiles.specs.declared.blocks.Tile.{Tile}
-use Rattle.qc_tiles.specs.Tiles.{free_tile, least, CoversFrom, FreeApart, IsTiling, cut, cut_words, joined, joined_to}
+use Rattle.qc_types.specs.Blocks.{least_block}
+use Rattle.qc_tiles.specs.Tiles.{free_tile, CoversFrom, FreeApart, IsTiling, cut, cut_words, joined, joined_to}
 use Rattle.qc_tiles.specs.Kept.{tile_at}
 use Rattle.qc_tiles.specs.Sizes.{Indexed, by_size}
 
@@ -13,9 +14,9 @@ pub record IsHole (words : ℕ) (ts : List Tile) (free : Indexed) (block : Block
   pub within : k + 1 ≤ length ts
   pub is : tile_at ts k ≡ free_tile block.first block.words
   pub sizes : free.blocks ≡ by_size (take k ts ++ drop (k + 1) ts)
-  pub room : words ≤ least * (length free.blocks + free.room)
+  pub room : words ≤ least_block * (length free.blocks + free.room)
   pub covers : CoversFrom 0 words ts
-  pub large : AllByRecursion (λ t. least ≤ t.words) ts
+  pub large : AllByRecursion (λ t. least_block ≤ t.words) ts
   pub region : words ≤ 8388608
   pub low : FreeApart (take k ts)
   pub high : FreeApart (drop (k + 1) ts)
@@ -43,7 +44,7 @@ pub record WithLower (words k : ℕ) (old new : List Tile) (free : Indexed) (blo
 -- every free block is in the index
 pub record IsIndexed (words : ℕ) (ts : List Tile) (free : Indexed) : Type 0 where
   pub sizes : free.blocks ≡ by_size ts
-  pub room : words ≤ least * (length free.blocks + free.room)
+  pub room : words ≤ least_block * (length free.blocks + free.room)
 
 pub record Settles (words k : ℕ) (old new : List Tile) (free : Indexed) (block : Block) : Type 0 where
   pub tiles : new ≡ joined old
@@ -61,7 +62,7 @@ pub record IsFree (words : ℕ) (ts : List Tile) (free : Indexed) (block : Block
   pub indexed : IsIndexed words ts free
   pub within : k < length ts
   pub is : tile_at ts k ≡ free_tile block.first block.words
-  pub some : least ≤ wanted
+  pub some : least_block ≤ wanted
   pub holds : wanted ≤ block.words
 
 pub record HandsOut (words k wanted : ℕ) (old new : List Tile) (free : Indexed) (from result : Block) : Type 0 where

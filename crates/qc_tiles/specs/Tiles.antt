@@ -1,6 +1,7 @@
 -- The blocks of the region, in their order, and what taking, cutting, giving back and moving make of them.
 use Rattle.std.specs.Prelude.{◌≡◌, ℕ, ◌+◌, ◌-◌, ◌≤◌, max, Bool, true, false, not, ◌&&◌, List, [], ◌∷◌, ◌++◌, map, length, Option, Some, None, option_map, nat_le, ◌==◌, if◌then◌else◌}
 use Rattle.std.specs.List.{AllByRecursion, filter}
+use Rattle.qc_types.specs.Blocks.{least_block, raised}
 use Rattle.qc_types.specs.declared.totals.Totals.{Totals}
 use Rattle.qc_tiles.specs.declared.blocks.Tile.{Tile}
 use Rattle.qc_tiles.specs.declared.blocks.Block.{Block}
@@ -14,10 +15,6 @@ free_tile first words = tile first words true false
 
 abbrev pub block_of : Tile → Block
 block_of t = record { first = t.first; words = t.words }
-
--- the fewest words of a block
-abbrev pub least : ℕ
-least = 64
 
 -- ---- tilings
 
@@ -35,7 +32,7 @@ FreeApart (t ∷ u ∷ ts) = (t.free ≡ true → u.free ≡ false) × FreeApart
 -- a list of blocks that covers the words from 0 up to these, each once
 pub record IsTiling (words : ℕ) (tiles : List Tile) : Type 0 where
   pub covers : CoversFrom 0 words tiles
-  pub large : AllByRecursion (λ t. least ≤ t.words) tiles
+  pub large : AllByRecursion (λ t. least_block ≤ t.words) tiles
   pub apart : FreeApart tiles
   pub unpinned : AllByRecursion (λ t. t.free ≡ true → t.pinned ≡ false) tiles
 
@@ -69,19 +66,16 @@ replaced first f (t ∷ ts) = if t.first == first then f t ++ replaced first f t
 
 -- the words that are handed out of a block of so many: a rest below 64 words goes with them
 abbrev pub cut_words : ℕ → ℕ → ℕ
-cut_words wanted words = if nat_le (wanted + least) words then wanted else words
+cut_words wanted words = if nat_le (wanted + least_block) words then wanted else words
 
 -- the front of a block handed out, and the rest free
 abbrev pub cut : ℕ → Bool → Tile → List Tile
 cut wanted pinned t =
-    if nat_le (wanted + least) t.words
+    if nat_le (wanted + least_block) t.words
     then tile t.first wanted false pinned ∷ free_tile (t.first + wanted) (t.words - wanted) ∷ []
     else tile t.first t.words false pinned ∷ []
 
 -- ---- taking
-
-abbrev pub raised : ℕ → ℕ
-raised need = max need least
 
 abbrev pub holds : ℕ → Tile → Bool
 holds need t = t.free && nat_le need t.words
@@ -149,6 +143,10 @@ swapped (t ∷ u ∷ ts) = if may_move t u then tile t.first u.words false false
 
 abbrev pub after_move_down : List Tile → List Tile
 after_move_down tiles = joined (swapped tiles)
+
+-- a block that stood where something moved away stands where that went
+abbrev pub moved : Move → Block → Block
+moved change b = if b.first == change.from then record { first = change.to; words = b.words } else b
 
 -- ---- totals
 

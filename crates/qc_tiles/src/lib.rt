@@ -5,13 +5,11 @@ mod blocks;
 mod free_index;
 mod laws;
 mod places;
-mod plain;
 mod settle;
 mod tiles;
 mod walk;
 
 pub use blocks::{Block, Move, NoTile, Tile};
 pub use laws::{small_blocks_are_refused, small_blocks_crowd};
-pub use plain::PlainTiles;
 pub use qc_types::Totals;
 pub use tiles::Tiles;

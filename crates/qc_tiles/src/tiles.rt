@@ -2,7 +2,8 @@
 
 ghost use Rattle.std.specs.Prelude.{◌≡◌, ◌<◌, ◌≤◌, ◌%◌, true, false, length, Contains, IsTrue, ◌↔◌, IfOk, IfErr};
 ghost use Rattle.std.specs.Result.{result_ok};
-ghost use Rattle.qc_tiles.specs.Tiles.{IsTiling, region_words, fresh, handed_out, raised, taken, after_take, largest_free, trimmed, after_trim, after_give_back, after_pin, movable, after_move_down, totals_of};
+ghost use Rattle.qc_types.specs.Blocks.{raised};
+ghost use Rattle.qc_tiles.specs.Tiles.{IsTiling, region_words, fresh, handed_out, taken, after_take, largest_free, trimmed, after_trim, after_give_back, after_pin, movable, after_move_down, totals_of};
 
 use crate::blocks::{Block, LEAST_WORDS, Move, NoTile, block_of, free_tile, used_tile};
 use crate::free_index::FreeIndex;

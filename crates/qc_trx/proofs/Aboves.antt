@@ -69,9 +69,9 @@ next place own passed journal e h at =
     let parts = cut_at journal passed e at in
     let here : nat_lt place (passed + 1) ≡ true = below place (passed + 1) (omega arith) in
     let on : present (take (passed + 1) journal) ≡ apply (operations e) (present (take passed journal)) = ap present parts.1 ∙ after_one empty_database (take passed journal) e in
-    let front : left_of place own passed journal ≡ conflict_above place own (passed + 1) (present (take passed journal)) (e ∷ drop (passed + 1) journal) = ap (conflict_above place own (passed + 1) (present (take passed journal))) parts.0 in
+    let prefix_is : left_of place own passed journal ≡ conflict_above place own (passed + 1) (present (take passed journal)) (e ∷ drop (passed + 1) journal) = ap (conflict_above place own (passed + 1) (present (take passed journal))) parts.0 in
     let one : conflict_above place own (passed + 1) (present (take passed journal)) (e ∷ drop (passed + 1) journal) ≡ (by_commit (passed + 1) (first_met own (all_written (operations e) (present (take passed journal)))) or_else conflict_above place own (passed + 1 + 1) (apply (operations e) (present (take passed journal))) (drop (passed + 1) journal)) = rw here refl in
-    front ∙ (one ∙ ap (λ (d : Database). by_commit (passed + 1) (first_met own (all_written (operations e) (present (take passed journal)))) or_else conflict_above place own (passed + 1 + 1) d (drop (passed + 1) journal)) (sym on))
+    prefix_is ∙ (one ∙ ap (λ (d : Database). by_commit (passed + 1) (first_met own (all_written (operations e) (present (take passed journal)))) or_else conflict_above place own (passed + 1 + 1) d (drop (passed + 1) journal)) (sym on))
 
 -- ---- the walk
 

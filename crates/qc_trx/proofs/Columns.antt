@@ -9,10 +9,10 @@ use Rattle.qc_types.specs.declared.names.Value.{Value}
 use Rattle.qc_sql.specs.declared.tables.Column.{Column}
 use Rattle.qc_sql.specs.declared.tables.RowOp.{RowOp}
 use Rattle.qc_sql.specs.declared.tables.RowOp.TheVariants as op
-use Rattle.qc_sql.specs.Database.{Name, Database, Table, Tables, at_name, change_at, change_tables, change_table, with_row, without_row, table_of, tables_of, key_of, apply, apply_one, same_table, touches}
+use Rattle.qc_sql.specs.Database.{Name, Database, Table, Tables, at_name, change_at, change_tables, change_table, with_row, without_row, table_of, tables_of, key_of, apply, apply_one, same_table, touches, columns_of}
 use Rattle.qc_sql.proofs.Untouched.{keeps_untouched, changed_same, at_is}
 use Rattle.qc_model.specs.Conflicts.{Written, Row, Form, Whole, key_in, written_by, all_written, changes_form, is_row}
-use Rattle.qc_trx.specs.Writes.{columns_of, key_by, written_on}
+use Rattle.qc_trx.specs.Writes.{key_by, written_on}
 
 -- ---- tests
 
@@ -103,7 +103,7 @@ one_form t (op.DropDb name) d e = refl
 pub same_forms : (t : TableName) (os : List RowOp) (d e : Database) → list_any (changes_form t) (all_written os d) ≡ list_any (changes_form t) (written_on os e)
 same_forms t [] d e = refl
 same_forms t (o ∷ os) d e =
-    let front = any_append (changes_form t) (written_by o d) (all_written os (apply_one o d)) in
+    let prefix_is = any_append (changes_form t) (written_by o d) (all_written os (apply_one o d)) in
     let back = any_append (changes_form t) (written_by o e) (written_on os e) in
     let here = one_form t o d e in
     let there = same_forms t os (apply_one o d) e in
@@ -147,6 +147,6 @@ same_rows t key (o ∷ os) d e h quiet =
     let parts = either_false (list_any (changes_form t) (written_by o d)) (list_any (changes_form t) (all_written os (apply_one o d))) (sym (any_append (changes_form t) (written_by o d) (all_written os (apply_one o d))) ∙ quiet) in
     let here = one_row t key o d e h in
     let there = same_rows t key os (apply_one o d) e (one_keeps t o d parts.0 ∙ h) parts.1 in
-    let front = any_append (is_row t key) (written_by o d) (all_written os (apply_one o d)) in
+    let prefix_is = any_append (is_row t key) (written_by o d) (all_written os (apply_one o d)) in
     let back = any_append (is_row t key) (written_by o e) (written_on os e) in
     cc

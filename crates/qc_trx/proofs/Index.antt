@@ -218,9 +218,9 @@ index_more es n rows more h = record {
       let test = is_own (is_site_of q) in
       let behind : drop n (rows ++ more) ≡ drop n rows ++ more = drop_append n rows more h.within in
       let sizes : length rows ≡ n + length (drop n rows) = let l = length-drop n rows in let w = h.within in omega arith in
-      let front : first_from q n (rows ++ more) ≡ (first_from q n rows or_else position_from test (length rows) more) = ap (position_from test n) behind ∙ position_append test n (length rows) (drop n rows) more sizes in
+      let prefix_is : first_from q n (rows ++ more) ≡ (first_from q n rows or_else position_from test (length rows) more) = ap (position_from test n) behind ∙ position_append test n (length rows) (drop n rows) more sizes in
       let whole : position_from test 0 (rows ++ more) ≡ (position_from test 0 rows or_else position_from test (length rows) more) = position_append test 0 (length rows) rows more (omega arith) in
-      ap (λ o. at_site q es or_else o) front
+      ap (λ o. at_site q es or_else o) prefix_is
       ∙ (sym (or_assoc (at_site q es) (first_from q n rows) (position_from test (length rows) more))
       ∙ (ap (λ o. o or_else position_from test (length rows) more) (h.finds q) ∙ sym whole));
 }

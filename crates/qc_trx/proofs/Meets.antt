@@ -5,11 +5,11 @@ use Rattle.std.specs.List.{list_any, position_from, slice_get}
 use Rattle.qc_types.specs.declared.names.TableName.{TableName}
 use Rattle.qc_sql.specs.declared.tables.RowOp.{RowOp}
 use Rattle.qc_sql.specs.declared.tables.RowOp.TheVariants as op
-use Rattle.qc_sql.specs.Database.{Database, apply, apply_one, table_of}
+use Rattle.qc_sql.specs.Database.{Database, apply, apply_one, table_of, columns_of}
 use Rattle.qc_sql.specs.Words.{◌or_else◌, when}
 use Rattle.qc_model.specs.Conflicts.{Written, Row, Form, Whole, written_by, all_written, changes_form, is_row, key_in, met, first_met}
 use Rattle.qc_trx.specs.declared.writes.OwnRow.{OwnRow}
-use Rattle.qc_trx.specs.Writes.{own_row, own_rows, is_own, first_own, row_there, least, rows_written, written_on, meets, is_met, told, columns_of}
+use Rattle.qc_trx.specs.Writes.{own_row, own_rows, is_own, first_own, row_there, least, rows_written, written_on, meets, is_met, told}
 use Rattle.qc_trx.proofs.Columns.{any_append, or_assoc, or_false, either_false, same_forms, same_rows, all_keep}
 
 -- ---- the least number

@@ -14,7 +14,7 @@ use Rattle.qc_types.specs.declared.names.TableName.{TableName}
 use Rattle.qc_sql.specs.declared.tables.Column.{Column}
 use Rattle.qc_sql.specs.declared.tables.RowOp.{RowOp}
 use Rattle.qc_sql.specs.declared.tables.RowOp.TheVariants as op
-use Rattle.qc_sql.specs.Database.{Name, name_cmp, MapOf, Table, Tables, Database, no_tables, empty_database, at_name, change_at, change_tables, change_table, with_row, without_row, table_of, tables_of, apply, apply_one, same_table}
+use Rattle.qc_sql.specs.Database.{Name, name_cmp, MapOf, Table, Tables, Database, no_tables, empty_database, at_name, change_at, change_tables, change_table, with_row, without_row, table_of, tables_of, apply, apply_one, same_table, columns_of}
 use Rattle.qc_sql.specs.Order.{AreOrdered, IsOrdered}
 use Rattle.qc_sql.proofs.Order.{one_ordered, stays_ordered}
 use Rattle.qc_sql.proofs.Untouched.{at, at_is, at_self, changed_same}
@@ -27,7 +27,7 @@ use Rattle.qc_table.proofs.Fits.{fitted}
 use Rattle.qc_trx.specs.declared.progress.Snapshot.{Snapshot}
 use Rattle.qc_trx.specs.declared.writes.OwnRow.{OwnRow}
 use Rattle.qc_trx.specs.Progresses.{current, IsSeen}
-use Rattle.qc_trx.specs.Writes.{columns_of, columns_left, key_by, own_row, own_rows, row_left, rows_left}
+use Rattle.qc_trx.specs.Writes.{columns_left, key_by, own_row, own_rows, row_left, rows_left}
 use Rattle.qc_trx.proofs.Columns.{both_true, bytes_same, same_is, put_columns, del_columns, untouched}
 
 -- ---- maps in order
@@ -175,7 +175,7 @@ seen_more s own ops rows more next h fits made noted = record {
   ordered = h.ordered;
   noted =
       let back : more ≡ own_rows ops (apply own s.origin) = noted ∙ (ap (rows_left [] ops) h.made ∙ rows_are ops (apply own s.origin) (stays_ordered own s.origin h.ordered) fits) in
-      let front = h.noted in
+      let prefix_is = h.noted in
       let whole = own_more own ops s.origin in
       cc;
 }

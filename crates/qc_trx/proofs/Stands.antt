@@ -6,18 +6,18 @@ use Rattle.qc_sql.specs.Database.{Database, apply}
 use Rattle.qc_model.specs.declared.events.Event.{Event}
 use Rattle.qc_model.specs.Journal.{Journal, operations, present, before}
 use Rattle.qc_trx.specs.Endings.{IsOriginIn, StandsIn}
-use Rattle.qc_trx.specs.Standings.{Standing}
+use Rattle.qc_trx.specs.SnapshotStates.{SnapshotState}
 use Rattle.qc_trx.proofs.Aboves.{present_after}
 use Rattle.qc_trx.proofs.Walks.{take_whole}
 
-front_stays : (journal : Journal) (e : Event) (n : ℕ) → n ≤ length journal → take n (journal ++ e ∷ []) ≡ take n journal
-front_stays journal e n h = rw take-append-le refl
+prefix_stays : (journal : Journal) (e : Event) (n : ℕ) → n ≤ length journal → take n (journal ++ e ∷ []) ≡ take n journal
+prefix_stays journal e n h = rw take-append-le refl
 
 -- one event more
 pub origin_on : (journal : Journal) (e : Event) (place : ℕ) (origin : Option Database) → place ≤ length journal → IsOriginIn journal place origin → IsOriginIn (journal ++ e ∷ []) place origin
 origin_on journal e place origin h o =
-    let at : before place (journal ++ e ∷ []) ≡ before place journal = front_stays journal e (place - 1) (omega arith) in
-    let behind : take place (journal ++ e ∷ []) ≡ take place journal = front_stays journal e place h in
+    let at : before place (journal ++ e ∷ []) ≡ before place journal = prefix_stays journal e (place - 1) (omega arith) in
+    let behind : take place (journal ++ e ∷ []) ≡ take place journal = prefix_stays journal e place h in
     record {
       least = o.least;
       most = let l = length-append journal (e ∷ []) in omega arith;
@@ -30,7 +30,7 @@ pub origin_begun : (journal : Journal) (e : Event) → operations e ≡ [] → I
 origin_begun journal e h =
     let less : length journal + 1 - 1 ≡ length journal = omega arith in
     let at : before (length journal + 1) (journal ++ e ∷ []) ≡ journal =
-    ap (λ (n : ℕ). take n (journal ++ e ∷ [])) less ∙ (front_stays journal e (length journal) (omega arith) ∙ take_whole (length journal) journal (omega arith)) in
+    ap (λ (n : ℕ). take n (journal ++ e ∷ [])) less ∙ (prefix_stays journal e (length journal) (omega arith) ∙ take_whole (length journal) journal (omega arith)) in
     let whole : take (length journal + 1) (journal ++ e ∷ []) ≡ journal ++ e ∷ [] = take_whole (length journal + 1) (journal ++ e ∷ []) (let l = length-append journal (e ∷ []) in omega arith) in
     let nothing : apply (operations e) (present journal) ≡ present journal = ap (λ ops. apply ops (present journal)) h in
     record {

@@ -7,12 +7,12 @@ use Rattle.qc_types.specs.declared.names.TableName.{TableName}
 use Rattle.qc_sql.specs.declared.tables.Column.{Column}
 use Rattle.qc_sql.specs.declared.tables.RowOp.{RowOp}
 use Rattle.qc_sql.specs.declared.tables.RowOp.TheVariants as op
-use Rattle.qc_sql.specs.Database.{Database}
+use Rattle.qc_sql.specs.Database.{Database, columns_of}
 use Rattle.qc_model.specs.Conflicts.{Written, written_by}
 use Rattle.qc_model.specs.Journal.{Journal, event_at}
 use Rattle.qc_model.specs.declared.events.Event.{Event}
 use Rattle.qc_trx.specs.declared.writes.OwnRow.{OwnRow}
-use Rattle.qc_trx.specs.Writes.{columns_of, columns_left, first_own, is_met, key_by, least, makes_table, row_left, rows_left, written_on}
+use Rattle.qc_trx.specs.Writes.{columns_left, first_own, is_met, key_by, least, makes_table, row_left, rows_left, written_on}
 use Rattle.qc_trx.proofs.Aboves.{cut_at}
 use Rattle.qc_trx.proofs.Meets.{first_own_either, met_more}
 use Rattle.qc_trx.proofs.Ordered.{left_more}

@@ -1,4 +1,4 @@
--- How a transaction ends: with a conflict, or with its own operations.
+-- How a transaction ends, by the journal in which its snapshot was taken: with a conflict, or with its own operations.
 use Rattle.std.specs.Prelude.{◌≡◌, ℕ, ◌+◌, ◌≤◌, List, length, take, Option, Some, None, Result, Ok, Err, IfSome}
 use Rattle.qc_sql.specs.declared.tables.RowOp.{RowOp}
 use Rattle.qc_sql.specs.Database.{Database}
@@ -7,8 +7,9 @@ use Rattle.qc_model.specs.Session.{State, own_operations, snapshot_of}
 use Rattle.qc_model.specs.Conflicts as conflicts
 use Rattle.qc_model.specs.Machine.{conflict_in}
 use Rattle.qc_trx.specs.declared.conflict.Conflict.{Conflict}
-use Rattle.qc_trx.specs.Standings.{Standing}
+use Rattle.qc_trx.specs.SnapshotStates.{SnapshotState}
 
+-- a conflict of the code as one of the machine
 abbrev pub meant : Conflict → conflicts.Conflict
 meant c = record { table = c.table; key = c.key; by = c.by }
 
@@ -29,5 +30,5 @@ pub record IsOriginIn (journal : Journal) (place : ℕ) (origin : Option Databas
   pub quiet : present (take place journal) ≡ present (before place journal)
 
 -- the snapshot, where there is one, was taken in this journal
-abbrev pub StandsIn : Journal → Standing → Type 0
+abbrev pub StandsIn : Journal → SnapshotState → Type 0
 StandsIn journal s = IfSome (snapshot_of s.state) (λ place. IsOriginIn journal place s.origin)

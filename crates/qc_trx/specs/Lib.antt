@@ -1,6 +1,6 @@
 pub mod Endings
 pub mod Progresses
 pub mod Sites
-pub mod Standings
+pub mod SnapshotStates
 pub mod Values
 pub mod Writes

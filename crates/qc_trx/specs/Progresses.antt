@@ -1,22 +1,25 @@
--- What the fields of a session's state say of its transaction.
+-- What the fields of the code say of a session's transaction: they hold no `Transaction` of the machine, but how far it is (`TransactionProgress`),
+-- its own operations, and the row that each of them writes.
 use Rattle.std.specs.Prelude.{◌≡◌, ℕ, Bool, true, List, [], Option, Some, None, unwrap_or}
 use Rattle.qc_sql.specs.declared.tables.RowOp.{RowOp}
 use Rattle.qc_sql.specs.Database.{Name, Database, apply}
 use Rattle.qc_sql.specs.Order.{IsOrdered}
 use Rattle.qc_model.specs.Licence.{ops_fit}
-use Rattle.qc_model.specs.Session.{State, Transaction, none_open}
-use Rattle.qc_trx.specs.declared.progress.Progress.{Progress}
-use Rattle.qc_trx.specs.declared.progress.Progress.TheVariants as progress
+use Rattle.qc_model.specs.Session.{State, Transaction, just_opened}
+use Rattle.qc_trx.specs.declared.progress.TransactionProgress.{TransactionProgress}
+use Rattle.qc_trx.specs.declared.progress.TransactionProgress.TheVariants as progress
 use Rattle.qc_trx.specs.declared.progress.Snapshot.{Snapshot}
 use Rattle.qc_trx.specs.declared.writes.OwnRow.{OwnRow}
 use Rattle.qc_trx.specs.Writes.{own_rows}
 
-abbrev pub transaction_of : Progress → List RowOp → Option Transaction
+-- the transaction of the machine
+abbrev pub transaction_of : TransactionProgress → List RowOp → Option Transaction
 transaction_of progress.Closed own = None
-transaction_of progress.Opened own = Some none_open
+transaction_of progress.Opened own = Some just_opened
 transaction_of (progress.Seen s) own = Some (record { snapshot = Some s.place; operations = own })
 
-abbrev pub origin_of : Progress → Option Database
+-- the database at its snapshot
+abbrev pub origin_of : TransactionProgress → Option Database
 origin_of progress.Closed = None
 origin_of progress.Opened = None
 origin_of (progress.Seen s) = Some s.origin
@@ -33,13 +36,13 @@ pub record IsSeen (s : Snapshot) (own : List RowOp) (rows : List (Option OwnRow)
   pub noted : rows ≡ own_rows own s.origin
 
 -- before a snapshot there is no operation
-abbrev pub IsProgress : Progress → List RowOp → List (Option OwnRow) → Type 0
+abbrev pub IsProgress : TransactionProgress → List RowOp → List (Option OwnRow) → Type 0
 IsProgress progress.Closed own rows = (own ≡ []) × (rows ≡ [])
 IsProgress progress.Opened own rows = (own ≡ []) × (rows ≡ [])
 IsProgress (progress.Seen s) own rows = IsSeen s own rows
 
 -- its next statement sees another database
-abbrev pub after_change : Database → Progress → Progress
+abbrev pub after_change : Database → TransactionProgress → TransactionProgress
 after_change next progress.Closed = progress.Closed
 after_change next progress.Opened = progress.Opened
 after_change next (progress.Seen s) = progress.Seen (record { place = s.place; origin = s.origin; changed = Some next })

@@ -7,7 +7,7 @@ use Rattle.qc_types.specs.declared.names.Value.{Value}
 use Rattle.qc_sql.specs.declared.tables.Column.{Column}
 use Rattle.qc_sql.specs.declared.tables.RowOp.{RowOp}
 use Rattle.qc_sql.specs.declared.tables.RowOp.TheVariants as op
-use Rattle.qc_sql.specs.Database.{Name, Database, table_of, key_of, apply_one, same_table}
+use Rattle.qc_sql.specs.Database.{Name, Database, table_of, key_of, apply_one, same_table, columns_of}
 use Rattle.qc_model.specs.Conflicts.{Written, Row, key_in, written_by, changes_form, is_row, Conflict}
 use Rattle.qc_trx.specs.declared.writes.OwnRow.{OwnRow}
 
@@ -81,9 +81,6 @@ abbrev pub by_commit : ℕ → Option (TableName × Option ℤ) → Option Confl
 by_commit number found = option_map (λ m. record { table = m.0; key = m.1; by = number }) found
 
 -- ---- columns
-
-abbrev pub columns_of : TableName → Database → Option (List Column)
-columns_of t d = option_map (λ x. x.columns) (table_of t d)
 
 abbrev pub key_by : Option (List Column) → List Value → ℤ
 key_by None row = key_of [] row

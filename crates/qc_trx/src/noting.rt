@@ -1,7 +1,8 @@
 //! What operations write, as they are added.
 
 ghost use Rattle.std.specs.Prelude.{◌≡◌, ◌+◌, ◌<◌, ◌^◌, [], IfOk, option_copied, if◌then◌else◌};
-ghost use Rattle.qc_trx.specs.Writes.{columns_left, columns_of, key_by, makes_table, row_left, rows_left};
+ghost use Rattle.qc_trx.specs.Writes.{columns_left, key_by, makes_table, row_left, rows_left};
+ghost use Rattle.qc_sql.specs.Database.{columns_of};
 
 use crate::writes::OwnRow;
 use qc_sql::names::is_same_table;
@@ -20,7 +21,7 @@ pub(crate) fn rows_of(
     ensures { IfOk result (λ rows. rows.items ≡ rows_left [] ops.now seen.now) }
 {
     let mut rows = Vec::new(alloc);
-    // The operations in front, up to the last one that makes a table: only these change a table's columns.
+    // The prefix up to the last operation that makes a table: only these change a table's columns.
     let mut making = 0;
     for i in 0..ops.len() {
         let op = &ops[i];
@@ -30,7 +31,7 @@ pub(crate) fn rows_of(
     Ok(rows)
 }
 
-/// How many operations in front have to be known behind this one, where it is so many before it.
+/// The length of the prefix that has to be known behind this operation, where it is this long before it.
 fn making_after(making: usize, i: usize, op: &RowOp) -> usize
     requires { i < 2 ^ 63 }
     ensures { result ≡ (if makes_table op.now then i + 1 else making) }

@@ -7,7 +7,7 @@ use qc_table::Database;
 
 /// How far a session's transaction is.
 #[derive(Drop)]
-pub(crate) enum Progress {
+pub(crate) enum TransactionProgress {
     /// None is open.
     Closed,
     /// One is open, and no statement of it has read or written rows.
@@ -40,10 +40,10 @@ impl Snapshot {
 }
 
 /// The next statement of the transaction, where it has a snapshot, sees another database.
-pub(crate) fn see_changed(progress: &mut Progress, next: Database)
+pub(crate) fn see_changed(progress: &mut TransactionProgress, next: Database)
     ensures { progress.new ≡ after_change next progress.old }
 {
-    if let Progress::Seen(snapshot) = progress {
+    if let TransactionProgress::Seen(snapshot) = progress {
         snapshot.changed = Some(next);
     }
 }

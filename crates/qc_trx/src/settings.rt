@@ -6,8 +6,8 @@ ghost use Rattle.qc_model.specs.Settings as settings;
 ghost use Rattle.qc_sql.specs.declared.statements.SetValue.TheVariants as to;
 ghost use Rattle.qc_trx.specs.Values.{found_or_wrong};
 
-use qc_errors::wrong_value;
 use qc_lex::is_same_word;
+use qc_sql::errors::wrong_value;
 use qc_sql::statements::SetValue;
 use qc_types::{Or, SqlError};
 use std::alloc::Global;

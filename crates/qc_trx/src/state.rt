@@ -7,18 +7,18 @@ ghost use Rattle.qc_model.specs.Settings.{set_to};
 ghost use Rattle.qc_model.specs.Choice as choice;
 ghost use Rattle.qc_sql.specs.declared.statements.Setting.TheVariants as setting;
 ghost use Rattle.qc_trx.specs.Endings.{meant, end_of, StandsIn};
-ghost use Rattle.qc_trx.specs.Standings.{IsStanding, seen_on, in_database, after_begin, after_arrival, after_end, after_sight, after_more, MayAdd};
+ghost use Rattle.qc_trx.specs.SnapshotStates.{IsSnapshotState, seen_on, in_database, after_begin, after_arrival, after_end, after_sight, after_more, MayAdd};
 
 use crate::conflict::{Conflict, first_conflict};
 use crate::noting::rows_of;
-use crate::progress::{Progress, Snapshot, see_changed};
+use crate::progress::{Snapshot, TransactionProgress, see_changed};
 use crate::settings::{
     NO_LIMIT, UTF8, cache_kind, character_set, found_or_wrong, quotes, select_limit, switch,
 };
 use crate::writes::{OwnRow, Writes};
-use qc_errors::unknown_variable;
 use qc_journal::{Journal, any_touches};
 use qc_lex::is_same_word;
+use qc_sql::errors::unknown_variable;
 use qc_sql::session::Flags;
 use qc_sql::statements::{SetValue, Setting};
 use qc_sql::tables::Ops;
@@ -40,15 +40,15 @@ pub struct SessionState {
     ansi: bool,
     row_limit: u64,
     kind: u8,
-    progress: Progress,
+    progress: TransactionProgress,
     own: Ops,
     writes: Writes,
 }
 
 impl Model for SessionState {
-    ghost use Rattle.qc_trx.specs.Standings.{Standing};
+    ghost use Rattle.qc_trx.specs.SnapshotStates.{SnapshotState};
 
-    ghost Value = { Standing };
+    ghost Value = { SnapshotState };
 
     ghost use Rattle.qc_trx.specs.Progresses.{transaction_of, origin_of, IsProgress};
 
@@ -75,7 +75,7 @@ impl SessionState {
             ansi: false,
             row_limit: NO_LIMIT,
             kind,
-            progress: Progress::Closed,
+            progress: TransactionProgress::Closed,
             own: Ops::new(alloc),
             writes: Writes::new(alloc),
         }
@@ -129,12 +129,12 @@ impl SessionState {
     /// The number of the event at which its transaction took its snapshot. `None` where no transaction is open, or none that has one yet.
     pub fn snapshot(&self) -> Option<u64>
         ensures place { result ≡ snapshot_of self.now.state }
-        ensures standing { IsStanding self.now }
+        ensures state { IsSnapshotState self.now }
     {
         match &self.progress {
-            Progress::Closed => None,
-            Progress::Opened => None,
-            Progress::Seen(snapshot) => Some(snapshot.place),
+            TransactionProgress::Closed => None,
+            TransactionProgress::Opened => None,
+            TransactionProgress::Seen(snapshot) => Some(snapshot.place),
         }
     }
 
@@ -149,9 +149,9 @@ impl SessionState {
         ensures { result ≡ (flags_of self.now.state).in_trans }
     {
         match &self.progress {
-            Progress::Closed => false,
-            Progress::Opened => true,
-            Progress::Seen(_) => true,
+            TransactionProgress::Closed => false,
+            TransactionProgress::Opened => true,
+            TransactionProgress::Seen(_) => true,
         }
     }
 
@@ -215,7 +215,7 @@ impl SessionState {
         requires { self.old.state.transaction ≡ None }
         ensures { self.new ≡ after_begin self.old }
     {
-        self.progress = Progress::Opened;
+        self.progress = TransactionProgress::Opened;
     }
 
     /// Opens a transaction where autocommit is off and none is open, as a statement does that reads or writes rows.
@@ -232,9 +232,9 @@ impl SessionState {
     pub fn see(&mut self, place: u64, now: Database)
         ensures { self.new ≡ after_sight place now self.old }
     {
-        if let Progress::Opened = &self.progress {
+        if let TransactionProgress::Opened = &self.progress {
             now.is_in_order();
-            self.progress = Progress::Seen(Snapshot {
+            self.progress = TransactionProgress::Seen(Snapshot {
                 place,
                 origin: now,
                 changed: None,
@@ -246,12 +246,12 @@ impl SessionState {
     /// transaction's own operations. Constant time, since it is shared. Fails where memory runs out.
     pub fn view(&self, now: &Database) -> Result<Database, NoMemory>
         ensures seen { IfOk result (λ d. d ≡ seen_on now.now self.now) }
-        ensures standing { IsStanding self.now }
+        ensures state { IsSnapshotState self.now }
     {
         match &self.progress {
-            Progress::Closed => now.share(),
-            Progress::Opened => now.share(),
-            Progress::Seen(snapshot) => snapshot.current().share(),
+            TransactionProgress::Closed => now.share(),
+            TransactionProgress::Opened => now.share(),
+            TransactionProgress::Seen(snapshot) => snapshot.current().share(),
         }
     }
 
@@ -264,7 +264,7 @@ impl SessionState {
         ensures gives { Gives (λ _. self.new) (λ full. full.table) result (after_more ops self.old) }
         ensures err { OnErr result (self.new ≡ self.old) }
     {
-        let Progress::Seen(snapshot) = &self.progress else {
+        let TransactionProgress::Seen(snapshot) = &self.progress else {
             unreachable!()
         };
         let next = snapshot.current().apply(alloc, &ops)?;
@@ -283,12 +283,12 @@ impl SessionState {
     pub fn finish(&self, alloc: Global, journal: &Journal) -> Result<&Ops, Or<Conflict>>
         requires { StandsIn journal.now.events self.now }
         ensures gives { Gives (λ ops. ops.now) meant result (end_of self.now.state journal.now.events) }
-        ensures standing { IsStanding self.now }
+        ensures state { IsSnapshotState self.now }
     {
         match &self.progress {
-            Progress::Closed => Ok(&self.own),
-            Progress::Opened => Ok(&self.own),
-            Progress::Seen(snapshot) => {
+            TransactionProgress::Closed => Ok(&self.own),
+            TransactionProgress::Opened => Ok(&self.own),
+            TransactionProgress::Seen(snapshot) => {
                 let (place, origin) = (snapshot.place, &snapshot.origin);
                 match first_conflict(alloc, place, origin, &self.writes, journal)? {
                     None => Ok(&self.own),
@@ -303,7 +303,7 @@ impl SessionState {
         ensures own { result ≡ own_operations self.old.state }
         ensures ended { self.new ≡ after_end self.old }
     {
-        self.progress = Progress::Closed;
+        self.progress = TransactionProgress::Closed;
         self.writes = Writes::new(self.alloc);
         mem::replace(&mut self.own, Ops::new(self.alloc))
     }
@@ -312,7 +312,7 @@ impl SessionState {
     pub fn clear(&mut self)
         ensures { self.new ≡ after_end self.old }
     {
-        self.progress = Progress::Closed;
+        self.progress = TransactionProgress::Closed;
         self.own = Ops::new(self.alloc);
         self.writes = Writes::new(self.alloc);
     }

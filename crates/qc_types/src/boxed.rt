@@ -29,14 +29,14 @@ impl<T: Drop> Boxed<T> {
         })
     }
 
-    /// The value, lent.
+    /// The value, borrowed.
     pub fn get(&self) -> &T
         ensures { result.now ≡ self.now }
     {
         &self.inner
     }
 
-    /// The value. The box's memory is given back.
+    /// The value. The memory of the box is freed.
     pub fn into_inner(self) -> T
         ensures { result ≡ self }
     {

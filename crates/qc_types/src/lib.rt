@@ -10,8 +10,6 @@ mod owned_list;
 mod sql_error;
 mod steps;
 mod streams;
-#[cfg(test)]
-mod tests;
 mod text;
 mod totals;
 

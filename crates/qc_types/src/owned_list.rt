@@ -66,7 +66,7 @@ impl<T: Drop> OwnedList<T> {
         Ok(())
     }
 
-    /// The members, lent, in their order.
+    /// The members, borrowed, in their order.
     pub fn items(&self) -> &[T]
         ensures { result.now ≡ self.now }
     {

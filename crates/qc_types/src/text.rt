@@ -51,7 +51,7 @@ impl Text {
         Text::of(alloc, self.bytes())
     }
 
-    /// The bytes, lent.
+    /// The bytes, borrowed.
     pub fn bytes(&self) -> &[u8]
         ensures { result.now ≡ self.now }
     {

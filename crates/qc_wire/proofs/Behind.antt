@@ -5,14 +5,14 @@ use Rattle.std.proofs.lemmas.Bool.{ltb-false, ne_eqb}
 use Rattle.qc_sql.specs.declared.replies.Reply.{Reply}
 use Rattle.qc_sql.specs.declared.replies.Reply.TheVariants as reply
 use Rattle.qc_sql.specs.Packets.{most_payload, packets}
-use Rattle.qc_sql.specs.Commands.{length_at}
+use Rattle.qc_sql.specs.Commands.{length_at, payload_at}
 use Rattle.qc_wire.specs.declared.refusal.WireRefusal.TheVariants as refusal
 use Rattle.qc_wire.specs.declared.reading.reply.Opening.{Opening}
 use Rattle.qc_wire.specs.declared.reading.reply.Opening.TheVariants as opens
 use Rattle.qc_wire.specs.Laws.{IsReply, RefusesMore}
 use Rattle.qc_wire.specs.Places.{Unread, moved, end_of}
 use Rattle.qc_wire.specs.Reading.{Read, ◌>>=◌, unless, times}
-use Rattle.qc_wire.specs.Replies.{Payload, Stream, Parsed, Row, payload_there, next_payload, complete, eof_fields, eof_packet, column_fields, column_packet, columns, row_or_end, next_row, row_before, rows, opened_by, opened, result_set, reply_in_front, from_front, reply_of}
+use Rattle.qc_wire.specs.Replies.{Payload, Stream, Parsed, Row, next_payload, complete, eof_fields, eof_packet, column_fields, column_packet, columns, row_or_end, next_row, row_before, rows, opened_by, opened, result_set, reply_in_front, from_start, reply_of}
 use Rattle.qc_wire.proofs.Results.{ok_is, then_step, guard_ok}
 use Rattle.qc_wire.proofs.Payloads.{stream, whole_payload}
 use Rattle.qc_wire.proofs.ReplyLaws.{reply_again}
@@ -25,7 +25,7 @@ payload_keeps : Keeps next_payload
 unfolding next_payload
 payload_keeps s p h =
     let u = s.bytes in
-    let k : ℕ = 4 + length (payload_there u.left) in
+    let k : ℕ = 4 + length (payload_at u.left) in
     let a = guard_ok (nat_lt most_payload (length_at u.left)) _ _ p h in
     let b = guard_ok (nat_lt (length u.left) 4) _ _ p a.1 in
     let c = guard_ok (not (slice_index u.left 3 == s.sequence)) _ _ p b.1 in
@@ -101,7 +101,7 @@ unfolding reply_of
 more_is_refused r h b more =
     let tail : List ℕ = b ∷ more in
     let one = reply_again r tail h in
-    let ends = reply_keeps (from_front (packets r ++ tail)) (r, stream one.0 one.1 tail) one.2 in
+    let ends = reply_keeps (from_start (packets r ++ tail)) (r, stream one.0 one.1 tail) one.2 in
     let some : (suc (length more) == 0) ≡ false = ne_eqb (suc (length more)) 0 (λ e. omega (arith, e)) in
     let here : one.1 ≡ length (packets r) = omega (arith, ends, length-append (packets r) tail) in
     ap (λ (q : Parsed Reply). q >>= λ x. unless (not (length x.1.bytes.left == 0)) (refusal.Trailing x.1.bytes.at) x.0) one.2

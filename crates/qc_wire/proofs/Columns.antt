@@ -11,7 +11,7 @@ use Rattle.qc_wire.specs.declared.reading.columns.Names.{Names}
 use Rattle.qc_wire.specs.declared.reading.columns.Sizes.{Sizes}
 use Rattle.qc_wire.specs.Places.{Unread}
 use Rattle.qc_wire.specs.Reading.{Read, ◌>>=◌, unless, number, constant, constants, integer, string}
-use Rattle.qc_wire.specs.Replies.{catalog, column_names, column_sizes, column_fields}
+use Rattle.qc_wire.specs.Replies.{catalog, column_names, column_sizes, column_of, column_fields}
 use Rattle.qc_wire.specs.Laws.{IsColumn}
 use Rattle.qc_wire.proofs.Results.{not_false, ok_is, then_step, unless_ok}
 use Rattle.qc_wire.proofs.LowFirst.{IsBytes}
@@ -167,18 +167,7 @@ column_takes u x fits e =
     let t0 = names_take u n fits took0 in
     then_step (column_sizes n.1) _ x e0 (λ s took1 e1.
     let t1 = sizes_take n.1 s t0.0.bytes took1 in
-    let c : ColumnDef = record {
-      schema = n.0.schema;
-      table = n.0.table;
-      org_table = n.0.org_table;
-      name = n.0.name;
-      org_name = n.0.org_name;
-      charset = s.0.charset;
-      length = s.0.length;
-      kind = s.0.kind;
-      flags = s.0.flags;
-      decimals = s.0.decimals;
-    } in
+    let c : ColumnDef = column_of n.0 s.0 in
     let whole : Takes u (column_payload c) s.1 = subst (λ (text : List ℕ). Takes u text s.1) (same_payload c t1.1) (takes_then u n.1 s.1 (names_text n.0) (sizes_text s.0) t0.0 t1.0) in
     let P : ColumnDef × Unread → Type 0 = λ y. Takes u (column_payload y.0) y.1 × ColumnFits y.0 in
     subst P (ok_is (c, s.1) x e1) (

@@ -1,4 +1,4 @@
--- A front of a reply's text that is not the whole is cut at its end.
+-- A prefix of a reply's text that is not the whole is cut at its end.
 use Rattle.std.proofs.Common.{◌≡◌, ℕ, zero, suc, ◌+◌, ◌-◌, ◌*◌, ◌%◌, ◌<◌, ◌≤◌, List, [], ◌∷◌, ◌++◌, length, take, drop, Option, Some, None, Result, Ok, Err, refl, sym, ap, ◌∙◌, arith, inl, inr, ◌⊎◌, length-drop, length-take, length-append}
 use Rattle.std.specs.Prelude.{nat_lt, not, ◌==◌, slice_index}
 use Rattle.std.proofs.lemmas.Bool.{cases_lt, le-ltb, lt-ltb, ltb-false, eqb-true, eq-eqb}
@@ -15,14 +15,14 @@ use Rattle.qc_wire.specs.declared.reading.reply.Opening.TheVariants as opens
 use Rattle.qc_wire.specs.Laws.{IsReply, RefusesCut}
 use Rattle.qc_wire.specs.Places.{Unread, end_of}
 use Rattle.qc_wire.specs.Reading.{Read, ◌>>=◌, unless}
-use Rattle.qc_wire.specs.Replies.{Payload, Stream, Parsed, Row, next_payload, complete, eof_fields, eof_packet, column_fields, column_packet, columns, row_or_end, next_row, row_before, rows, opened_by, opened, result_set, reply_in_front, from_front, reply_of}
+use Rattle.qc_wire.specs.Replies.{Payload, Stream, Parsed, Row, next_payload, complete, eof_fields, eof_packet, column_fields, column_packet, columns, row_or_end, next_row, row_before, rows, opened_by, opened, result_set, reply_in_front, from_start, reply_of}
 use Rattle.qc_wire.proofs.Results.{ok_is, then_step, bind_same, guard_ok, not_false, unless_ok}
 use Rattle.qc_wire.proofs.Fields.{spot}
 use Rattle.qc_wire.proofs.Payloads.{stream, behind_header, whole_payload}
 use Rattle.qc_wire.proofs.RowLoop.{enough, rows_of}
 use Rattle.qc_wire.proofs.ReplyLaws.{text_is_reread}
-use Rattle.qc_wire.proofs.Fronts.{Ground, with_value, Local, LocalRead, local_then, times_local}
-use Rattle.qc_wire.proofs.PayloadFronts.{column_local, eof_local, Cuts, to_its_end, rest_of, read_cuts, row_cuts, opened_cuts}
+use Rattle.qc_wire.proofs.Prefixes.{Ground, with_value, Reaches, Local, LocalRead, local_then, times_local}
+use Rattle.qc_wire.proofs.PayloadPrefixes.{column_local, eof_local, Cuts, to_its_end, rest_of, read_cuts, row_cuts, opened_cuts}
 
 -- ---- packets
 
@@ -35,17 +35,17 @@ parsed_ground = with_value stream_ground
 abbrev LocalParse : {A : Type 0} → (Stream → Parsed A) → Type 0
 LocalParse {A} read = Local stream_ground (parsed_ground {A = A}) read
 
-length_of_front : (front more : List ℕ) → length_at front ≤ length_at (front ++ more)
-length_of_front [] more = omega arith
-length_of_front (a ∷ []) more = omega arith
-length_of_front (a ∷ b ∷ []) more = omega arith
-length_of_front (a ∷ b ∷ c ∷ front) more = omega arith
+length_of_prefix : (prefix more : List ℕ) → length_at prefix ≤ length_at (prefix ++ more)
+length_of_prefix [] more = omega arith
+length_of_prefix (a ∷ []) more = omega arith
+length_of_prefix (a ∷ b ∷ []) more = omega arith
+length_of_prefix (a ∷ b ∷ c ∷ prefix) more = omega arith
 
-cut_header : (n at : ℕ) (front more : List ℕ) → length front < 4 → length_at (front ++ more) ≤ most_payload
-    → next_payload (stream n at front) ≡ Err (refusal.Truncated (at + length front))
+cut_header : (n at : ℕ) (prefix more : List ℕ) → length prefix < 4 → length_at (prefix ++ more) ≤ most_payload
+    → next_payload (stream n at prefix) ≡ Err (refusal.Truncated (at + length prefix))
 unfolding next_payload
-cut_header n at front more lt le =
-    rw (le-ltb most_payload (length_at front) (omega (arith, le, length_of_front front more)), lt-ltb (length front) 4 lt) refl
+cut_header n at prefix more lt le =
+    rw (le-ltb most_payload (length_at prefix) (omega (arith, le, length_of_prefix prefix more)), lt-ltb (length prefix) 4 lt) refl
 
 header_ok : (s : Stream) (p : Payload × Stream) → next_payload s ≡ Ok p
     → (length_at s.bytes.left ≤ most_payload) × (slice_index s.bytes.left 3 ≡ s.sequence)
@@ -75,18 +75,18 @@ whole_header n at a b c d rest le same =
 abbrev one_packet : {B : Type 0} → (Payload → Result B WireRefusal) → Stream → Parsed B
 one_packet handle s = next_payload s >>= λ p. handle p.0 >>= λ v. Ok (v, p.1)
 
-abbrev FrontOf : {B : Type 0} → (Stream → Parsed B) → Stream → List ℕ → B × Stream → Type 0
-FrontOf {B} read s more y = (read s ≡ Err (refusal.Truncated (end_of s.bytes))) ⊎ ((t : B × Stream) × (read s ≡ Ok t) × (y ≡ parsed_ground.grow more t) × (parsed_ground.place t ≡ end_of s.bytes))
+abbrev PrefixOf : {B : Type 0} → (Stream → Parsed B) → Stream → List ℕ → B × Stream → Type 0
+PrefixOf {B} read s more y = Reaches (λ end t. (y ≡ parsed_ground.grow more t) × (parsed_ground.place t ≡ end)) (end_of s.bytes) (read s)
 
-short_front : {B : Type 0} (handle : Payload → Result B WireRefusal) (n at : ℕ) (left more : List ℕ) (y : B × Stream) → length left < 4
+short_prefix : {B : Type 0} (handle : Payload → Result B WireRefusal) (n at : ℕ) (left more : List ℕ) (y : B × Stream) → length left < 4
     → one_packet handle (stream n at (left ++ more)) ≡ Ok y → one_packet handle (stream n at left) ≡ Err (refusal.Truncated (at + length left))
-short_front {B} handle n at left more y lt e =
+short_prefix {B} handle n at left more y lt e =
     then_step (next_payload (stream n at (left ++ more))) _ y e (λ p took e1.
     ap (λ (r : Parsed Payload). r >>= λ q. handle q.0 >>= λ v. Ok (v, q.1)) (cut_header n at left more lt (header_ok (stream n at (left ++ more)) p took).0))
 
-long_front : {B : Type 0} (handle : Payload → Result B WireRefusal) → Cuts handle → (n at a b c d : ℕ) (rest more : List ℕ) (y : B × Stream)
-    → one_packet handle (stream n at (a ∷ b ∷ c ∷ d ∷ (rest ++ more))) ≡ Ok y → FrontOf (one_packet handle) (stream n at (a ∷ b ∷ c ∷ d ∷ rest)) more y
-long_front {B} handle cuts n at a b c d rest more y e =
+long_prefix : {B : Type 0} (handle : Payload → Result B WireRefusal) → Cuts handle → (n at a b c d : ℕ) (rest more : List ℕ) (y : B × Stream)
+    → one_packet handle (stream n at (a ∷ b ∷ c ∷ d ∷ (rest ++ more))) ≡ Ok y → PrefixOf (one_packet handle) (stream n at (a ∷ b ∷ c ∷ d ∷ rest)) more y
+long_prefix {B} handle cuts n at a b c d rest more y e =
     let k : ℕ = size_of a b c in
     let all : Stream = stream n at (a ∷ b ∷ c ∷ d ∷ (rest ++ more)) in
     let next : ℕ = (n + 1) % 256 in
@@ -118,28 +118,27 @@ long_front {B} handle cuts n at a b c d rest more y e =
           inr (
             (v, behind),
             first ∙ ap (λ (r : Result B WireRefusal). r >>= λ w. Ok (w, behind)) one,
-            sym (ok_is (v, p.1) y e2) ∙ ap (λ (s : Stream). (v, s)) left,
-            omega (arith, count, length-drop (length there) rest),
+            (sym (ok_is (v, p.1) y e2) ∙ ap (λ (s : Stream). (v, s)) left, omega (arith, count, length-drop (length there) rest)),
           )
     ]))
 
-packet_front : {B : Type 0} (handle : Payload → Result B WireRefusal) → Cuts handle → (n at : ℕ) (left more : List ℕ) (y : B × Stream)
-    → one_packet handle (stream n at (left ++ more)) ≡ Ok y → FrontOf (one_packet handle) (stream n at left) more y
-packet_front handle cuts n at [] more y e = inl (short_front handle n at [] more y (omega arith) e)
-packet_front handle cuts n at (a ∷ []) more y e = inl (short_front handle n at (a ∷ []) more y (omega arith) e)
-packet_front handle cuts n at (a ∷ b ∷ []) more y e = inl (short_front handle n at (a ∷ b ∷ []) more y (omega arith) e)
-packet_front handle cuts n at (a ∷ b ∷ c ∷ []) more y e = inl (short_front handle n at (a ∷ b ∷ c ∷ []) more y (omega arith) e)
-packet_front handle cuts n at (a ∷ b ∷ c ∷ d ∷ rest) more y e = long_front handle cuts n at a b c d rest more y e
+packet_prefix : {B : Type 0} (handle : Payload → Result B WireRefusal) → Cuts handle → (n at : ℕ) (left more : List ℕ) (y : B × Stream)
+    → one_packet handle (stream n at (left ++ more)) ≡ Ok y → PrefixOf (one_packet handle) (stream n at left) more y
+packet_prefix handle cuts n at [] more y e = inl (short_prefix handle n at [] more y (omega arith) e)
+packet_prefix handle cuts n at (a ∷ []) more y e = inl (short_prefix handle n at (a ∷ []) more y (omega arith) e)
+packet_prefix handle cuts n at (a ∷ b ∷ []) more y e = inl (short_prefix handle n at (a ∷ b ∷ []) more y (omega arith) e)
+packet_prefix handle cuts n at (a ∷ b ∷ c ∷ []) more y e = inl (short_prefix handle n at (a ∷ b ∷ c ∷ []) more y (omega arith) e)
+packet_prefix handle cuts n at (a ∷ b ∷ c ∷ d ∷ rest) more y e = long_prefix handle cuts n at a b c d rest more y e
 
 packet_local : {B : Type 0} (handle : Payload → Result B WireRefusal) → Cuts handle → LocalParse (one_packet handle)
-packet_local handle cuts s more y e = packet_front handle cuts s.sequence s.bytes.at s.bytes.left more y e
+packet_local handle cuts s more y e = packet_prefix handle cuts s.sequence s.bytes.at s.bytes.left more y e
 
 -- the same reader in other words
 local_same : {B : Type 0} (f g : Stream → Parsed B) → ((s : Stream) → f s ≡ g s) → LocalParse f → LocalParse g
 local_same {B} f g same h s more y e =
     elim (h s more y (same (stream_ground.grow more s) ∙ e)) [
       | inl cut ↦ inl (sym (same s) ∙ cut)
-      | inr (t, is, grown, placed) ↦ inr (t, sym (same s) ∙ is, grown, placed)
+      | inr (t, is, rest) ↦ inr (t, sym (same s) ∙ is, rest)
     ]
 
 whole_is : {A : Type 0} (read : Unread → Read A) (s : Stream) → one_packet (to_its_end rest_of (λ x. x.0) read) s ≡ whole_payload read s
@@ -174,10 +173,10 @@ row_local columns status s more y e = packet_local (row_or_end columns status) (
 
 row_before_local : (later : Stream → Parsed (List Row)) → LocalParse later
     → Local parsed_ground parsed_ground (λ (row : Option Row × Stream). row_before row (later row.1))
-row_before_local later h (None, s) more y e = inr (([], s), refl, sym (ok_is _ y e), refl)
+row_before_local later h (None, s) more y e = inr (([], s), refl, (sym (ok_is _ y e), refl))
 row_before_local later h (Some row, s) more y e =
     local_then stream_ground parsed_ground parsed_ground later (λ others. Ok (row ∷ others.0, others.1)) h
-    (λ v grown z is. inr ((row ∷ v.0, v.1), refl, sym (ok_is _ z is), refl)) s more y e
+    (λ v grown z is. inr ((row ∷ v.0, v.1), refl, (sym (ok_is _ z is), refl))) s more y e
 
 rows_local : (k columns status : ℕ) → LocalParse (rows k columns status)
 unfolding rows
@@ -192,7 +191,7 @@ rows_of_local columns status s more y e =
     let same : rows k columns status s ≡ rows_of columns status s = enough k (length s.bytes.left) columns status s (omega (arith, length-append s.bytes.left more)) (omega arith) in
     elim (rows_local k columns status s more y e) [
       | inl cut ↦ inl (sym same ∙ cut)
-      | inr (t, is, grown, placed) ↦ inr (t, sym same ∙ is, grown, placed)
+      | inr (t, is, rest) ↦ inr (t, sym same ∙ is, rest)
     ]
 
 set_local : (n : ℕ) → LocalParse (result_set n)
@@ -202,10 +201,10 @@ set_local n s more y e =
     (times_local stream_ground column_packet column_packet_local n) (λ cs.
     local_then stream_ground parsed_ground parsed_ground eof_packet (λ status. rows_of n status.0 status.1 >>= λ rs. Ok (reply.Rows cs.0 rs.0 status.0, rs.1)) eof_packet_local (λ status.
     local_then stream_ground parsed_ground parsed_ground (rows_of n status.0) (λ rs. Ok (reply.Rows cs.0 rs.0 status.0, rs.1)) (rows_of_local n status.0)
-    (λ rs m z is. inr ((reply.Rows cs.0 rs.0 status.0, rs.1), refl, sym (ok_is _ z is), refl)) status.1) cs.1) s more y e
+    (λ rs m z is. inr ((reply.Rows cs.0 rs.0 status.0, rs.1), refl, (sym (ok_is _ z is), refl))) status.1) cs.1) s more y e
 
 opened_local : Local parsed_ground parsed_ground (λ (o : Opening × Stream). opened o.0 o.1)
-opened_local (opens.Whole r, s) more y e = inr ((r, s), refl, sym (ok_is _ y e), refl)
+opened_local (opens.Whole r, s) more y e = inr ((r, s), refl, (sym (ok_is _ y e), refl))
 opened_local (opens.Columns n, s) more y e = set_local n s more y e
 
 opening_is : (s : Stream) → (one_packet opened_by s >>= λ o. opened o.0 o.1) ≡ reply_in_front s
@@ -227,15 +226,15 @@ reply_local =
 
 pub cut_is_refused : (r : Reply) → IsReply r → RefusesCut r
 unfolding reply_of
-cut_is_refused r h front rest b e =
-    let whole : reply_of (front ++ b ∷ rest) ≡ Ok r = ap reply_of e ∙ text_is_reread r h in
+cut_is_refused r h prefix rest b e =
+    let whole : reply_of (prefix ++ b ∷ rest) ≡ Ok r = ap reply_of e ∙ text_is_reread r h in
     let end : Reply × Stream → Result Reply WireRefusal = λ x. unless (not (length x.1.bytes.left == 0)) (refusal.Trailing x.1.bytes.at) x.0 in
-    then_step (reply_in_front (from_front (front ++ b ∷ rest))) end r whole (λ x took is.
+    then_step (reply_in_front (from_start (prefix ++ b ∷ rest))) end r whole (λ x took is.
     let g = unless_ok (not (length x.1.bytes.left == 0)) (refusal.Trailing x.1.bytes.at) x.0 r is in
     let none : length x.1.bytes.left ≡ 0 = eqb-true (length x.1.bytes.left) 0 (not_false (length x.1.bytes.left == 0) g.0) in
-    elim (reply_local (from_front front) (b ∷ rest) x took) [
+    elim (reply_local (from_start prefix) (b ∷ rest) x took) [
       | inl cut ↦ ap (λ (q : Parsed Reply). q >>= end) cut ∙ ap (λ (n : ℕ). Err (refusal.Truncated n)) (omega arith)
-      | inr (t, read, grown, placed) ↦
-          let all : length x.1.bytes.left ≡ length (t.1.bytes.left ++ b ∷ rest) = ap (λ (z : Reply × Stream). length z.1.bytes.left) grown in
+      | inr (t, read, same) ↦
+          let all : length x.1.bytes.left ≡ length (t.1.bytes.left ++ b ∷ rest) = ap (λ (z : Reply × Stream). length z.1.bytes.left) same.0 in
           absurd (omega (arith, none, all, length-append t.1.bytes.left (b ∷ rest)))
     ])

@@ -13,7 +13,7 @@ use Rattle.qc_wire.specs.Reading.{Read, ◌>>=◌, unless, take_bytes, number, c
 use Rattle.qc_wire.proofs.Results.{ok_is, then_step, unless_ok, not_false}
 use Rattle.qc_wire.proofs.LowFirst.{IsBytes, IsBytes-drop, IsBytes-take, IsBytes-rest, bytes_again}
 
--- what a reader took from the front
+-- what a reader took from what is left
 pub record Takes (u : Unread) (text : List ℕ) (rest : Unread) : Type 0 where
   pub parts : u.left ≡ text ++ rest.left
   pub bytes : IsBytes rest.left
@@ -101,10 +101,10 @@ zero_bytes (suc (suc i)) = omega arith
 
 -- ---- length-encoded integers and strings
 
-shortest_ok : (front least : ℕ) (r : Read ℕ) (x : ℕ × Unread) → (r >>= shortest front least) ≡ Ok x → (r ≡ Ok x) × (least ≤ x.0)
-shortest_ok front least r x e =
-    then_step r (shortest front least) x e (λ v took is.
-    let g = unless_ok (nat_lt v.0 least) (refusal.NotMinimal front) v x is in
+shortest_ok : (start least : ℕ) (r : Read ℕ) (x : ℕ × Unread) → (r >>= shortest start least) ≡ Ok x → (r ≡ Ok x) × (least ≤ x.0)
+shortest_ok start least r x e =
+    then_step r (shortest start least) x e (λ v took is.
+    let g = unless_ok (nat_lt v.0 least) (refusal.NotMinimal start) v x is in
     subst (λ (y : ℕ × Unread). (r ≡ Ok y) × (least ≤ y.0)) g.1 (took, ltb-false v.0 least g.0))
 
 -- a test, and which way it went
@@ -130,27 +130,27 @@ unfolding encoded_integer
 in_eight n le = rw (le-ltb n 251 (omega arith)) (rw (le-ltb n (2 ^ 16) (omega arith)) (rw (le-ltb n (2 ^ 24) le) refl))
 
 -- the bytes behind the first one
-behind_takes : (front byte : ℕ) (u : Unread) (x : ℕ × Unread) → IsBytes u.left → byte < 256 → integer_behind front byte u ≡ Ok x
+behind_takes : (start byte : ℕ) (u : Unread) (x : ℕ × Unread) → IsBytes u.left → byte < 256 → integer_behind start byte u ≡ Ok x
     → (text : List ℕ) × (encoded_integer x.0 ≡ byte ∷ text) × Takes u text x.1 × (x.0 < 2 ^ 64)
 unfolding integer_behind
-behind_takes front byte u x fits lt e =
+behind_takes start byte u x fits lt e =
     elim (chosen (nat_lt byte 251) _ _ (Ok x) e) [
       | inl (test, is) ↦
           let P : ℕ × Unread → Type 0 = λ y. (text : List ℕ) × (encoded_integer y.0 ≡ byte ∷ text) × Takes u text y.1 × (y.0 < 2 ^ 64) in
           subst P (ok_is (byte, u) x is) ([], in_one byte (ltb-true byte 251 test), record { parts = refl; bytes = fits }, omega arith)
       | inr (test, e1) ↦ elim (chosen (byte == 0xfc) _ _ (Ok x) e1) [
         | inl (test, is) ↦
-            let s = shortest_ok front 251 (number 2 u) x is in
+            let s = shortest_ok start 251 (number 2 u) x is in
             let t = number_takes 2 u x fits s.0 in
             (little_bytes 2 x.0, in_two x.0 s.1 (omega (arith, t.1)) ∙ ap (λ (d : ℕ). d ∷ little_bytes 2 x.0) (sym (eqb-true byte 0xfc test)), t.0, omega (arith, t.1))
         | inr (test, e2) ↦ elim (chosen (byte == 0xfd) _ _ (Ok x) e2) [
           | inl (test, is) ↦
-              let s = shortest_ok front (2 ^ 16) (number 3 u) x is in
+              let s = shortest_ok start (2 ^ 16) (number 3 u) x is in
               let t = number_takes 3 u x fits s.0 in
               (little_bytes 3 x.0, in_three x.0 s.1 (omega (arith, t.1)) ∙ ap (λ (d : ℕ). d ∷ little_bytes 3 x.0) (sym (eqb-true byte 0xfd test)), t.0, omega (arith, t.1))
           | inr (test, e3) ↦ elim (chosen (byte == 0xfe) _ _ (Ok x) e3) [
             | inl (test, is) ↦
-                let s = shortest_ok front (2 ^ 24) (number 8 u) x is in
+                let s = shortest_ok start (2 ^ 24) (number 8 u) x is in
                 let t = number_takes 8 u x fits s.0 in
                 (little_bytes 8 x.0, in_eight x.0 s.1 ∙ ap (λ (d : ℕ). d ∷ little_bytes 8 x.0) (sym (eqb-true byte 0xfe test)), t.0, omega (arith, t.1))
             | inr (test, is) ↦ absurd cc
@@ -169,17 +169,17 @@ integer_takes u x fits e =
     let rest = behind_takes u.at b.0 b.1 x one.bytes (omega (arith, t.1)) is in
     (subst (λ (text : List ℕ). Takes u text x.1) (sym rest.1) (takes_then u b.1 x.1 (b.0 ∷ []) rest.0 one rest.2), rest.3))
 
-longer_again : (front least n at x : ℕ) (rest : List ℕ) → least ≤ x → x < 256 ^ n → (number n (spot at (little_bytes n x ++ rest)) >>= shortest front least) ≡ Ok (x, spot (at + n) rest)
-longer_again front least n at x rest le lt =
-    ap (λ (r : Read ℕ). r >>= shortest front least) (number_again n at x rest lt) ∙ rw (le-ltb x least le) refl
+longer_again : (start least n at x : ℕ) (rest : List ℕ) → least ≤ x → x < 256 ^ n → (number n (spot at (little_bytes n x ++ rest)) >>= shortest start least) ≡ Ok (x, spot (at + n) rest)
+longer_again start least n at x rest le lt =
+    ap (λ (r : Read ℕ). r >>= shortest start least) (number_again n at x rest lt) ∙ rw (le-ltb x least le) refl
 
 -- how many bytes stand behind the first one
 abbrev more : ℕ → ℕ
 more n = if nat_lt n 251 then 0 else if nat_lt n (2 ^ 16) then 2 else if nat_lt n (2 ^ 24) then 3 else 8
 
-front_again : (at b : ℕ) (text : List ℕ) → b < 256 → integer (spot at (b ∷ text)) ≡ integer_behind at b (spot (at + 1) text)
+first_again : (at b : ℕ) (text : List ℕ) → b < 256 → integer (spot at (b ∷ text)) ≡ integer_behind at b (spot (at + 1) text)
 unfolding integer
-front_again at b text lt =
+first_again at b text lt =
     let low : b % 256 ≡ b = omega arith in
     ap (λ (r : Read ℕ). r >>= λ byte. integer_behind at byte.0 byte.1) (ap (λ (d : ℕ). number 1 (spot at (d ∷ text))) (sym low) ∙ number_again 1 at b text lt)
 
@@ -188,18 +188,18 @@ unfolding integer_behind
 integer_again n at rest lt =
     elim (cases_lt n 251) [
       | inl small ↦
-          ap (λ (text : List ℕ). integer (spot at (text ++ rest))) (in_one n small) ∙ front_again at n rest (omega arith)
+          ap (λ (text : List ℕ). integer (spot at (text ++ rest))) (in_one n small) ∙ first_again at n rest (omega arith)
           ∙ rw (lt-ltb n 251 small) (ap (λ (k : ℕ). Ok (n, spot k rest)) (omega arith))
       | inr large ↦ elim (cases_lt n (2 ^ 16)) [
         | inl small ↦
-            ap (λ (text : List ℕ). integer (spot at (text ++ rest))) (in_two n large small) ∙ front_again at 0xfc (little_bytes 2 n ++ rest) (omega arith)
+            ap (λ (text : List ℕ). integer (spot at (text ++ rest))) (in_two n large small) ∙ first_again at 0xfc (little_bytes 2 n ++ rest) (omega arith)
             ∙ rw (le-ltb n 251 large, lt-ltb n (2 ^ 16) small) (longer_again at 251 2 (at + 1) n rest large (omega arith))
         | inr larger ↦ elim (cases_lt n (2 ^ 24)) [
           | inl small ↦
-              ap (λ (text : List ℕ). integer (spot at (text ++ rest))) (in_three n larger small) ∙ front_again at 0xfd (little_bytes 3 n ++ rest) (omega arith)
+              ap (λ (text : List ℕ). integer (spot at (text ++ rest))) (in_three n larger small) ∙ first_again at 0xfd (little_bytes 3 n ++ rest) (omega arith)
               ∙ rw (le-ltb n 251 large, le-ltb n (2 ^ 16) larger, lt-ltb n (2 ^ 24) small) (longer_again at (2 ^ 16) 3 (at + 1) n rest larger (omega arith))
           | inr largest ↦
-              ap (λ (text : List ℕ). integer (spot at (text ++ rest))) (in_eight n largest) ∙ front_again at 0xfe (little_bytes 8 n ++ rest) (omega arith)
+              ap (λ (text : List ℕ). integer (spot at (text ++ rest))) (in_eight n largest) ∙ first_again at 0xfe (little_bytes 8 n ++ rest) (omega arith)
               ∙ rw (le-ltb n 251 large, le-ltb n (2 ^ 16) larger, le-ltb n (2 ^ 24) largest) (longer_again at (2 ^ 24) 8 (at + 1) n rest largest (omega arith))
         ]
       ]

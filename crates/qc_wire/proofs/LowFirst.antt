@@ -1,11 +1,12 @@
 -- Numbers as bytes, the low one first.
-use Rattle.std.proofs.Common.{◌≡◌, ℕ, zero, suc, ◌+◌, ◌*◌, ◌/◌, ◌%◌, ◌^◌, ◌<◌, List, [], ◌∷◌, length, get_or, take, drop, refl, sym, ap, ◌∙◌, arith, inl, inr}
-use Rattle.std.specs.Int.{byte_at, bytes_low_first}
+use Rattle.std.proofs.Common.{◌≡◌, ℕ, zero, suc, ◌+◌, ◌*◌, ◌/◌, ◌%◌, ◌^◌, ◌<◌, ◌≤◌, List, [], ◌∷◌, length, get_or, take, drop, refl, sym, ap, ◌∙◌, arith, inl, inr}
+use Rattle.std.specs.Int.{byte_at, bytes_low_first, w64, to_le_bytes}
 use Rattle.std.proofs.Math.Nat.{div-div-eq-div-mul, pow-succ'}
 use Rattle.std.proofs.lemmas.Bool.{cases_lt}
 use Rattle.std.proofs.lemmas.List.{get_or-drop, get_or-take, get_or_past, length-take}
 use Rattle.byteorder.specs.Endian.{little_number, little_bytes, little_from}
 use Rattle.byteorder.specs.Numbers.{little_from-cons}
+use Rattle.byteorder.proofs.Bytes.{take-bytes_low_first}
 
 abbrev pub IsBytes : List ℕ → Type 0
 IsBytes bytes = (i : ℕ) → get_or bytes i 0 < 256
@@ -49,3 +50,7 @@ bytes_again (suc n) (b ∷ bytes) e h =
     ap (little_bytes (suc n)) value
     ∙ ap (λ (d : ℕ). d ∷ bytes_low_first 1 n (b + 256 * y)) first
     ∙ ap (λ (ds : List ℕ). b ∷ ds) (bytes_on 0 n b y lt ∙ bytes_again n bytes (omega (arith, e)) (IsBytes-rest b bytes h))
+
+-- the low bytes of a number of eight bytes
+pub low_bytes : (count n : ℕ) → count ≤ 8 → take count (to_le_bytes w64 n) ≡ bytes_low_first 0 count n
+low_bytes count n le = take-bytes_low_first 0 8 count n le

@@ -5,13 +5,13 @@ use Rattle.std.specs.List.{concat}
 use Rattle.std.proofs.lemmas.Bool.{ltb-false, le-ltb, eqb-true, eq-eqb}
 use Rattle.std.proofs.lemmas.List.{take_at, drop_at, take-append-drop, nil_from_length}
 use Rattle.qc_sql.specs.Packets.{most_payload, packet, numbered}
-use Rattle.qc_sql.specs.Commands.{length_at}
+use Rattle.qc_sql.specs.Commands.{length_at, payload_at}
 use Rattle.qc_wire.specs.declared.refusal.WireRefusal.{WireRefusal}
 use Rattle.qc_wire.specs.declared.refusal.WireRefusal.TheVariants as refusal
 use Rattle.qc_wire.specs.Laws.{IsPayload}
 use Rattle.qc_wire.specs.Places.{Unread}
 use Rattle.qc_wire.specs.Reading.{Read, ◌>>=◌}
-use Rattle.qc_wire.specs.Replies.{Payload, Stream, Parsed, payload_there, next_payload, complete}
+use Rattle.qc_wire.specs.Replies.{Payload, Stream, Parsed, next_payload, complete}
 use Rattle.qc_wire.proofs.Results.{guard_ok, not_false, ok_is}
 use Rattle.qc_wire.proofs.LowFirst.{IsBytes, IsBytes-drop, IsBytes-take}
 use Rattle.qc_wire.proofs.Fields.{Takes, spot, Rereads, Passes}
@@ -34,8 +34,8 @@ behind_header k a b c d rest =
     ap (λ (m : ℕ). drop m (a ∷ b ∷ c ∷ d ∷ rest)) n
 
 -- a header of four bytes, and the payload behind it
-whole_packet : (left : List ℕ) → IsBytes left → 4 ≤ length left → length_at left ≤ length (payload_there left)
-    → left ≡ packet (slice_index left 3) (payload_there left) ++ drop (4 + length (payload_there left)) left
+whole_packet : (left : List ℕ) → IsBytes left → 4 ≤ length left → length_at left ≤ length (payload_at left)
+    → left ≡ packet (slice_index left 3) (payload_at left) ++ drop (4 + length (payload_at left)) left
 unfolding packet
 whole_packet [] fits long h = absurd (omega (arith, long))
 whole_packet (a ∷ []) fits long h = absurd (omega (arith, long))
@@ -57,7 +57,7 @@ unfolding next_payload
 next_is s p fits h =
     let u = s.bytes in
     let left : List ℕ = u.left in
-    let there : List ℕ = payload_there left in
+    let there : List ℕ = payload_at left in
     let a = guard_ok (nat_lt most_payload (length_at left)) _ _ p h in
     let b = guard_ok (nat_lt (length left) 4) _ _ p a.1 in
     let c = guard_ok (not (slice_index left 3 == s.sequence)) _ _ p b.1 in

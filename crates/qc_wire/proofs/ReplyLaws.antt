@@ -21,13 +21,14 @@ use Rattle.qc_wire.specs.Commands.{command_text}
 use Rattle.qc_wire.specs.Laws.{ReadsBack, IsPayload, IsColumn, IsError, IsRow, IsResultSet, IsReply, Asked, Answered, IsMessage, message_text}
 use Rattle.qc_wire.proofs.Results.{not_false, ok_is, then_step, unless_ok}
 use Rattle.qc_wire.proofs.ReadBack.{command_same}
+use Rattle.qc_wire.specs.Places.{Unread}
 use Rattle.qc_wire.specs.Reading.{Read, ◌>>=◌, unless, times}
-use Rattle.qc_wire.specs.Replies.{Payload, Stream, Parsed, Row, begins_with, next_payload, complete, ok_fields, err_fields, eof_fields, eof_packet, column_fields, column_packet, columns, rows, column_count, opened_by, opened, result_set, reply_in_front, from_front, reply_of}
+use Rattle.qc_wire.specs.Replies.{Payload, Stream, Parsed, Row, begins_with, next_payload, complete, ok_fields, err_fields, eof_fields, eof_packet, column_fields, column_packet, columns, rows, column_count, opened_by, opened, result_set, reply_in_front, from_start, reply_of}
 use Rattle.qc_wire.proofs.LowFirst.{IsBytes}
-use Rattle.qc_wire.proofs.Fields.{in_one}
+use Rattle.qc_wire.proofs.Fields.{Takes, in_one}
 use Rattle.qc_wire.proofs.Lengths.{ok_bound, integer_bound}
 use Rattle.qc_wire.proofs.Columns.{ColumnFits, column_takes, column_rereads}
-use Rattle.qc_wire.proofs.Payloads.{stream, Spells, spells_then, spells_none, packet_takes, payload_bytes, pack, payload, written, next_written, read_alone, complete_again, Unpacks, payload_unpacks}
+use Rattle.qc_wire.proofs.Payloads.{stream, Spells, spells_then, spells_none, packet_takes, payload_bytes, pack, payload, written, next_written, read_alone, complete_again, Unpacks, whole_payload, payload_unpacks}
 use Rattle.qc_wire.proofs.Singles.{ok_takes, ok_rereads, err_takes, err_rereads, eof_takes, eof_rereads, count_takes, count_rereads}
 use Rattle.qc_wire.proofs.RowLaws.{rows_take, rows_again}
 
@@ -36,16 +37,24 @@ use Rattle.qc_wire.proofs.RowLaws.{rows_take, rows_again}
 column_is : (c : ColumnDef) → ColumnFits c → IsPayload (column_payload c) → IsColumn c
 column_is c f p = record { charset = f.charset; length = f.length; kind = f.kind; flags = f.flags; decimals = f.decimals; payload = p }
 
+-- a packet whose payload is read to its end by a reader that takes this text
+whole_takes : {A : Type 0} (read : Unread → Read A) (text : A → List ℕ) (Fits : A → Type 0)
+    → ((u : Unread) (y : A × Unread) → IsBytes u.left → read u ≡ Ok y → Takes u (text y.0) y.1 × Fits y.0)
+    → (s : Stream) (x : A × Stream) → IsBytes s.bytes.left → whole_payload read s ≡ Ok x → Spells s (text x.0 ∷ []) x.1 × IsPayload (text x.0) × Fits x.0
+whole_takes {A} read text Fits takes s x fits e =
+    then_step (next_payload s) _ x e (λ p took e1.
+    then_step (read p.0.bytes) _ x e1 (λ v is e2.
+    let t = takes p.0.bytes v (payload_bytes s p fits took) is in
+    then_step (complete p.0 v.1) _ x e2 (λ whole done e3.
+    let taken = packet_takes s p (text v.0) v.1 fits took t.0 done in
+    let P : A × Stream → Type 0 = λ y. Spells s (text y.0 ∷ []) y.1 × IsPayload (text y.0) × Fits y.0 in
+    subst P (ok_is (v.0, p.1) x e3) (taken.0, taken.1, t.1))))
+
 one_column_takes : (s : Stream) (x : ColumnDef × Stream) → IsBytes s.bytes.left → column_packet s ≡ Ok x → Spells s (column_payload x.0 ∷ []) x.1 × IsColumn x.0
 unfolding column_packet
 one_column_takes s x fits e =
-    then_step (next_payload s) _ x e (λ p took e1.
-    then_step (column_fields p.0.bytes) _ x e1 (λ c read e2.
-    let t = column_takes p.0.bytes c (payload_bytes s p fits took) read in
-    then_step (complete p.0 c.1) _ x e2 (λ whole done e3.
-    let taken = packet_takes s p (column_payload c.0) c.1 fits took t.0 done in
-    let P : ColumnDef × Stream → Type 0 = λ y. Spells s (column_payload y.0 ∷ []) y.1 × IsColumn y.0 in
-    subst P (ok_is (c.0, p.1) x e3) (taken.0, column_is c.0 t.1 taken.1))))
+    let t = whole_takes column_fields (λ c. column_payload c) ColumnFits column_takes s x fits e in
+    (t.0, column_is x.0 t.2 t.1)
 
 columns_take : (n : ℕ) (s : Stream) (x : List ColumnDef × Stream) → IsBytes s.bytes.left → times column_packet n s ≡ Ok x
     → Spells s (map column_payload x.0) x.1 × (length x.0 ≡ n) × AllByRecursion IsColumn x.0
@@ -82,13 +91,8 @@ columns_unpack (c ∷ cs) h n at more tail =
 eof_packet_takes : (s : Stream) (x : ℕ × Stream) → IsBytes s.bytes.left → eof_packet s ≡ Ok x → Spells s (eof_payload x.0 ∷ []) x.1 × (x.0 < 2 ^ 16)
 unfolding eof_packet
 eof_packet_takes s x fits e =
-    then_step (next_payload s) _ x e (λ p took e1.
-    then_step (eof_fields p.0.bytes) _ x e1 (λ c read e2.
-    let t = eof_takes p.0.bytes c (payload_bytes s p fits took) read in
-    then_step (complete p.0 c.1) _ x e2 (λ whole done e3.
-    let taken = packet_takes s p (eof_payload c.0) c.1 fits took t.0 done in
-    let P : ℕ × Stream → Type 0 = λ y. Spells s (eof_payload y.0 ∷ []) y.1 × (y.0 < 2 ^ 16) in
-    subst P (ok_is (c.0, p.1) x e3) (taken.0, t.1))))
+    let t = whole_takes eof_fields (λ status. eof_payload status) (λ status. status < 2 ^ 16) eof_takes s x fits e in
+    (t.0, t.2)
 
 eof_packet_unpacks : (status : ℕ) → status < 2 ^ 16 → Unpacks eof_packet (eof_payload status ∷ []) status
 unfolding eof_packet
@@ -283,7 +287,7 @@ reply_unpacks (reply.Err error) h = opened_reply (err_payload error) (reply.Err 
 reply_unpacks (reply.Rows cs rs status) h = counted_unpacks cs rs status h
 
 -- a reply's text, and what follows it
-pub reply_again : (r : Reply) (tail : List ℕ) → IsReply r → (next : ℕ) × (end : ℕ) × (reply_in_front (from_front (packets r ++ tail)) ≡ Ok (r, stream next end tail))
+pub reply_again : (r : Reply) (tail : List ℕ) → IsReply r → (next : ℕ) × (end : ℕ) × (reply_in_front (from_start (packets r ++ tail)) ≡ Ok (r, stream next end tail))
 reply_again r tail h =
     let one = reply_unpacks r h 1 0 [] tail in
     (one.0, one.1, ap (λ (ps : List (List ℕ)). reply_in_front (stream 1 0 (pack 1 ps ++ tail))) (sym (append-nil (payloads r))) ∙ one.2)
@@ -292,8 +296,8 @@ reply_again r tail h =
 pub text_is_read : (bytes : List ℕ) (r : Reply) → IsBytes bytes → reply_of bytes ≡ Ok r → (bytes ≡ packets r) × IsReply r
 unfolding reply_of
 text_is_read bytes r fits e =
-    then_step (reply_in_front (from_front bytes)) _ r e (λ x read is.
-    let t = reply_takes (from_front bytes) x fits read in
+    then_step (reply_in_front (from_start bytes)) _ r e (λ x read is.
+    let t = reply_takes (from_start bytes) x fits read in
     let g = unless_ok (not (length x.1.bytes.left == 0)) (refusal.Trailing x.1.bytes.at) x.0 r is in
     let nothing : x.1.bytes.left ≡ [] = nil_from_length x.1.bytes.left (eqb-true (length x.1.bytes.left) 0 (not_false (length x.1.bytes.left == 0) g.0)) in
     let whole : bytes ≡ packets x.0 = t.0.parts [] [] nothing ∙ append-nil (pack 1 (payloads x.0 ++ [])) ∙ ap (pack 1) (append-nil (payloads x.0)) in
@@ -304,7 +308,7 @@ pub text_is_reread : (r : Reply) → IsReply r → reply_of (packets r) ≡ Ok r
 unfolding reply_of
 text_is_reread r h =
     let one = reply_again r [] h in
-    ap (λ (bytes : List ℕ). reply_in_front (from_front bytes) >>= λ x. unless (not (length x.1.bytes.left == 0)) (refusal.Trailing x.1.bytes.at) x.0) (sym (append-nil (packets r)))
+    ap (λ (bytes : List ℕ). reply_in_front (from_start bytes) >>= λ x. unless (not (length x.1.bytes.left == 0)) (refusal.Trailing x.1.bytes.at) x.0) (sym (append-nil (packets r)))
     ∙ ap (λ (q : Parsed Reply). q >>= λ x. unless (not (length x.1.bytes.left == 0)) (refusal.Trailing x.1.bytes.at) x.0) one.2
 
 -- the text determines the reply, and where it ends
@@ -312,7 +316,7 @@ pub reply_same : ReadsBack IsReply packets
 reply_same a b x y p q e =
     let one = reply_again a x p in
     let two = reply_again b y q in
-    let same = ok_is (a, stream one.0 one.1 x) (b, stream two.0 two.1 y) (sym one.2 ∙ ap (λ (bytes : List ℕ). reply_in_front (from_front bytes)) e ∙ two.2) in
+    let same = ok_is (a, stream one.0 one.1 x) (b, stream two.0 two.1 y) (sym one.2 ∙ ap (λ (bytes : List ℕ). reply_in_front (from_start bytes)) e ∙ two.2) in
     (ap (λ (z : Reply × Stream). z.0) same, ap (λ (z : Reply × Stream). z.1.bytes.left) same)
 
 -- ---- what a call gave

@@ -45,20 +45,21 @@ cell_takes u x fits e = by (begins_with 0xfb u.left) refl e
         let P : Option (List ℕ) × Unread → Type 0 = λ y. Takes u (encoded_cell y.0) y.1 in
         subst P (ok_is (Some text.0, text.1) x is) (string_takes u text fits took).0)
 
--- no length begins as a null does
-not_null : (t rest : List ℕ) → length t < 2 ^ 64 → begins_with 0xfb (encoded_string t ++ rest) ≡ false
+-- no length-encoded string begins with a byte that begins no length of such a text
+begins_apart : (b : ℕ) (t rest : List ℕ) → 251 ≤ b → (0xfc == b) ≡ false → (0xfd == b) ≡ false → (2 ^ 24 ≤ length t → (0xfe == b) ≡ false)
+    → begins_with b (encoded_string t ++ rest) ≡ false
 unfolding encoded_string
-not_null t rest lt =
+begins_apart b t rest high two three eight =
     let n : ℕ = length t in
-    let one : (text : List ℕ) → encoded_integer n ≡ text → begins_with 0xfb ((text ++ t) ++ rest) ≡ false → begins_with 0xfb ((encoded_integer n ++ t) ++ rest) ≡ false =
-    λ text e h. ap (λ (s : List ℕ). begins_with 0xfb ((s ++ t) ++ rest)) e ∙ h in
+    let one : (text : List ℕ) → encoded_integer n ≡ text → begins_with b ((text ++ t) ++ rest) ≡ false → begins_with b ((encoded_integer n ++ t) ++ rest) ≡ false =
+    λ text e h. ap (λ (s : List ℕ). begins_with b ((s ++ t) ++ rest)) e ∙ h in
     elim (cases_lt n 251) [
-      | inl small ↦ one (n ∷ []) (in_one n small) (ne_eqb n 0xfb (λ e. omega (arith, e, small)))
+      | inl small ↦ one (n ∷ []) (in_one n small) (ne_eqb n b (λ e. omega (arith, e, small, high)))
       | inr large ↦ elim (cases_lt n (2 ^ 16)) [
-        | inl small ↦ one _ (in_two n large small) refl
+        | inl small ↦ one _ (in_two n large small) two
         | inr larger ↦ elim (cases_lt n (2 ^ 24)) [
-          | inl small ↦ one _ (in_three n larger small) refl
-          | inr largest ↦ one _ (in_eight n largest) refl
+          | inl small ↦ one _ (in_three n larger small) three
+          | inr largest ↦ one _ (in_eight n largest) (eight largest)
         ]
       ]
     ]
@@ -68,7 +69,7 @@ unfolding cell
 cell_rereads None fits at rest = (at + 1, ap (λ (r : Read (List ℕ)). r >>= λ null. Ok (None, null.1)) (bytes_reread 1 at (0xfb ∷ []) rest refl))
 cell_rereads (Some t) fits at rest =
     let one = string_rereads t fits at rest in
-    (one.0, rw (not_null t rest fits) (ap (λ (r : Read (List ℕ)). r >>= λ text. Ok (Some text.0, text.1)) one.1))
+    (one.0, rw (begins_apart 0xfb t rest (omega arith) refl refl (λ large. refl)) (ap (λ (r : Read (List ℕ)). r >>= λ text. Ok (Some text.0, text.1)) one.1))
 
 pub cells_take : (n : ℕ) (u : Unread) (x : Row × Unread) → IsBytes u.left → times cell n u ≡ Ok x → Takes u (row_payload x.0) x.1 × (length x.0 ≡ n)
 unfolding times
@@ -103,21 +104,7 @@ pub row_rereads : (columns : ℕ) (row : Row) → IsRow columns row → Rereads 
 row_rereads columns row h = subst (λ (n : ℕ). Rereads (times cell n) (row_payload row) row) h.count (cells_reread row (cells_fit row h.payload))
 
 short_string : (t rest : List ℕ) → length t ≤ most_payload → begins_with 0xfe (encoded_string t ++ rest) ≡ false
-unfolding encoded_string
-short_string t rest le =
-    let n : ℕ = length t in
-    let one : (text : List ℕ) → encoded_integer n ≡ text → begins_with 0xfe ((text ++ t) ++ rest) ≡ false → begins_with 0xfe ((encoded_integer n ++ t) ++ rest) ≡ false =
-    λ text e h. ap (λ (s : List ℕ). begins_with 0xfe ((s ++ t) ++ rest)) e ∙ h in
-    elim (cases_lt n 251) [
-      | inl small ↦ one (n ∷ []) (in_one n small) (ne_eqb n 0xfe (λ e. omega (arith, e, small)))
-      | inr large ↦ elim (cases_lt n (2 ^ 16)) [
-        | inl small ↦ one _ (in_two n large small) refl
-        | inr larger ↦ elim (cases_lt n (2 ^ 24)) [
-          | inl small ↦ one _ (in_three n larger small) refl
-          | inr largest ↦ absurd (omega (arith, largest, le))
-        ]
-      ]
-    ]
+short_string t rest le = begins_apart 0xfe t rest (omega arith) refl refl (λ large. absurd (omega (arith, large, le)))
 
 -- a row of cells that fits a packet doesn't begin as an EOF does
 not_eof : (columns : ℕ) (row : Row) → 1 ≤ columns → IsRow columns row → begins_with 0xfe (row_payload row) ≡ false

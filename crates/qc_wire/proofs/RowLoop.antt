@@ -5,14 +5,14 @@ use Rattle.std.proofs.lemmas.Bool.{ltb-false}
 use Rattle.qc_types.specs.declared.memory.Or.{Or}
 use Rattle.qc_types.specs.declared.memory.Or.TheVariants as or
 use Rattle.qc_sql.specs.Packets.{most_payload}
-use Rattle.qc_sql.specs.Commands.{length_at}
+use Rattle.qc_sql.specs.Commands.{length_at, payload_at}
 use Rattle.qc_wire.specs.declared.refusal.WireRefusal.{WireRefusal}
 use Rattle.qc_wire.specs.declared.refusal.WireRefusal.TheVariants as refusal
 use Rattle.qc_wire.specs.Places.{end_of, moved}
 use Rattle.qc_wire.specs.Reading.{◌>>=◌}
-use Rattle.qc_wire.specs.Replies.{Payload, Stream, Parsed, Row, payload_there, next_payload, row_or_end, next_row, row_before, rows}
+use Rattle.qc_wire.specs.Replies.{Payload, Stream, Parsed, Row, next_payload, row_or_end, next_row, row_before, rows}
 use Rattle.qc_wire.proofs.Results.{ok_is, then_step, bind_same, guard_ok}
-use Rattle.qc_wire.proofs.Loops.{Fails, with_front, regroup}
+use Rattle.qc_wire.proofs.Loops.{Fails, with_prefix, regroup}
 
 -- the packets behind a payload are shorter
 pub payload_shortens : (s : Stream) (p : Payload × Stream) → next_payload s ≡ Ok p → length p.1.bytes.left < length s.bytes.left
@@ -22,9 +22,9 @@ payload_shortens s p h =
     let a = guard_ok (nat_lt most_payload (length_at u.left)) _ _ p h in
     let b = guard_ok (nat_lt (length u.left) 4) _ _ p a.1 in
     let c = guard_ok (not (slice_index u.left 3 == s.sequence)) _ _ p b.1 in
-    let is : length (moved (4 + length (payload_there u.left)) u).left ≡ length p.1.bytes.left = ap (λ (x : Payload × Stream). length x.1.bytes.left) (ok_is _ p c.1) in
+    let is : length (moved (4 + length (payload_at u.left)) u).left ≡ length p.1.bytes.left = ap (λ (x : Payload × Stream). length x.1.bytes.left) (ok_is _ p c.1) in
     let long : 4 ≤ length u.left = ltb-false (length u.left) 4 b.0 in
-    omega (arith, is, long, length-drop (4 + length (payload_there u.left)) u.left)
+    omega (arith, is, long, length-drop (4 + length (payload_at u.left)) u.left)
 
 -- so are those behind a row
 pub row_shortens : (columns status : ℕ) (s : Stream) (x : Option Row × Stream) → next_row columns status s ≡ Ok x → length x.1.bytes.left < length s.bytes.left
@@ -75,21 +75,21 @@ rows_first columns status s =
 
 -- ---- the loop
 
-pub row_taken : (columns status : ℕ) (front : List Row) (s : Stream) (row : Row) (behind : Stream) (total : Parsed (List Row))
-    → next_row columns status s ≡ Ok (Some row, behind) → with_front front (rows_of columns status s) ≡ total → with_front (front ++ row ∷ []) (rows_of columns status behind) ≡ total
-row_taken columns status front s row behind total h so_far =
+pub row_taken : (columns status : ℕ) (prefix : List Row) (s : Stream) (row : Row) (behind : Stream) (total : Parsed (List Row))
+    → next_row columns status s ≡ Ok (Some row, behind) → with_prefix prefix (rows_of columns status s) ≡ total → with_prefix (prefix ++ row ∷ []) (rows_of columns status behind) ≡ total
+row_taken columns status prefix s row behind total h so_far =
     let one : rows_of columns status s ≡ (rows_of columns status behind >>= λ others. Ok (row ∷ others.0, others.1)) = rows_first columns status s ∙ ap (λ (r : NextRow). r >>= λ x. row_before x (rows_of columns status x.1)) h in
-    sym (regroup front row (rows_of columns status behind)) ∙ ap (with_front front) (sym one) ∙ so_far
+    sym (regroup prefix row (rows_of columns status behind)) ∙ ap (with_prefix prefix) (sym one) ∙ so_far
 
-pub rows_end : (columns status : ℕ) (front : List Row) (s behind : Stream) (total : Parsed (List Row))
-    → next_row columns status s ≡ Ok (None, behind) → with_front front (rows_of columns status s) ≡ total → total ≡ Ok (front, behind)
-rows_end columns status front s behind total h so_far =
+pub rows_end : (columns status : ℕ) (prefix : List Row) (s behind : Stream) (total : Parsed (List Row))
+    → next_row columns status s ≡ Ok (None, behind) → with_prefix prefix (rows_of columns status s) ≡ total → total ≡ Ok (prefix, behind)
+rows_end columns status prefix s behind total h so_far =
     let one : rows_of columns status s ≡ Ok ([], behind) = rows_first columns status s ∙ ap (λ (r : NextRow). r >>= λ x. row_before x (rows_of columns status x.1)) h in
-    sym so_far ∙ ap (with_front front) one ∙ ap (λ (rs : List Row). Ok (rs, behind)) (append-nil front)
+    sym so_far ∙ ap (with_prefix prefix) one ∙ ap (λ (rs : List Row). Ok (rs, behind)) (append-nil prefix)
 
-pub rows_fail : (columns status : ℕ) (e : Or WireRefusal) (front : List Row) (s : Stream) (total : Parsed (List Row))
-    → Fails e (next_row columns status s) → with_front front (rows_of columns status s) ≡ total → Fails e total
-rows_fail columns status or.Memory front s total h so_far = tt
-rows_fail columns status (or.Other f) front s total h so_far =
+pub rows_fail : (columns status : ℕ) (e : Or WireRefusal) (prefix : List Row) (s : Stream) (total : Parsed (List Row))
+    → Fails e (next_row columns status s) → with_prefix prefix (rows_of columns status s) ≡ total → Fails e total
+rows_fail columns status or.Memory prefix s total h so_far = tt
+rows_fail columns status (or.Other f) prefix s total h so_far =
     let one : rows_of columns status s ≡ Err f = rows_first columns status s ∙ ap (λ (r : NextRow). r >>= λ x. row_before x (rows_of columns status x.1)) h in
-    sym so_far ∙ ap (with_front front) one
+    sym so_far ∙ ap (with_prefix prefix) one

@@ -20,9 +20,9 @@ abbrev pub FilledSoFar : ℕ → Option (List ℕ) → Option (List ℕ) → Lis
 FilledSoFar place None now buffer = now ≡ None
 FilledSoFar place (Some left) now buffer = (place ≤ length left) × (take place buffer ≡ take place left) × (now ≡ Some (drop place left))
 
--- the front of a buffer after a write behind it
-front_grows : (place n k : ℕ) (out part : List ℕ) → place ≤ length out → n ≤ length part → take (place + n) (put_mid place k out part) ≡ take place out ++ take n part
-front_grows place n k out part p q =
+-- the filled part of a buffer after a write behind it
+prefix_grows : (place n k : ℕ) (out part : List ℕ) → place ≤ length out → n ≤ length part → take (place + n) (put_mid place k out part) ≡ take place out ++ take n part
+prefix_grows place n k out part p q =
     let len : length (take place out) ≡ place = length-take-le place out p in
     let rest = part ++ post_of place k out in
     take-add place n (put_mid place k out part)
@@ -38,13 +38,13 @@ so_far_more place n k out part None (Some rest) new p q so_far gives = absurd cc
 so_far_more place n k out part (Some left) None new p q so_far gives = absurd (let e = so_far.2 in cc)
 so_far_more place n k out part (Some left) (Some rest) new p q so_far gives =
     let is : rest ≡ drop place left = let e = so_far.2 in cc in
-    let front = so_far.1 in
+    let prefix = so_far.1 in
     let got = gives.1 in
     let now = gives.2 in
     let fits : n ≤ length rest = gives.0 in
     let deeper : drop n (drop place left) ≡ drop (place + n) left = drop-drop n place left in
     let longer = take-add place n left in
-    let grown = front_grows place n k out part p q in
+    let grown = prefix_grows place n k out part p q in
     (omega (arith, ap length is, length-drop place left, so_far.0), cc, cc)
 
 -- a write to a part of a buffer keeps its length

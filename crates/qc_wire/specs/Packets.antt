@@ -7,7 +7,7 @@ use Rattle.qc_wire.specs.declared.refusal.WireRefusal.{WireRefusal}
 use Rattle.qc_wire.specs.declared.refusal.WireRefusal.TheVariants as refusal
 use Rattle.qc_wire.specs.declared.packets.Packet.{Packet}
 
--- The sequence number and the payload of the packet in front, or why there is none. The third byte of a length above the most is judged first.
+-- The sequence number and the payload of the packet in front, or why there is none. The third byte of a length above the most is validated first.
 abbrev pub packet_in_front : Unread → Result (ℕ × List ℕ) WireRefusal
 packet_in_front u =
     if nat_lt most_payload (length_at u.left) then Err (refusal.BadByte (u.at + 2)) else
@@ -27,7 +27,7 @@ behind_front u = behind (packet_in_front u)
 abbrev pub next_packet : Unread → Option (Result (ℕ × List ℕ) WireRefusal)
 next_packet u = if length u.left == 0 then None else Some (packet_in_front u)
 
--- a lent packet's number and payload
+-- a borrowed packet's number and payload
 abbrev pub seen : Result Packet WireRefusal → Result (ℕ × List ℕ) WireRefusal
 seen (Ok p) = Ok (p.sequence, p.payload.now)
 seen (Err e) = Err e

@@ -1,4 +1,4 @@
--- Reading the fields of a payload from the left. The first fault by place is the answer: a field is read as a whole, and is wrong at its front.
+-- Reading the fields of a payload from the left. The first fault by place is the answer: a field is read as a whole, and is wrong at its first byte.
 use Rattle.std.specs.Prelude.{◌≡◌, ℕ, zero, suc, ◌^◌, Bool, not, List, [], ◌∷◌, length, take, Result, Ok, Err, nat_lt, ◌==◌, if◌then◌else◌}
 use Rattle.byteorder.specs.Endian.{little_number}
 use Rattle.qc_wire.specs.Places.{Unread, moved, end_of}
@@ -51,18 +51,18 @@ constants (b ∷ bs) u = do
   behind ← constant b u
   constants bs behind
 
--- a value of a length-encoded integer, whose front is here, that no shorter form has
+-- a value of a length-encoded integer, that starts here, that no shorter form has
 abbrev pub shortest : ℕ → ℕ → ℕ × Unread → Read ℕ
-shortest front least value = unless (nat_lt value.0 least) (refusal.NotMinimal front) value
+shortest start least value = unless (nat_lt value.0 least) (refusal.NotMinimal start) value
 
 -- what the first byte of a length-encoded integer begins
 unfoldable pub integer_behind : ℕ → ℕ → Unread → Read ℕ
-integer_behind front byte u =
+integer_behind start byte u =
     if nat_lt byte 251 then Ok (byte, u) else
-    if byte == 0xfc then number 2 u >>= shortest front 251 else
-    if byte == 0xfd then number 3 u >>= shortest front (2 ^ 16) else
-    if byte == 0xfe then number 8 u >>= shortest front (2 ^ 24) else
-    Err (refusal.BadByte front)
+    if byte == 0xfc then number 2 u >>= shortest start 251 else
+    if byte == 0xfd then number 3 u >>= shortest start (2 ^ 16) else
+    if byte == 0xfe then number 8 u >>= shortest start (2 ^ 24) else
+    Err (refusal.BadByte start)
 
 -- a length-encoded integer in its shortest form
 unfoldable pub integer : Unread → Read ℕ

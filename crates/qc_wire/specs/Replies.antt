@@ -1,15 +1,15 @@
 -- Reading a reply packet by packet, as the protocol's OK_Packet, ERR_Packet and text result set have it. The first fault by place is the answer.
-use Rattle.std.specs.Prelude.{ℕ, zero, suc, ◌+◌, ◌%◌, Bool, false, not, ◌&&◌, ◌||◌, List, [], ◌∷◌, length, take, drop, Option, Some, None, Result, Ok, Err, nat_lt, ◌==◌, slice_index, codes, if◌then◌else◌}
+use Rattle.std.specs.Prelude.{ℕ, zero, suc, ◌+◌, ◌%◌, Bool, false, not, ◌&&◌, ◌||◌, List, [], ◌∷◌, length, Option, Some, None, Result, Ok, Err, nat_lt, ◌==◌, slice_index, codes, if◌then◌else◌}
 use Rattle.std.specs.Int.{w16, to_le_bytes}
 use Rattle.qc_sql.specs.declared.replies.ColumnDef.{ColumnDef}
 use Rattle.qc_sql.specs.declared.replies.Reply.{Reply}
 use Rattle.qc_sql.specs.declared.replies.Reply.TheVariants as reply
 use Rattle.qc_sql.specs.Packets.{most_payload}
-use Rattle.qc_sql.specs.Commands.{length_at}
+use Rattle.qc_sql.specs.Commands.{length_at, payload_at}
 use Rattle.qc_wire.specs.declared.refusal.WireRefusal.{WireRefusal}
 use Rattle.qc_wire.specs.declared.refusal.WireRefusal.TheVariants as refusal
-use Rattle.qc_wire.specs.declared.reading.payload.Payload.{Payload as LentPayload}
-use Rattle.qc_wire.specs.declared.reading.payload.Stream.{Stream as LentStream}
+use Rattle.qc_wire.specs.declared.reading.payload.Payload.{Payload as BorrowedPayload}
+use Rattle.qc_wire.specs.declared.reading.payload.Stream.{Stream as BorrowedStream}
 use Rattle.qc_wire.specs.declared.reading.columns.Names.{Names}
 use Rattle.qc_wire.specs.declared.reading.columns.Sizes.{Sizes}
 use Rattle.qc_wire.specs.declared.reading.reply.Opening.{Opening}
@@ -29,21 +29,17 @@ pub record Stream : Type 0 where
   pub sequence : ℕ
   pub bytes : Unread
 
-abbrev pub payload_view : LentPayload → Payload
+abbrev pub payload_view : BorrowedPayload → Payload
 payload_view p = record { bytes = unread p.fields; size = p.size }
 
-abbrev pub stream_view : LentStream → Stream
+abbrev pub stream_view : BorrowedStream → Stream
 stream_view s = record { sequence = s.sequence; bytes = unread s.fields }
 
 -- a value, and the packets behind it; or why there is none
 abbrev pub Parsed : Type 0 → Type 0
 Parsed A = Result (A × Stream) WireRefusal
 
--- the bytes of the payload that are there
-abbrev pub payload_there : List ℕ → List ℕ
-payload_there bytes = take (length_at bytes) (drop 4 bytes)
-
--- The payload in front, and the packets behind it. Its length is judged first, then its sequence number; whether all of it is there shows when it is read.
+-- The payload in front, and the packets behind it. Its length is validated first, then its sequence number; whether all of it is there shows when it is read.
 unfoldable pub next_payload : Stream → Parsed Payload
 next_payload s =
     let u = s.bytes in
@@ -51,8 +47,8 @@ next_payload s =
     if nat_lt (length u.left) 4 then Err (refusal.Truncated (end_of u)) else
     if not (slice_index u.left 3 == s.sequence) then Err (refusal.BadSequence (slice_index u.left 3) s.sequence) else
     Ok (
-      record { bytes = record { at = u.at + 4; left = payload_there u.left }; size = length_at u.left },
-      record { sequence = (s.sequence + 1) % 256; bytes = moved (4 + length (payload_there u.left)) u },
+      record { bytes = record { at = u.at + 4; left = payload_at u.left }; size = length_at u.left },
+      record { sequence = (s.sequence + 1) % 256; bytes = moved (4 + length (payload_at u.left)) u },
     )
 
 -- a payload that was read up to here is complete
@@ -136,25 +132,26 @@ column_sizes u = do
   filler ← constants (0 ∷ 0 ∷ []) decimals.1
   Ok (record { charset = charset.0; length = length.0; kind = kind.0; flags = flags.0; decimals = decimals.0 }, filler)
 
+-- a column with these names and sizes
+abbrev pub column_of : Names → Sizes → ColumnDef
+column_of n s = record {
+  schema = n.schema;
+  table = n.table;
+  org_table = n.org_table;
+  name = n.name;
+  org_name = n.org_name;
+  charset = s.charset;
+  length = s.length;
+  kind = s.kind;
+  flags = s.flags;
+  decimals = s.decimals;
+}
+
 unfoldable pub column_fields : Unread → Read ColumnDef
 column_fields u = do
-  n ← column_names u
-  s ← column_sizes n.1
-  Ok (
-    record {
-      schema = n.0.schema;
-      table = n.0.table;
-      org_table = n.0.org_table;
-      name = n.0.name;
-      org_name = n.0.org_name;
-      charset = s.0.charset;
-      length = s.0.length;
-      kind = s.0.kind;
-      flags = s.0.flags;
-      decimals = s.0.decimals;
-    },
-    s.1,
-  )
+  names ← column_names u
+  sizes ← column_sizes names.1
+  Ok (column_of names.0 sizes.0, sizes.1)
 
 unfoldable pub column_packet : Stream → Parsed ColumnDef
 column_packet s = do
@@ -241,11 +238,11 @@ reply_in_front s = do
   opened o payload.1
 
 -- the packets of a reply, which are numbered from 1
-abbrev pub from_front : List ℕ → Stream
-from_front bytes = record { sequence = 1; bytes = record { at = 0; left = bytes } }
+abbrev pub from_start : List ℕ → Stream
+from_start bytes = record { sequence = 1; bytes = record { at = 0; left = bytes } }
 
 -- The reply that bytes are the text of, or the first fault.
 unfoldable pub reply_of : List ℕ → Result Reply WireRefusal
 reply_of bytes = do
-  r ← reply_in_front (from_front bytes)
+  r ← reply_in_front (from_start bytes)
   unless (not (length r.1.bytes.left == 0)) (refusal.Trailing r.1.bytes.at) r.0

@@ -13,7 +13,7 @@ abbrev pub EndsWithin : Filled → ℕ → Type 0
 EndsWithin (filled.Ended n) room = n < room
 EndsWithin f room = Unit {0}
 
--- A buffer was filled from the front of what is left, or all that is left was fewer bytes than it has room for.
+-- A buffer was filled with the first bytes of what is left, or all that is left was fewer bytes than it has room for.
 abbrev pub FillGives : Filled → Option (List ℕ) → Option (List ℕ) → List ℕ → Type 0
 FillGives f None new buffer = new ≡ None
 FillGives filled.Whole (Some left) new buffer =
@@ -22,8 +22,8 @@ FillGives (filled.Ended n) (Some left) new buffer = (n ≡ length left) × (n < 
 FillGives filled.Failed (Some left) new buffer = (taken : ℕ) × (taken ≤ length buffer) × (new ≡ Some (drop taken left))
 
 -- the length in a header of four bytes, or its refusal
-abbrev pub judged_header : List ℕ → Result ℕ CommandEnd
-judged_header bytes =
+abbrev pub validated_header : List ℕ → Result ℕ CommandEnd
+validated_header bytes =
     if nat_lt most_payload (length_at bytes) then Err (end.TooLong (length_at bytes)) else
     if not (slice_index bytes 3 == 0) then Err (end.BadSequence (slice_index bytes 3) 0) else Ok (length_at bytes)
 

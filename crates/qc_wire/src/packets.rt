@@ -7,7 +7,7 @@ use crate::header::{HEADER_LENGTH, MOST_PAYLOAD, payload_size};
 use crate::refusal::WireRefusal;
 use std::marker::Model;
 
-/// A packet, whose payload is lent.
+/// A packet, whose payload is borrowed.
 #[derive(Clone, Copy, Debug)]
 pub struct Packet<'a> {
     /// Its sequence number: 0 of a command, and from 1 on modulo 256 in a reply.
@@ -45,7 +45,7 @@ impl<'a> Packets<'a> {
     /// The next packet, whatever its sequence number, or why the bytes that are left don't begin with one. None at the end of the bytes, and
     /// after a refusal.
     ///
-    /// Refused are, at a place from the front of the bytes that `new` was given: `BadByte`, the third byte of a length above 16,777,214, before
+    /// Refused are, at a place counted from the first of the bytes that `new` was given: `BadByte`, the third byte of a length above 16,777,214, before
     /// anything else; `Truncated`, the end of the bytes, where they lack a part of the header or of the payload. The cost is constant.
     pub fn next(&mut self) -> Option<Result<Packet<'a>, WireRefusal>>
         ensures packet { seen_next result ≡ next_packet self.old }
@@ -55,19 +55,19 @@ impl<'a> Packets<'a> {
             return None;
         }
         let bytes = self.left;
-        let front = front(self.at, bytes);
-        let taken = match front {
+        let first = first_packet(self.at, bytes);
+        let taken = match first {
             Ok(packet) => HEADER_LENGTH + packet.payload.len(),
             Err(_) => bytes.len(),
         };
         self.at += taken as u64;
         self.left = &bytes[taken..];
-        Some(front)
+        Some(first)
     }
 }
 
 /// The packet in front of bytes, the first of which stands at a place.
-fn front<'a>(at: u64, bytes: &'a [u8]) -> Result<Packet<'a>, WireRefusal>
+fn first_packet<'a>(at: u64, bytes: &'a [u8]) -> Result<Packet<'a>, WireRefusal>
     requires { at + length bytes.now < 2 ^ 64 }
     ensures { seen result ≡ packet_in_front (record { at = at; left = bytes.now }) }
 {

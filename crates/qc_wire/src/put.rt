@@ -5,12 +5,13 @@
 
 ghost use Rattle.std.specs.Prelude.{◌≡◌, ◌≤◌, ◌<◌, ◌^◌, ◌++◌, ◌∷◌, [], length, IfOk, OnOk, OnErr};
 ghost use Rattle.std.specs.List.{flat_map};
-ghost use Rattle.std.specs.Int.{w16, w32, w64, to_le_bytes};
-ghost use Rattle.qc_sql.specs.Packets.{packet, most_payload, three_bytes, encoded_integer, encoded_string, encoded_cell, count_payload, column_names, column_sizes, column_payload, eof_payload, ok_payload, err_payload, row_payload};
+ghost use Rattle.std.specs.Int.{w16, to_le_bytes, bytes_low_first};
+ghost use Rattle.qc_sql.specs.Packets.{packet, most_payload, encoded_cell, count_payload, column_names, column_sizes, column_payload, eof_payload, ok_payload, err_payload, row_payload};
 ghost use Rattle.qc_wire.specs.Cells.{cell_text, cell_texts};
 
-use crate::cells::{RowCells, StoredCell};
-use byteorder::{ByteOrder, LittleEndian};
+use crate::cells::RowCells;
+use crate::encoding::{NULL_CELL, push_integer, push_low_first, push_string};
+use qc_sql::cells::StoredCell;
 use qc_sql::replies::ColumnDef;
 use qc_types::{NoMemory, SqlError, Text};
 use std::alloc::{AllocError, Global};
@@ -23,9 +24,6 @@ pub(crate) const ERR_HEADER: u8 = 0xff;
 
 /// The first byte of an EOF_Packet.
 pub(crate) const EOF_HEADER: u8 = 0xfe;
-
-/// A cell of a row that is NULL.
-pub(crate) const NULL_CELL: u8 = 0xfb;
 
 /// How many bytes of a Protocol::ColumnDefinition41 stand behind the byte that says it.
 pub(crate) const SIZES_LENGTH: u8 = 0x0c;
@@ -70,7 +68,7 @@ pub fn put_eof(alloc: Global, status: u16, sequence: u8, out: &mut Text) -> Resu
 {
     let mut payload = Vec::new(alloc);
     payload.extend_from_slice(&[EOF_HEADER, 0, 0])?;
-    push_u16(&mut payload, status)?;
+    push_low_first(&mut payload, 2, u64::from(status))?;
     put_packet(alloc, sequence, &payload, out)
 }
 
@@ -105,7 +103,7 @@ pub fn put_err(
 {
     let mut payload = Vec::new(alloc);
     payload.push(ERR_HEADER)?;
-    push_u16(&mut payload, error.code)?;
+    push_low_first(&mut payload, 2, u64::from(error.code))?;
     payload.push(b'#')?;
     payload.extend_from_slice(&error.state)?;
     payload.extend_from_slice(error.message.bytes())?;
@@ -158,8 +156,8 @@ fn push_sizes(payload: &mut Vec<u8>, column: &ColumnDef) -> Result<(), AllocErro
     ensures { OnOk result (payload.new.items ≡ payload.old.items ++ column_sizes column.now) }
 {
     payload.push(SIZES_LENGTH)?;
-    push_u16(payload, column.charset)?;
-    push_u32(payload, column.length)?;
+    push_low_first(payload, 2, u64::from(column.charset))?;
+    push_low_first(payload, 4, u64::from(column.length))?;
     push_type(payload, column)
 }
 
@@ -168,7 +166,7 @@ fn push_type(payload: &mut Vec<u8>, column: &ColumnDef) -> Result<(), AllocError
     ensures { OnOk result (payload.new.items ≡ payload.old.items ++ column.now.kind ∷ (to_le_bytes w16 column.now.flags ++ column.now.decimals ∷ 0 ∷ 0 ∷ [])) }
 {
     payload.push(column.kind)?;
-    push_u16(payload, column.flags)?;
+    push_low_first(payload, 2, u64::from(column.flags))?;
     payload.extend_from_slice(&[column.decimals, 0, 0])
 }
 
@@ -180,7 +178,7 @@ fn ok_bytes(alloc: Global, affected: u64, status: u16) -> Result<Vec<u8>, AllocE
     payload.push(OK_HEADER)?;
     push_integer(&mut payload, affected)?;
     push_integer(&mut payload, 0)?;
-    push_u16(&mut payload, status)?;
+    push_low_first(&mut payload, 2, u64::from(status))?;
     payload.extend_from_slice(&[0, 0])?;
     Ok(payload)
 }
@@ -198,72 +196,6 @@ fn push_cell(alloc: Global, payload: &mut Vec<u8>, cell: &StoredCell) -> Result<
     Ok(())
 }
 
-/// Appends a length-encoded integer, in its shortest form.
-#[tactic(auto, unfolding(qc_sql::specs::Packets::encoded_integer))]
-fn push_integer(payload: &mut Vec<u8>, n: u64) -> Result<(), AllocError>
-    ensures { OnOk result (payload.new.items ≡ payload.old.items ++ encoded_integer n) }
-{
-    if n < 251 {
-        payload.push(n as u8)?;
-        Ok(())
-    } else if n < 1 << 16 {
-        payload.push(0xfc)?;
-        push_u16(payload, n as u16)
-    } else if n < 1 << 24 {
-        payload.push(0xfd)?;
-        push_u24(payload, n as u32)
-    } else {
-        payload.push(0xfe)?;
-        push_u64(payload, n)
-    }
-}
-
-/// Appends a number in two bytes, the lowest first.
-fn push_u16(payload: &mut Vec<u8>, n: u16) -> Result<(), AllocError>
-    ensures { OnOk result (payload.new.items ≡ payload.old.items ++ to_le_bytes w16 n) }
-{
-    let mut bytes = [0; 2];
-    LittleEndian::write_u16(&mut bytes, n);
-    payload.extend_from_slice(&bytes)
-}
-
-/// Appends a number in three bytes, the lowest first.
-fn push_u24(payload: &mut Vec<u8>, n: u32) -> Result<(), AllocError>
-    requires { n < 2 ^ 24 }
-    ensures { OnOk result (payload.new.items ≡ payload.old.items ++ three_bytes n) }
-{
-    let mut bytes = [0; 3];
-    LittleEndian::write_u24(&mut bytes, n);
-    payload.extend_from_slice(&bytes)
-}
-
-/// Appends a number in four bytes, the lowest first.
-fn push_u32(payload: &mut Vec<u8>, n: u32) -> Result<(), AllocError>
-    ensures { OnOk result (payload.new.items ≡ payload.old.items ++ to_le_bytes w32 n) }
-{
-    let mut bytes = [0; 4];
-    LittleEndian::write_u32(&mut bytes, n);
-    payload.extend_from_slice(&bytes)
-}
-
-/// Appends a number in eight bytes, the lowest first.
-fn push_u64(payload: &mut Vec<u8>, n: u64) -> Result<(), AllocError>
-    ensures { OnOk result (payload.new.items ≡ payload.old.items ++ to_le_bytes w64 n) }
-{
-    let mut bytes = [0; 8];
-    LittleEndian::write_u64(&mut bytes, n);
-    payload.extend_from_slice(&bytes)
-}
-
-/// Appends a length-encoded string: its length, a length-encoded integer, and its bytes.
-#[tactic(auto, unfolding(qc_sql::specs::Packets::encoded_string))]
-fn push_string(payload: &mut Vec<u8>, bytes: &[u8]) -> Result<(), AllocError>
-    ensures { OnOk result (payload.new.items ≡ payload.old.items ++ encoded_string bytes.now) }
-{
-    push_integer(payload, bytes.len() as u64)?;
-    payload.extend_from_slice(bytes)
-}
-
 /// Appends a packet: the length of its payload in three bytes, the lowest first, its sequence number, and its payload, of at most 16,777,214
 /// bytes. Where memory runs out, `out` stays as it was.
 #[tactic(auto, unfolding(qc_sql::specs::Packets::packet))]
@@ -278,7 +210,7 @@ pub(crate) fn put_packet(
     ensures err { OnErr result (out.new ≡ out.old) }
 {
     let mut whole = Vec::new(alloc);
-    push_u24(&mut whole, payload.len() as u32)?;
+    push_low_first(&mut whole, 3, payload.len() as u64)?;
     whole.push(sequence)?;
     whole.extend_from_slice(payload)?;
     out.extend(&whole)

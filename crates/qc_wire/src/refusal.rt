@@ -2,7 +2,7 @@
 
 use qc_types::Or;
 
-/// Why bytes are not the packets that they should be: the first fault from the left. A place is an offset in bytes from their front.
+/// Why bytes are not the packets that they should be: the first fault from the left. A place is an offset in bytes from the first of them.
 #[derive(Clone, Copy, Debug, PartialEq, Eq)]
 pub enum WireRefusal {
     /// More bytes are wanted at this place, where the bytes end, or where the payload ends by its header.

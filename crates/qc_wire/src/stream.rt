@@ -7,7 +7,7 @@ ghost use Rattle.qc_sql.specs.declared.commands.CommandEnd.TheVariants as end;
 ghost use Rattle.qc_sql.specs.Commands as commands;
 ghost use Rattle.qc_sql.specs.Packets.{most_payload};
 ghost use Rattle.qc_wire.specs.Commands.{ReadsCommand};
-ghost use Rattle.qc_wire.specs.Stream.{EndsWithin, FillGives, HeaderGives, judged_header};
+ghost use Rattle.qc_wire.specs.Stream.{EndsWithin, FillGives, HeaderGives, validated_header};
 
 use crate::commands::{COM_INIT_DB, COM_PING, COM_QUERY, COM_QUIT};
 use crate::header::{HEADER_LENGTH, MOST_PAYLOAD, payload_size};
@@ -32,7 +32,7 @@ enum Filled {
 /// Reads the next command from a source: a packet numbered 0, whose payload is COM_QUIT, COM_INIT_DB, COM_QUERY, COM_PING or no command.
 ///
 /// It takes the packet's bytes and nothing behind them, however the source cuts them into pieces. Where no whole packet stands in front it says
-/// why. Of the header the length is judged first, and then the sequence number; where either is refused, the header has been taken and nothing
+/// why. Of the header the length is validated first, and then the sequence number; where either is refused, the header has been taken and nothing
 /// behind it. Memory is taken once, for the payload, of at most 16,777,214 bytes, when the whole header is there; where it lacks, the header has
 /// been taken. Each read takes a byte at least, and the cost is linear in the payload.
 pub fn read_command<S: Source>(alloc: Global, source: &mut S) -> Result<Command, Or<CommandEnd>>
@@ -62,7 +62,7 @@ fn read_header<S: Source>(source: &mut S) -> Result<u32, CommandEnd>
 {
     let mut header = [0u8; HEADER_LENGTH];
     match fill(source, &mut header) {
-        Filled::Whole => judged(header),
+        Filled::Whole => validated(header),
         Filled::Ended(0) => Err(CommandEnd::EndOfInput),
         Filled::Ended(count) => Err(CommandEnd::Cut(count as u32)),
         Filled::Failed => Err(CommandEnd::Failed),
@@ -70,8 +70,8 @@ fn read_header<S: Source>(source: &mut S) -> Result<u32, CommandEnd>
 }
 
 /// The length in a header, unless it is too long or the sequence number isn't 0.
-fn judged(header: [u8; HEADER_LENGTH]) -> Result<u32, CommandEnd>
-    ensures header { result ≡ judged_header header }
+fn validated(header: [u8; HEADER_LENGTH]) -> Result<u32, CommandEnd>
+    ensures header { result ≡ validated_header header }
     ensures bound { IfOk result (λ n. n ≤ most_payload) }
 {
     let length = payload_size(&header);

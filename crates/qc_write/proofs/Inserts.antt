@@ -15,8 +15,8 @@ use Rattle.qc_sql.specs.Database.{Name, key_of}
 use Rattle.qc_sql.specs.Rows.{◌>>=◌, Bound, refuse_if, is_null}
 use Rattle.qc_sql.specs.Errors.{wrong_value_count, duplicate_entry, table_full, not_supported, null_column, too_long, value_needed}
 use Rattle.qc_sql.specs.Effects.{is_other_sort, is_too_long, may_be_null, stored, given_values, labelled, value_named, whole_row, has_key, new_rows, lacking, refuse_lacking}
-use Rattle.qc_write.specs.Inserts.{place_of, places, value_checked, values_checked, value_from, row_from, row_judged, puts, rows_judged}
-use Rattle.qc_write.proofs.Lists.{rest_at}
+use Rattle.qc_write.specs.Inserts.{place_of, places, value_checked, values_checked, value_from, row_from, row_validated, puts, rows_validated}
+use Rattle.qc_resolve.proofs.Steps.{rest_at}
 
 -- ---- columns that are lacking
 
@@ -112,7 +112,7 @@ later_rows b named keys n tuples row = new_rows b.name b.table named (key_of b.t
 
 -- the rows from a tuple on
 pub rows_at : (b : Bound) (named : List Column) (keys : List ℤ) (seen : ℤ → Bool) (n : ℕ) (tuple : List Value) (tuples : List (List Value)) → ((q : ℤ) → seen q ≡ list_any (λ k. is_eq (int_cmp k q)) keys)
-    → new_rows b.name b.table named keys n (tuple ∷ tuples) ≡ (row_judged b named seen n tuple >>= later_rows b named keys n tuples)
+    → new_rows b.name b.table named keys n (tuple ∷ tuples) ≡ (row_validated b named seen n tuple >>= later_rows b named keys n tuples)
 rows_at b named keys seen n tuple tuples same =
     let columns = b.table.columns in
     let wrong = refuse_if (not (length tuple == length named)) (wrong_value_count n) in
@@ -137,15 +137,15 @@ rows_on b named keys n tuples ops = new_rows b.name b.table named keys n tuples 
 
 module _ (b : Bound) (named : List Column) (keys : List ℤ) (seen : ℤ → Bool) (same : (q : ℤ) → seen q ≡ list_any (λ k. is_eq (int_cmp k q)) keys)
     (tuples : List (List Value)) (i : ℕ) (tuple : List Value) (h : i < length tuples) (e : tuple ≡ get_or tuples i tuple) (ops : List RowOp) where
-  at_tuple : (n : ℕ) → rows_on b named keys n (drop i tuples) ops ≡ ((row_judged b named seen n tuple >>= later_rows b named keys n (drop (i + 1) tuples)) >>= λ rows. Ok (ops ++ puts b.name rows))
+  at_tuple : (n : ℕ) → rows_on b named keys n (drop i tuples) ops ≡ ((row_validated b named seen n tuple >>= later_rows b named keys n (drop (i + 1) tuples)) >>= λ rows. Ok (ops ++ puts b.name rows))
   at_tuple n =
       ap (λ (ts : List (List Value)). rows_on b named keys n ts ops) (rest_at tuples i tuple h e)
       ∙ ap (λ (r : Result (List (List Value)) SqlError). r >>= λ rows. Ok (ops ++ puts b.name rows)) (rows_at b named keys seen n tuple (drop (i + 1) tuples) same)
 
-  pub row_refused : (n : ℕ) (error : SqlError) → row_judged b named seen n tuple ≡ Err error → rows_on b named keys n (drop i tuples) ops ≡ Err error
+  pub row_refused : (n : ℕ) (error : SqlError) → row_validated b named seen n tuple ≡ Err error → rows_on b named keys n (drop i tuples) ops ≡ Err error
   row_refused n error k = at_tuple n ∙ ap (λ (r : Result (List Value) SqlError). (r >>= later_rows b named keys n (drop (i + 1) tuples)) >>= λ rows. Ok (ops ++ puts b.name rows)) k
 
-  pub row_put : (n : ℕ) (row : List Value) → row_judged b named seen n tuple ≡ Ok row
+  pub row_put : (n : ℕ) (row : List Value) → row_validated b named seen n tuple ≡ Ok row
       → rows_on b named keys n (drop i tuples) ops ≡ rows_on b named (key_of b.table.columns row ∷ keys) (n + 1) (drop (i + 1) tuples) (ops ++ op.Put b.name row ∷ [])
   row_put n row k =
       at_tuple n

@@ -12,11 +12,12 @@ use Rattle.qc_sql.specs.declared.tables.Kind.{Kind}
 use Rattle.qc_sql.specs.declared.tables.Kind.TheVariants as kind
 use Rattle.qc_sql.specs.Database.{MapOf, key_of, key_value}
 use Rattle.qc_model.specs.Licence.{columns_fit, differ_in_name, is_number_key, most_columns}
-use Rattle.qc_table.specs.Tables.{IsRow, IsSound}
+use Rattle.qc_table.specs.Tables.{IsSound}
+use Rattle.qc_model.specs.Sound.{IsRow}
 use Rattle.qc_table.specs.Views.{int_value, kind_at, row_at, value_at}
 use Rattle.qc_eval.specs.Entries.{entry_at}
 use Rattle.qc_write.specs.Removing.{IsKeyColumn}
-use Rattle.qc_write.proofs.Lists.{rest_at}
+use Rattle.qc_resolve.proofs.Steps.{rest_at}
 use Rattle.qc_write.proofs.Named.{Differ, and_parts}
 
 -- ---- the primary column

@@ -1,50 +1,16 @@
--- Names that are repeated.
-use Rattle.std.proofs.Common.{◌≡◌, ℕ, ◌+◌, ◌<◌, Bool, true, false, List, [], ◌∷◌, ◌++◌, length, map, drop, take, get_or, refl, ap, sym, ◌∙◌, Some, None, Ok, Err, Result, append_assoc}
-use Rattle.std.specs.Prelude.{◌||◌, bytes_eq, Option, option_map}
+-- The names of an INSERT, one by one.
+use Rattle.std.proofs.Common.{◌≡◌, ℕ, ◌+◌, ◌<◌, true, false, List, [], ◌∷◌, ◌++◌, length, drop, take, get_or, refl, ap, sym, ◌∙◌, Ok, Err, Result, append_assoc}
+use Rattle.std.specs.Prelude.{bytes_eq}
 use Rattle.std.specs.List.{list_any}
-use Rattle.std.proofs.lemmas.List.{map-append, append-nil}
-use Rattle.std.proofs.lemmas.List.Folds.{list_any-append}
+use Rattle.std.proofs.lemmas.List.{append-nil}
 use Rattle.qc_types.specs.declared.sql_error.SqlError.{SqlError}
 use Rattle.qc_sql.specs.declared.tables.Column.{Column}
 use Rattle.qc_sql.specs.Database.{Name}
 use Rattle.qc_sql.specs.Errors.{column_named_twice}
-use Rattle.qc_sql.specs.Rows.{first_repeated, ◌>>=◌}
+use Rattle.qc_sql.specs.Rows.{◌>>=◌}
 use Rattle.qc_sql.specs.Effects.{column_called, named_columns}
-use Rattle.qc_write.proofs.Lists.{rest_at, next_at}
-
--- the same names, in whatever order
-abbrev pub SameSeen : List Name → List Name → Type 0
-SameSeen seen others = (n : Name) → list_any (bytes_eq n) seen ≡ list_any (bytes_eq n) others
-
-or_swapped : (a b : Bool) → (a || b) ≡ (b || (a || false))
-or_swapped true true = refl
-or_swapped true false = refl
-or_swapped false true = refl
-or_swapped false false = refl
-
-seen_more : (seen earlier : List Name) (name : Name) → SameSeen seen earlier → SameSeen (name ∷ seen) (earlier ++ name ∷ [])
-seen_more seen earlier name same n =
-    ap (λ b. bytes_eq n name || b) (same n)
-    ∙ or_swapped (bytes_eq n name) (list_any (bytes_eq n) earlier)
-    ∙ sym (list_any-append (bytes_eq n) earlier (name ∷ []))
-
--- ---- CREATE TABLE
-
-module _ {A : Type 0} (f : A → Name) where
-  pub seen_on : (seen : List Name) (xs : List A) (i : ℕ) (x : A) → i < length xs → x ≡ get_or xs i x → SameSeen seen (map f (take i xs)) → SameSeen (f x ∷ seen) (map f (take (i + 1) xs))
-  seen_on seen xs i x h e same n =
-      seen_more seen (map f (take i xs)) (f x) same n
-      ∙ ap (list_any (bytes_eq n)) (sym (map-append f (take i xs) (x ∷ [])) ∙ ap (map f) (sym (next_at xs i x h e)))
-
-  pub not_repeated : (seen : List Name) (xs : List A) (i : ℕ) (x : A) → i < length xs → x ≡ get_or xs i x → SameSeen seen (map f (take i xs)) → list_any (bytes_eq (f x)) (map f (take i xs)) ≡ false
-      → first_repeated seen (map f (drop i xs)) ≡ first_repeated (f x ∷ seen) (map f (drop (i + 1) xs))
-  not_repeated seen xs i x h e same k = ap (λ ys. first_repeated seen (map f ys)) (rest_at xs i x h e) ∙ rw (same (f x) ∙ k) refl
-
-  pub repeated : (seen : List Name) (xs : List A) (i : ℕ) (x : A) → i < length xs → x ≡ get_or xs i x → SameSeen seen (map f (take i xs)) → list_any (bytes_eq (f x)) (map f (take i xs)) ≡ true
-      → first_repeated seen (map f (drop i xs)) ≡ Some (f x)
-  repeated seen xs i x h e same k = ap (λ ys. first_repeated seen (map f ys)) (rest_at xs i x h e) ∙ rw (same (f x) ∙ k) refl
-
--- ---- INSERT
+use Rattle.qc_resolve.proofs.Steps.{rest_at}
+use Rattle.qc_resolve.proofs.Lists.{SameSeen, next_at, seen_more}
 
 pub seen_next : (seen names : List Name) (i : ℕ) (name : Name) → i < length names → name ≡ get_or names i name → SameSeen seen (take i names) → SameSeen (name ∷ seen) (take (i + 1) names)
 seen_next seen names i name h e same n = seen_more seen (take i names) name same n ∙ ap (list_any (bytes_eq n)) (sym (next_at names i name h e))

@@ -12,15 +12,16 @@ use Rattle.qc_sql.specs.declared.tables.RowOp.TheVariants as op
 use Rattle.qc_sql.specs.declared.statements.Cond.{Cond}
 use Rattle.qc_sql.specs.declared.statements.Update.{Update}
 use Rattle.qc_sql.specs.Database.{Name, Database, Table}
-use Rattle.qc_sql.specs.Effects.{Judged, Set, assigned, assignment, effect_of, labelled, matching, same_values, scope_of, update_effect, values_in}
+use Rattle.qc_sql.specs.Effects.{Validated, Set, assigned, assignment, effect_of, labelled, matching, same_values, scope_of, update_effect, values_in}
 use Rattle.qc_sql.specs.Rows.{◌>>=◌, Bound, Combination, condition, each}
 use Rattle.qc_sql.specs.Rules.{full_name}
 use Rattle.qc_model.specs.Licence.{row_fits, value_fits}
-use Rattle.qc_table.specs.Tables.{IsSound, IsRow}
+use Rattle.qc_table.specs.Tables.{IsSound}
+use Rattle.qc_model.specs.Sound.{IsRow}
 use Rattle.qc_resolve.specs.Kept.{under_its_name}
 use Rattle.qc_resolve.specs.Steps.{run}
 use Rattle.qc_resolve.proofs.Fits.{all_filter}
-use Rattle.qc_write.specs.Placing.{Placing, assignment_placed, placed, changed_row, put_of, put_row, update_judged}
+use Rattle.qc_write.specs.Placing.{Placing, assignment_placed, placed, changed_row, put_of, put_row, update_validated}
 use Rattle.qc_write.specs.Targets.{target_in}
 use Rattle.qc_write.proofs.KeyColumns.{names_differ}
 use Rattle.qc_write.proofs.Named.{Differ, and_parts}
@@ -92,7 +93,7 @@ module _ (cs : List Column) (differ : Differ cs) (t : TableName) (ss : List Set)
 -- ---- the steps
 
 -- what UPDATE is meant to do to a table
-abbrev pub meant_by : TableName → Bound → Name → ℕ → Update → Judged
+abbrev pub meant_by : TableName → Bound → Name → ℕ → Update → Validated
 meant_by t b db session update =
     each (assignment b.table.columns) update.sets >>= λ sets.
     condition (scope_of b db session) update.cond >>= λ keeps.
@@ -101,12 +102,12 @@ meant_by t b db session update =
 
 module _ (t : TableName) (table : Table) (sound : IsSound table) where
   -- what the assignments make of the rows that a condition keeps
-  abbrev by_names : List Set → Result (Combination → Bool) SqlError → Judged
+  abbrev by_names : List Set → Result (Combination → Bool) SqlError → Validated
   by_names ss r =
       r >>= λ keeps. each (λ (entry : Entry). assigned ss (labelled table.columns entry.1) >>= λ row. Ok (entry.1, values_in row)) (matching table keeps) >>= λ pairs.
       Ok (effect_of (puts_of t pairs) (length (changed pairs)))
 
-  abbrev by_places : List Placing → Result (Combination → Bool) SqlError → Judged
+  abbrev by_places : List Placing → Result (Combination → Bool) SqlError → Validated
   by_places ps r =
       (r >>= λ keeps. Ok (matching table keeps)) >>= λ entries. run (λ (entry : Entry). put_row t ps entry.1) entries [] >>= λ ops.
       Ok (effect_of ops (length ops))
@@ -124,14 +125,14 @@ module _ (t : TableName) (table : Table) (sound : IsSound table) where
   sets_case (Ok ss) (Err e) k same = absurd same
   sets_case (Err e) (Ok ps) k same = absurd same
 
-  pub update_same : (db : Name) (session : ℕ) (update : Update) → meant_by t (under_its_name t table) db session update ≡ update_judged (under_its_name t table) db session update
+  pub update_same : (db : Name) (session : ℕ) (update : Update) → meant_by t (under_its_name t table) db session update ≡ update_validated (under_its_name t table) db session update
   update_same db session update =
       sets_case (each (assignment table.columns) update.sets) (each (assignment_placed table.columns) update.sets) (condition (scope_of (under_its_name t table) db session) update.cond)
       (sets_same table.columns (names_differ table.columns sound.columns) update.sets)
 
 -- the table is found
 pub update_found : (d : Database) (db : Name) (session : ℕ) (update : Update) (t : TableName) (table : Table) → IsSound table → target_in d db update.table ≡ Ok (under_its_name t table) → t ≡ full_name db update.table
-    → update_effect d db session update ≡ update_judged (under_its_name t table) db session update
+    → update_effect d db session update ≡ update_validated (under_its_name t table) db session update
 update_found d db session update t table sound found named =
     ap (λ (r : Result Bound SqlError). r >>= λ b. meant_by (full_name db update.table) b db session update) found
     ∙ ap (λ (n : TableName). meant_by n (under_its_name t table) db session update) (sym named)

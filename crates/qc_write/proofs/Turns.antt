@@ -14,7 +14,7 @@ use Rattle.qc_sql.specs.Errors.{unknown_column}
 use Rattle.qc_sql.specs.Rows.{◌>>=◌, value_cmp}
 use Rattle.qc_resolve.specs.Steps.{run}
 use Rattle.qc_write.specs.Placing.{Placing, changed_row, place_called, placed}
-use Rattle.qc_write.proofs.Lists.{rest_at}
+use Rattle.qc_resolve.proofs.Steps.{rest_at}
 
 -- ---- columns
 

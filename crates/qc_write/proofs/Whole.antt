@@ -8,8 +8,8 @@ use Rattle.qc_sql.specs.declared.statements.Insert.{Insert}
 use Rattle.qc_sql.specs.Database.{Name, Database}
 use Rattle.qc_sql.specs.Rules.{full_name}
 use Rattle.qc_sql.specs.Rows.{◌>>=◌, Bound}
-use Rattle.qc_sql.specs.Effects.{Effect, Judged, effect_of, columns_of_insert, lacking, refuse_lacking, new_rows, insert_effect}
-use Rattle.qc_write.specs.Inserts.{puts, insert_judged}
+use Rattle.qc_sql.specs.Effects.{Effect, Validated, effect_of, columns_of_insert, lacking, refuse_lacking, new_rows, insert_effect}
+use Rattle.qc_write.specs.Inserts.{puts, insert_validated}
 use Rattle.qc_write.specs.Targets.{target_in}
 
 abbrev Step : Type 0
@@ -40,7 +40,7 @@ module _ (t : TableName) where
   in_parts (Err e) s n = refl
 
 module _ (d : Database) (db : Name) (insert : Insert) where
-  abbrev inserted : TableName → Bound → Judged
+  abbrev inserted : TableName → Bound → Validated
   inserted t b =
       columns_of_insert b.table.columns insert.names >>= λ named.
       refuse_lacking (lacking b.table.columns named) >>= λ _.
@@ -50,7 +50,7 @@ module _ (d : Database) (db : Name) (insert : Insert) where
   pub insert_refused : (e : SqlError) → target_in d db insert.table ≡ Err e → insert_effect d db insert ≡ Err e
   insert_refused e h = ap (λ (r : Result Bound SqlError). r >>= inserted (full_name db insert.table)) h
 
-  pub insert_is : (b : Bound) → target_in d db insert.table ≡ Ok b → b.name ≡ full_name db insert.table → insert_effect d db insert ≡ insert_judged b insert
+  pub insert_is : (b : Bound) → target_in d db insert.table ≡ Ok b → b.name ≡ full_name db insert.table → insert_effect d db insert ≡ insert_validated b insert
   insert_is b h e =
       ap (λ (r : Result Bound SqlError). r >>= inserted (full_name db insert.table)) h
       ∙ ap (λ (t : TableName). inserted t b) (sym e)

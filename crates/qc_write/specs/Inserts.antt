@@ -9,11 +9,11 @@ use Rattle.qc_sql.specs.declared.tables.Column.{Column}
 use Rattle.qc_sql.specs.declared.tables.RowOp.{RowOp}
 use Rattle.qc_sql.specs.declared.tables.RowOp.TheVariants as op
 use Rattle.qc_sql.specs.declared.statements.Insert.{Insert}
-use Rattle.qc_sql.specs.Database.{Name, Table, key_of}
+use Rattle.qc_sql.specs.Database.{Name, Table, key_of, most_rows}
 use Rattle.qc_sql.specs.Rows.{◌>>=◌, Bound, refuse_if}
 use Rattle.qc_sql.specs.Errors.{wrong_value_count, duplicate_entry, table_full, not_supported}
-use Rattle.qc_sql.specs.Effects.{Judged, effect_of, columns_of_insert, lacking, refuse_lacking, is_other_sort, stored, has_key, new_rows}
-use Rattle.qc_write.specs.Lists.{lent}
+use Rattle.qc_sql.specs.Effects.{Validated, effect_of, columns_of_insert, lacking, refuse_lacking, is_other_sort, stored, has_key, new_rows}
+use Rattle.qc_write.specs.Lists.{borrowed}
 use Rattle.qc_write.specs.declared.shape.Shape.{Shape}
 
 -- ---- columns
@@ -28,13 +28,13 @@ abbrev pub places : List Column → List Column → List (Option ℕ)
 places named columns = map (λ c. place_of c.name named) columns
 
 -- the columns that are named, where none is lacking
-abbrev pub shape_judged : List Column → Option (List Name) → Result (List Column) SqlError
-shape_judged columns names =
+abbrev pub shape_validated : List Column → Option (List Name) → Result (List Column) SqlError
+shape_validated columns names =
     columns_of_insert columns names >>= λ named.
     refuse_lacking (lacking columns named) >>= λ _. Ok named
 
 abbrev pub named_in : Shape → List Column
-named_in s = lent s.named.items
+named_in s = borrowed s.named.items
 
 abbrev pub IsShapeOf : List Column → Shape → Type 0
 IsShapeOf columns s = s.places.items ≡ places (named_in s) columns
@@ -59,32 +59,32 @@ abbrev pub row_from : List Value → List (Option ℕ) → List Value
 row_from tuple ps = map (value_from tuple) ps
 
 -- the row of a tuple, by its number
-abbrev pub tuple_judged : List Column → List Column → ℕ → List Value → Result (List Value) SqlError
-tuple_judged named columns number tuple =
+abbrev pub tuple_validated : List Column → List Column → ℕ → List Value → Result (List Value) SqlError
+tuple_validated named columns number tuple =
     refuse_if (not (length tuple == length named)) (wrong_value_count number) >>= λ _.
     values_checked named tuple >>= λ _. Ok (row_from tuple (places named columns))
 
 -- the key of a row, by the row's number
-abbrev pub key_judged : Bound → (ℤ → Bool) → ℕ → ℤ → Result (Unit {0}) SqlError
-key_judged b seen number key =
+abbrev pub key_validated : Bound → (ℤ → Bool) → ℕ → ℤ → Result (Unit {0}) SqlError
+key_validated b seen number key =
     refuse_if (has_key b.table key || seen key) (duplicate_entry key) >>= λ _.
-    refuse_if (nat_lt 1048576 (length b.table.rows + number)) (table_full b.name)
+    refuse_if (nat_lt most_rows (length b.table.rows + number)) (table_full b.name)
 
 -- the row of a tuple, where its key isn't seen
-abbrev pub row_judged : Bound → List Column → (ℤ → Bool) → ℕ → List Value → Result (List Value) SqlError
-row_judged b named seen number tuple =
-    tuple_judged named b.table.columns number tuple >>= λ row.
-    key_judged b seen number (key_of b.table.columns row) >>= λ _. Ok row
+abbrev pub row_validated : Bound → List Column → (ℤ → Bool) → ℕ → List Value → Result (List Value) SqlError
+row_validated b named seen number tuple =
+    tuple_validated named b.table.columns number tuple >>= λ row.
+    key_validated b seen number (key_of b.table.columns row) >>= λ _. Ok row
 
 abbrev pub puts : TableName → List (List Value) → List RowOp
 puts t rows = map (λ row. op.Put t row) rows
 
-abbrev pub rows_judged : Bound → List Column → List (List Value) → Result (List RowOp) SqlError
-rows_judged b named tuples = new_rows b.name b.table named [] 1 tuples >>= λ rows. Ok (puts b.name rows)
+abbrev pub rows_validated : Bound → List Column → List (List Value) → Result (List RowOp) SqlError
+rows_validated b named tuples = new_rows b.name b.table named [] 1 tuples >>= λ rows. Ok (puts b.name rows)
 
 -- what INSERT does to a table
-abbrev pub insert_judged : Bound → Insert → Judged
-insert_judged b insert =
-    shape_judged b.table.columns insert.names >>= λ named.
-    rows_judged b named insert.rows >>= λ ops.
+abbrev pub insert_validated : Bound → Insert → Validated
+insert_validated b insert =
+    shape_validated b.table.columns insert.names >>= λ named.
+    rows_validated b named insert.rows >>= λ ops.
     Ok (effect_of ops (length ops))

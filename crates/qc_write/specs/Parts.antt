@@ -48,8 +48,8 @@ columns_checked written keys =
     refuse_if (not (has_one_key written keys (map (marked keys) written))) (not_supported (codes "primary key"))
 
 -- the columns of a new table
-abbrev pub columns_judged : List Part → Result (List Column) SqlError
-columns_judged parts =
+abbrev pub columns_validated : List Part → Result (List Column) SqlError
+columns_validated parts =
     let written = filter_map new_column parts in
     let keys = filter_map new_key parts in
     columns_checked written keys >>= λ _.

@@ -11,7 +11,7 @@ use Rattle.qc_sql.specs.declared.statements.Right.{Right}
 use Rattle.qc_sql.specs.declared.statements.Right.TheVariants as right
 use Rattle.qc_sql.specs.declared.statements.Update.{Update}
 use Rattle.qc_sql.specs.Database.{Name, MapOf}
-use Rattle.qc_sql.specs.Effects.{Judged, effect_of, is_other_sort, same_values, stored}
+use Rattle.qc_sql.specs.Effects.{Validated, effect_of, is_other_sort, same_values, stored}
 use Rattle.qc_sql.specs.Errors.{not_supported, unknown_column}
 use Rattle.qc_sql.specs.Rows.{◌>>=◌, Bound, each, mixes, refuse_if, sort_of_kind}
 use Rattle.qc_table.specs.Views.{value_at}
@@ -107,8 +107,8 @@ put_step t sets rows i ops = put_row t sets (entry_at rows i).1 ops
 -- ---- the whole
 
 -- what UPDATE does to a table
-abbrev pub update_judged : Bound → Name → ℕ → Update → Judged
-update_judged b db session update =
+abbrev pub update_validated : Bound → Name → ℕ → Update → Validated
+update_validated b db session update =
     each (assignment_placed b.table.columns) update.sets >>= λ sets.
     kept_rows b.name b.table update.cond db session >>= λ entries.
     run (λ entry. put_row b.name sets entry.1) entries [] >>= λ ops.

@@ -8,7 +8,7 @@ use Rattle.qc_sql.specs.declared.tables.RowOp.{RowOp}
 use Rattle.qc_sql.specs.declared.tables.RowOp.TheVariants as op
 use Rattle.qc_sql.specs.declared.statements.Cond.{Cond}
 use Rattle.qc_sql.specs.Database.{Name, key_of, key_value}
-use Rattle.qc_sql.specs.Effects.{Judged, effect_of}
+use Rattle.qc_sql.specs.Effects.{Validated, effect_of}
 use Rattle.qc_sql.specs.Rows.{◌>>=◌, Bound}
 use Rattle.qc_table.specs.Views.{kind_at, value_at}
 use Rattle.qc_resolve.specs.Kept.{kept_rows}
@@ -23,7 +23,7 @@ abbrev pub del_of : TableName → ℤ × List Value → RowOp
 del_of t entry = op.Del t entry.0
 
 -- what DELETE does to a table
-abbrev pub delete_judged : Bound → Name → ℕ → Option Cond → Judged
-delete_judged b db session cond =
+abbrev pub delete_validated : Bound → Name → ℕ → Option Cond → Validated
+delete_validated b db session cond =
     kept_rows b.name b.table cond db session >>= λ gone.
     Ok (effect_of (map (del_of b.name) gone) (length gone))

@@ -9,7 +9,7 @@ ghost use Rattle.qc_write.specs.Placing.{assignment_placed, origin_of, origin_pl
 
 use crate::columns::find_column;
 use crate::values::is_other_sort;
-use qc_errors::not_supported;
+use qc_sql::errors::not_supported;
 use qc_sql::statements::{Assignment, Right};
 use qc_sql::tables::{Column, Kind};
 use qc_types::{Or, SqlError, Text, Value};

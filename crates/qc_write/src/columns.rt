@@ -5,7 +5,7 @@ ghost use Rattle.qc_types.specs.Answers.{Gives};
 ghost use Rattle.qc_sql.specs.Effects as meant;
 ghost use Rattle.qc_write.specs.Placing.{found_of, place_called};
 
-use qc_errors::unknown_column;
+use qc_sql::errors::unknown_column;
 use qc_sql::tables::Column;
 use qc_types::{Or, SqlError, Text};
 use std::alloc::Global;

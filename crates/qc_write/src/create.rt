@@ -3,15 +3,18 @@
 ghost use Rattle.std.specs.Prelude.{◌≡◌, ◌==◌, ◌||◌, false, [], ◌∷◌, length, map, find, not, bytes_eq, option_copied, option_map, option_and_then, count_by, unwrap_or, IfOk};
 ghost use Rattle.std.specs.List.{list_all, list_any, filter_map};
 ghost use Rattle.qc_types.specs.Answers.{Gives};
+ghost use Rattle.qc_sql.specs.Database.{is_int};
 ghost use Rattle.qc_sql.specs.Effects as meant;
 ghost use Rattle.qc_sql.specs.Rows.{first_repeated};
-ghost use Rattle.qc_write.specs.Lists.{lent};
+ghost use Rattle.qc_write.specs.Lists.{borrowed};
 ghost use Rattle.qc_write.specs.Targets.{absent};
-ghost use Rattle.qc_write.specs.Parts.{column_of, columns_of, names_of, kind_of, is_bad, is_bad_column, missing, columns_checked, columns_judged};
+ghost use Rattle.qc_write.specs.Parts.{column_of, columns_of, names_of, kind_of, is_bad, is_bad_column, missing, columns_checked, columns_validated};
 
 use crate::outcome::Effect;
 use crate::target::check_database;
-use qc_errors::{duplicate_column, no_key_column, not_supported, table_exists, too_many_columns};
+use qc_sql::errors::{
+    duplicate_column, no_key_column, not_supported, table_exists, too_many_columns,
+};
 use qc_sql::names::full_name;
 use qc_sql::statements::{Part, PartKind, TableRef};
 use qc_sql::tables::{Column, Columns, Kind, RowOp};
@@ -65,7 +68,7 @@ fn check_absent(alloc: Global, database: &Database, name: &TableName) -> Result<
 
 /// The columns of a new table, or the first refusal of them.
 fn new_columns(alloc: Global, parts: &[Part]) -> Result<Columns, Or<SqlError>>
-    ensures { Gives (λ cs. cs) (λ e. e) result (columns_judged parts.now) }
+    ensures { Gives (λ cs. cs) (λ e. e) result (columns_validated parts.now) }
 {
     let written = written_columns(alloc, parts)?;
     let keys = key_names(alloc, parts)?;
@@ -114,7 +117,7 @@ fn written_column(part: &Part) -> Option<Written<'_>>
 
 /// The names of PRIMARY KEY (name) among the parts.
 fn key_names(alloc: Global, parts: &[Part]) -> Result<Vec<&Text>, NoMemory>
-    ensures { IfOk result (λ ks. lent ks.items ≡ filter_map meant.new_key parts.now) }
+    ensures { IfOk result (λ ks. borrowed ks.items ≡ filter_map meant.new_key parts.now) }
 {
     let mut keys = Vec::new(alloc);
     for part in parts {
@@ -127,7 +130,7 @@ fn key_names(alloc: Global, parts: &[Part]) -> Result<Vec<&Text>, NoMemory>
 
 /// Refuses too many columns, two of one name, a PRIMARY KEY of another name, and all but one primary key, of numbers.
 fn check_columns(alloc: Global, written: &[Written<'_>], keys: &[&Text]) -> Result<(), Or<SqlError>>
-    ensures { Gives (λ _. tt) (λ e. e) result (columns_checked (columns_of written.now) (lent keys.now)) }
+    ensures { Gives (λ _. tt) (λ e. e) result (columns_checked (columns_of written.now) (borrowed keys.now)) }
 {
     if written.len() > MOST_COLUMNS {
         return Err(Or::Other(too_many_columns(alloc)?));
@@ -169,7 +172,7 @@ fn is_earlier(written: &[Written<'_>], name: &Text) -> bool
 
 /// The first PRIMARY KEY that names no column.
 fn missing<'a>(written: &[Written<'_>], keys: &[&'a Text]) -> Option<&'a Text>
-    ensures { option_copied result ≡ missing (columns_of written.now) (lent keys.now) }
+    ensures { option_copied result ≡ missing (columns_of written.now) (borrowed keys.now) }
 {
     for key in keys {
         if !is_column(written, key) {
@@ -192,7 +195,7 @@ fn is_column(written: &[Written<'_>], name: &Text) -> bool
 
 /// Whether there is one primary key, of numbers.
 fn has_one_key(written: &[Written<'_>], keys: &[&Text]) -> bool
-    ensures { result ≡ meant.has_one_key (columns_of written.now) (lent keys.now) (map (meant.marked (lent keys.now)) (columns_of written.now)) }
+    ensures { result ≡ meant.has_one_key (columns_of written.now) (borrowed keys.now) (map (meant.marked (borrowed keys.now)) (columns_of written.now)) }
 {
     primary_count(written) + keys.len() == 1 && are_keys_numbers(written, keys)
 }
@@ -210,7 +213,7 @@ fn primary_count(written: &[Written<'_>]) -> usize
 }
 
 fn are_keys_numbers(written: &[Written<'_>], keys: &[&Text]) -> bool
-    ensures { result ≡ list_all (λ c. not c.primary || meant.is_int c.kind) (map (meant.marked (lent keys.now)) (columns_of written.now)) }
+    ensures { result ≡ list_all (λ c. not c.primary || is_int c.kind) (map (meant.marked (borrowed keys.now)) (columns_of written.now)) }
 {
     for column in written {
         if is_primary(column, keys) && column.kind != PartKind::BigInt {
@@ -222,13 +225,13 @@ fn are_keys_numbers(written: &[Written<'_>], keys: &[&Text]) -> bool
 
 /// Whether a column is primary by itself or by a PRIMARY KEY.
 fn is_primary(column: &Written<'_>, keys: &[&Text]) -> bool
-    ensures { result ≡ (column.now.primary || list_any (bytes_eq column.now.name.now) (lent keys.now)) }
+    ensures { result ≡ (column.now.primary || list_any (bytes_eq column.now.name.now) (borrowed keys.now)) }
 {
     column.primary || is_named(keys, column.name)
 }
 
 fn is_named(keys: &[&Text], name: &Text) -> bool
-    ensures { result ≡ list_any (bytes_eq name.now) (lent keys.now) }
+    ensures { result ≡ list_any (bytes_eq name.now) (borrowed keys.now) }
 {
     for key in keys {
         if name.bytes() == key.bytes() {
@@ -265,7 +268,7 @@ fn marked_columns(
     keys: &[&Text],
 ) -> Result<Columns, NoMemory>
     requires { list_any is_bad_column written.now ≡ false }
-    ensures { IfOk result (λ cs. cs ≡ map (meant.marked (lent keys.now)) (columns_of written.now)) }
+    ensures { IfOk result (λ cs. cs ≡ map (meant.marked (borrowed keys.now)) (columns_of written.now)) }
 {
     let mut columns = Columns::new(alloc);
     for column in written {
@@ -276,7 +279,7 @@ fn marked_columns(
 
 fn marked_column(alloc: Global, column: &Written<'_>, keys: &[&Text]) -> Result<Column, NoMemory>
     requires { is_bad column.now.kind ≡ false }
-    ensures { IfOk result (λ c. c ≡ meant.marked (lent keys.now) (column_of column.now)) }
+    ensures { IfOk result (λ c. c ≡ meant.marked (borrowed keys.now) (column_of column.now)) }
 {
     let primary = is_primary(column, keys);
     Ok(Column {

@@ -6,7 +6,7 @@ ghost use Rattle.qc_sql.specs.Database.{tables_of};
 ghost use Rattle.qc_sql.specs.Effects as meant;
 
 use crate::outcome::Effect;
-use qc_errors::{database_exists, no_database_to_drop};
+use qc_sql::errors::{database_exists, no_database_to_drop};
 use qc_sql::tables::RowOp;
 use qc_table::Database;
 use qc_types::{NoMemory, Or, SqlError, Text};

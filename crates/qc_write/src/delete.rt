@@ -3,7 +3,7 @@
 ghost use Rattle.std.specs.Prelude.{◌≡◌};
 ghost use Rattle.qc_types.specs.Answers.{Gives};
 ghost use Rattle.qc_sql.specs.Effects as meant;
-ghost use Rattle.qc_write.specs.Removing.{delete_judged};
+ghost use Rattle.qc_write.specs.Removing.{delete_validated};
 ghost use Rattle.qc_write.specs.Targets.{bound_of};
 
 use crate::deleted_rows::del_rows;
@@ -41,7 +41,7 @@ fn delete_from<L: Ledger>(
     cond: &Option<Cond>,
     steps: &mut Steps<L>,
 ) -> Result<Effect, Or<SqlError>>
-    ensures { Gives (λ e. e) (λ e. e) result (delete_judged (bound_of target.now) db.now session cond.now) }
+    ensures { Gives (λ e. e) (λ e. e) result (delete_validated (bound_of target.now) db.now session cond.now) }
 {
     let version = target.version;
     let rows = matching_rows(alloc, &target.name, version, cond, db, session, steps)?;

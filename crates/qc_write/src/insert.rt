@@ -4,19 +4,19 @@ ghost use Rattle.std.specs.Prelude.{◌≡◌, ◌+◌, ◌||◌, length, nat_lt
 ghost use Rattle.std.specs.Ordering.{int_cmp, is_eq};
 ghost use Rattle.std.specs.BTreeSet.{contains};
 ghost use Rattle.qc_types.specs.Answers.{Gives};
-ghost use Rattle.qc_sql.specs.Database.{key_of};
+ghost use Rattle.qc_sql.specs.Database.{key_of, most_rows};
 ghost use Rattle.qc_sql.specs.Effects as meant;
 ghost use Rattle.qc_sql.specs.Errors as errors;
 ghost use Rattle.qc_sql.specs.Rows.{refuse_if};
-ghost use Rattle.qc_write.specs.Inserts.{insert_judged, key_judged, named_in, row_from, row_judged, rows_judged, tuple_judged, value_checked, value_from, values_checked, IsShapeOf};
-ghost use Rattle.qc_write.specs.Lists.{lent};
+ghost use Rattle.qc_write.specs.Inserts.{insert_validated, key_validated, named_in, row_from, row_validated, rows_validated, tuple_validated, value_checked, value_from, values_checked, IsShapeOf};
+ghost use Rattle.qc_write.specs.Lists.{borrowed};
 ghost use Rattle.qc_write.specs.Targets.{bound_of};
 
 use crate::outcome::Effect;
 use crate::shape::{Shape, shape_of};
 use crate::target::{Target, bind_target};
 use crate::values::{check_stored, is_other_sort};
-use qc_errors::{duplicate_entry, not_supported, table_full, wrong_value_count};
+use qc_sql::errors::{duplicate_entry, not_supported, table_full, wrong_value_count};
 use qc_sql::statements::{Insert, Tuple};
 use qc_sql::tables::{Column, Ops, RowOp, StoredRow};
 use qc_table::{Database, TableVersion, key_of_row};
@@ -50,7 +50,7 @@ fn insert_into<L: Ledger>(
     target: &Target<'_>,
     steps: &mut Steps<L>,
 ) -> Result<Effect, Or<SqlError>>
-    ensures { Gives (λ e. e) (λ e. e) result (insert_judged (bound_of target.now) insert.now) }
+    ensures { Gives (λ e. e) (λ e. e) result (insert_validated (bound_of target.now) insert.now) }
 {
     let columns = target.version.columns().items();
     let shape = shape_of(alloc, columns, &insert.names)?;
@@ -68,7 +68,7 @@ fn put_rows<L: Ledger>(
     steps: &mut Steps<L>,
 ) -> Result<Ops, Or<SqlError>>
     requires { IsShapeOf target.now.version.now.columns shape.now }
-    ensures { Gives (λ ops. ops) (λ e. e) result (rows_judged (bound_of target.now) (named_in shape.now) tuples.now) }
+    ensures { Gives (λ ops. ops) (λ e. e) result (rows_validated (bound_of target.now) (named_in shape.now) tuples.now) }
 {
     let mut ops = Ops::new(alloc);
     let mut taken = BTreeSet::new(alloc);
@@ -92,7 +92,7 @@ fn put_row<L: Ledger>(
     steps: &mut Steps<L>,
 ) -> Result<StoredRow, Or<SqlError>>
     requires { IsShapeOf target.now.version.now.columns shape.now }
-    ensures gives { Gives (λ row. row) (λ e. e) result (row_judged (bound_of target.now) (named_in shape.now) (contains int_cmp taken.old) number tuple.now) }
+    ensures gives { Gives (λ row. row) (λ e. e) result (row_validated (bound_of target.now) (named_in shape.now) (contains int_cmp taken.old) number tuple.now) }
     ensures taken { IfOk result (λ row. (q : _) → contains int_cmp taken.new q ≡ (is_eq (int_cmp (key_of target.now.version.now.columns row) q) || contains int_cmp taken.old q)) }
 {
     let row = row_of_tuple(alloc, target, shape, number, tuple)?;
@@ -110,7 +110,7 @@ fn row_of_tuple(
     tuple: &[Value],
 ) -> Result<StoredRow, Or<SqlError>>
     requires { IsShapeOf target.now.version.now.columns shape.now }
-    ensures { Gives (λ row. row) (λ e. e) result (tuple_judged (named_in shape.now) target.now.version.now.columns number tuple.now) }
+    ensures { Gives (λ row. row) (λ e. e) result (tuple_validated (named_in shape.now) target.now.version.now.columns number tuple.now) }
 {
     if tuple.len() != shape.named.len() {
         return Err(Or::Other(wrong_value_count(alloc, number)?));
@@ -128,7 +128,7 @@ fn take_key<L: Ledger>(
     key: i64,
     steps: &mut Steps<L>,
 ) -> Result<(), Or<SqlError>>
-    ensures gives { Gives (λ _. tt) (λ e. e) result (key_judged (bound_of target.now) (contains int_cmp taken.old) number key) }
+    ensures gives { Gives (λ _. tt) (λ e. e) result (key_validated (bound_of target.now) (contains int_cmp taken.old) number key) }
     ensures taken { OnOk result ((q : _) → contains int_cmp taken.new q ≡ (is_eq (int_cmp key q) || contains int_cmp taken.old q)) }
 {
     check_key(alloc, target.version, taken, key, steps)?;
@@ -140,7 +140,7 @@ fn take_key<L: Ledger>(
 /// Refuses the first value that its column doesn't take.
 fn check_values(alloc: Global, named: &[&Column], tuple: &[Value]) -> Result<(), Or<SqlError>>
     requires { length tuple.now ≡ length named.now }
-    ensures { Gives (λ _. tt) (λ e. e) result (values_checked (lent named.now) tuple.now) }
+    ensures { Gives (λ _. tt) (λ e. e) result (values_checked (borrowed named.now) tuple.now) }
 {
     for (i, value) in tuple.iter().enumerate() {
         check_value(alloc, named[i], value)?;
@@ -204,7 +204,7 @@ fn has_key<L: Ledger>(version: &TableVersion, key: i64, steps: &mut Steps<L>) ->
 
 /// Refuses the first row that the table has no room for, by its number in the statement.
 fn check_room(alloc: Global, target: &Target<'_>, number: u64) -> Result<(), Or<SqlError>>
-    ensures { Gives (λ _. tt) (λ e. e) result (refuse_if (nat_lt 1048576 (length target.now.version.now.rows + number)) (errors.table_full target.now.name)) }
+    ensures { Gives (λ _. tt) (λ e. e) result (refuse_if (nat_lt most_rows (length target.now.version.now.rows + number)) (errors.table_full target.now.name)) }
 {
     if number > MOST_ROWS - u64::from(target.version.count()) {
         return Err(Or::Other(table_full(alloc, &target.name)?));

@@ -4,11 +4,11 @@ ghost use Rattle.std.specs.Prelude.{◌≡◌, [], map, bytes_eq, IfOk};
 ghost use Rattle.std.specs.List.{list_any};
 ghost use Rattle.qc_types.specs.Answers.{Gives};
 ghost use Rattle.qc_sql.specs.Effects as meant;
-ghost use Rattle.qc_write.specs.Inserts.{place_of, places, shape_judged, named_in, IsShapeOf};
-ghost use Rattle.qc_write.specs.Lists.{lent};
+ghost use Rattle.qc_write.specs.Inserts.{place_of, places, shape_validated, named_in, IsShapeOf};
+ghost use Rattle.qc_write.specs.Lists.{borrowed};
 
 use crate::columns::{column_called, may_be_null};
-use qc_errors::{column_named_twice, value_needed};
+use qc_sql::errors::{column_named_twice, value_needed};
 use qc_sql::tables::Column;
 use qc_types::{NoMemory, Or, SqlError, Text, Texts};
 use std::alloc::Global;
@@ -28,7 +28,7 @@ pub(crate) fn shape_of<'a>(
     columns: &'a [Column],
     names: &Option<Texts>,
 ) -> Result<Shape<'a>, Or<SqlError>>
-    ensures gives { Gives named_in (λ e. e) result (shape_judged columns.now names.now) }
+    ensures gives { Gives named_in (λ e. e) result (shape_validated columns.now names.now) }
     ensures shape { IfOk result (IsShapeOf columns.now) }
 {
     let named = insert_columns(alloc, columns, names)?;
@@ -41,7 +41,7 @@ fn insert_columns<'a>(
     columns: &'a [Column],
     names: &Option<Texts>,
 ) -> Result<Vec<&'a Column>, Or<SqlError>>
-    ensures { Gives (λ cs. lent cs.items) (λ e. e) result (meant.columns_of_insert columns.now names.now) }
+    ensures { Gives (λ cs. borrowed cs.items) (λ e. e) result (meant.columns_of_insert columns.now names.now) }
 {
     match names {
         None => Ok(all_columns(alloc, columns)?),
@@ -50,7 +50,7 @@ fn insert_columns<'a>(
 }
 
 fn all_columns<'a>(alloc: Global, columns: &'a [Column]) -> Result<Vec<&'a Column>, NoMemory>
-    ensures { IfOk result (λ cs. lent cs.items ≡ columns.now) }
+    ensures { IfOk result (λ cs. borrowed cs.items ≡ columns.now) }
 {
     let mut all = Vec::with_capacity(alloc, columns.len())?;
     for column in columns {
@@ -64,7 +64,7 @@ fn named_columns<'a>(
     columns: &'a [Column],
     names: &[Text],
 ) -> Result<Vec<&'a Column>, Or<SqlError>>
-    ensures { Gives (λ cs. lent cs.items) (λ e. e) result (meant.named_columns [] columns.now names.now) }
+    ensures { Gives (λ cs. borrowed cs.items) (λ e. e) result (meant.named_columns [] columns.now names.now) }
 {
     let mut named = Vec::new(alloc);
     for (i, name) in names.iter().enumerate() {
@@ -94,8 +94,8 @@ fn place_all(
     columns: &[Column],
     named: &[&Column],
 ) -> Result<Vec<Option<usize>>, Or<SqlError>>
-    ensures gives { Gives (λ _. tt) (λ e. e) result (meant.refuse_lacking (meant.lacking columns.now (lent named.now))) }
-    ensures all { IfOk result (λ ps. ps.items ≡ places (lent named.now) columns.now) }
+    ensures gives { Gives (λ _. tt) (λ e. e) result (meant.refuse_lacking (meant.lacking columns.now (borrowed named.now))) }
+    ensures all { IfOk result (λ ps. ps.items ≡ places (borrowed named.now) columns.now) }
 {
     let mut places = Vec::with_capacity(alloc, columns.len())?;
     for column in columns {
@@ -110,7 +110,7 @@ fn place_all(
 
 /// The index of the first column of a name.
 fn place_of(named: &[&Column], name: &Text) -> Option<usize>
-    ensures { result ≡ place_of name.now (lent named.now) }
+    ensures { result ≡ place_of name.now (borrowed named.now) }
 {
     for (i, column) in named.iter().enumerate() {
         if column.name.bytes() == name.bytes() {

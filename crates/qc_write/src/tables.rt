@@ -5,7 +5,7 @@ ghost use Rattle.qc_sql.specs.Effects as meant;
 
 use crate::outcome::Effect;
 use crate::target::{bind_target, check_database};
-use qc_errors::unknown_table;
+use qc_sql::errors::unknown_table;
 use qc_sql::names::full_name;
 use qc_sql::statements::TableRef;
 use qc_sql::tables::{Ops, RowOp};

@@ -7,7 +7,7 @@ ghost use Rattle.qc_sql.specs.Rules as rules;
 ghost use Rattle.qc_table.specs.Tables.{IsSound};
 ghost use Rattle.qc_write.specs.Targets.{bound_of, target_in};
 
-use qc_errors::{no_database_selected, no_such_table, unknown_database};
+use qc_sql::errors::{no_database_selected, no_such_table, unknown_database};
 use qc_sql::names::full_name;
 use qc_sql::statements::TableRef;
 use qc_table::{Database, TableVersion};

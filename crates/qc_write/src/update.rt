@@ -3,7 +3,7 @@
 ghost use Rattle.std.specs.Prelude.{◌≡◌};
 ghost use Rattle.qc_types.specs.Answers.{Gives};
 ghost use Rattle.qc_sql.specs.Effects as meant;
-ghost use Rattle.qc_write.specs.Placing.{update_judged};
+ghost use Rattle.qc_write.specs.Placing.{update_validated};
 ghost use Rattle.qc_write.specs.Targets.{bound_of};
 
 use crate::assigned_rows::put_rows;
@@ -44,7 +44,7 @@ fn update_in<L: Ledger>(
     update: &Update,
     steps: &mut Steps<L>,
 ) -> Result<Effect, Or<SqlError>>
-    ensures { Gives (λ e. e) (λ e. e) result (update_judged (bound_of target.now) db.now session update.now) }
+    ensures { Gives (λ e. e) (λ e. e) result (update_validated (bound_of target.now) db.now session update.now) }
 {
     let version = target.version;
     let sets = place_all(alloc, version.columns().items(), update.sets.items())?;

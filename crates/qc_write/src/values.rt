@@ -6,7 +6,7 @@ ghost use Rattle.qc_sql.specs.Effects as meant;
 ghost use Rattle.qc_sql.specs.Rows as rows;
 
 use crate::columns::may_be_null;
-use qc_errors::{null_column, too_long};
+use qc_sql::errors::{null_column, too_long};
 use qc_sql::tables::{Column, Kind};
 use qc_types::{Or, SqlError, Value};
 use std::alloc::Global;

@@ -119,10 +119,10 @@ fn column_names(alloc: Global, fields: Fields<'_>) -> Result<(Names, Fields<'_>)
 fn catalog(fields: Fields<'_>) -> Result<Fields<'_>, WireRefusal>
     ensures { Is unread result (meant.catalog (unread fields.entry)) }
 {
-    let front = fields.at as u64;
+    let start = fields.at as u64;
     let (size, fields) = integer(fields)?;
     if size != 3 {
-        return Err(WireRefusal::BadByte(front));
+        return Err(WireRefusal::BadByte(start));
     }
     constants(b"def", fields)
 }

@@ -14,8 +14,8 @@ pub fn take_bytes(count: usize, fields: Fields<'_>) -> Result<(&[u8], Fields<'_>
 {
     let Fields { at, left } = fields;
     match left.split_at_checked(count) {
-        Some((front, left)) => Ok((
-            front,
+        Some((taken, left)) => Ok((
+            taken,
             Fields {
                 at: at + count,
                 left,
@@ -99,49 +99,49 @@ pub fn constants<'a>(expected: &[u8], fields: Fields<'a>) -> Result<Fields<'a>, 
 pub fn integer(fields: Fields<'_>) -> Result<(u64, Fields<'_>), WireRefusal>
     ensures { Is (λ x. (x.0, unread x.1)) result (meant.integer (unread fields.entry)) }
 {
-    let front = fields.at as u64;
+    let start = fields.at as u64;
     let (byte, fields) = byte(fields)?;
-    integer_behind(front, byte, fields)
+    integer_behind(start, byte, fields)
 }
 
 /// What the first byte of a length-encoded integer, at this place, begins.
 #[tactic(auto, unfolding(crate::specs::Reading::integer_behind))]
 fn integer_behind(
-    front: u64,
+    start: u64,
     byte: u8,
     fields: Fields<'_>,
 ) -> Result<(u64, Fields<'_>), WireRefusal>
-    ensures { Is (λ x. (x.0, unread x.1)) result (meant.integer_behind front byte (unread fields.entry)) }
+    ensures { Is (λ x. (x.0, unread x.1)) result (meant.integer_behind start byte (unread fields.entry)) }
 {
     match byte {
         0..=0xfa => Ok((u64::from(byte), fields)),
         0xfc => {
             let (value, fields) = number_of_two(fields)?;
-            shortest(front, 251, u64::from(value), fields)
+            shortest(start, 251, u64::from(value), fields)
         }
         0xfd => {
             let (value, fields) = number_of_three(fields)?;
-            shortest(front, 1 << 16, u64::from(value), fields)
+            shortest(start, 1 << 16, u64::from(value), fields)
         }
         0xfe => {
             let (value, fields) = number_of_eight(fields)?;
-            shortest(front, 1 << 24, value, fields)
+            shortest(start, 1 << 24, value, fields)
         }
-        _ => Err(WireRefusal::BadByte(front)),
+        _ => Err(WireRefusal::BadByte(start)),
     }
 }
 
 /// A number that no shorter form of a length-encoded integer has.
 fn shortest(
-    front: u64,
+    start: u64,
     least: u64,
     value: u64,
     fields: Fields<'_>,
 ) -> Result<(u64, Fields<'_>), WireRefusal>
-    ensures { Is (λ x. (x.0, unread x.1)) result (meant.shortest front least (value, unread fields.entry)) }
+    ensures { Is (λ x. (x.0, unread x.1)) result (meant.shortest start least (value, unread fields.entry)) }
 {
     if value < least {
-        return Err(WireRefusal::NotMinimal(front));
+        return Err(WireRefusal::NotMinimal(start));
     }
     Ok((value, fields))
 }
@@ -151,10 +151,10 @@ fn shortest(
 pub fn no_number(fields: Fields<'_>) -> Result<Fields<'_>, WireRefusal>
     ensures { Is unread result (meant.no_number (unread fields.entry)) }
 {
-    let front = fields.at as u64;
+    let start = fields.at as u64;
     let (value, fields) = integer(fields)?;
     if value != 0 {
-        return Err(WireRefusal::BadByte(front));
+        return Err(WireRefusal::BadByte(start));
     }
     Ok(fields)
 }

@@ -37,9 +37,9 @@ pub enum Opening {
 /// Reads a reply: OK_Packet, ERR_Packet, or a text result set, in packets numbered from 1 modulo 256. The bytes are those of one reply, from
 /// the first to the last.
 ///
-/// Bytes that are no reply are refused at the first fault by place. A field is read as a whole: `NotMinimal` and `BadByte` stand at its front,
+/// Bytes that are no reply are refused at the first fault by place. A field is read as a whole: `NotMinimal` and `BadByte` stand at its first byte,
 /// or of a field of certain bytes at the one that differs; `Truncated` stands where the bytes end, or the payload by its header; `Trailing`
-/// at the byte behind a complete payload or a complete reply. Of a header, the length is judged before the sequence number.
+/// at the byte behind a complete payload or a complete reply. Of a header, the length is validated before the sequence number.
 ///
 /// The cost is linear in the bytes, and each text is copied once.
 pub fn read_reply(alloc: Global, bytes: &[u8]) -> Result<Reply, Or<WireRefusal>>
@@ -104,10 +104,10 @@ fn opened_by(alloc: Global, payload: Payload<'_>) -> Result<Opening, Or<WireRefu
 fn column_count(fields: Fields<'_>) -> Result<(u16, Fields<'_>), WireRefusal>
     ensures { Is (λ x. (x.0, unread x.1)) result (meant.column_count (unread fields.entry)) }
 {
-    let front = fields.at as u64;
+    let start = fields.at as u64;
     let (count, fields) = integer(fields)?;
     if count == 0 || count > MOST_COLUMNS {
-        return Err(WireRefusal::BadByte(front));
+        return Err(WireRefusal::BadByte(start));
     }
     Ok((count as u16, fields))
 }

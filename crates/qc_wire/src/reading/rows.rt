@@ -6,7 +6,8 @@ ghost use Rattle.qc_wire.specs.Reading.{Is, unread};
 ghost use Rattle.qc_wire.specs.Replies as meant;
 ghost use Rattle.qc_wire.specs.Replies.{payload_view, stream_view};
 
-use crate::put::{EOF_HEADER, NULL_CELL};
+use crate::encoding::NULL_CELL;
+use crate::put::EOF_HEADER;
 use crate::reading::encoded::{string, take_bytes};
 use crate::reading::fields::Fields;
 use crate::reading::packets::{begins_with, complete, next_payload};

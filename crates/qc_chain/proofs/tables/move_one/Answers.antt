@@ -5,7 +5,7 @@ use Rattle.qc_index.specs.declared.keys.Keyed.{Keyed}
 use Rattle.qc_index.specs.Ordered.{Members, inserted, first_from, without_first_from}
 use Rattle.qc_tiles.specs.declared.blocks.Block.{Block}
 use Rattle.qc_chain.specs.declared.members.Held.{Held}
-use Rattle.qc_chain.specs.declared.members.Standing.{Standing}
+use Rattle.qc_chain.specs.declared.members.PlacedBlock.{PlacedBlock}
 use Rattle.qc_chain.specs.Stored.{key_of, held_at, turned, Stands}
 use Rattle.qc_chain.proofs.Turns.{none_moved, moving, moves_same, move_tables, fewer_stand}
 use Rattle.qc_chain.proofs.tables.move_one.Goals as goal
@@ -45,7 +45,7 @@ returns-clause-items c =
     ∙ ap (λ (x : Keyed Held). record { items = inserted (held_at n i (record { first = c.args.change.to; words = x.value.block.words })) mid.items; room = mid.room - 1 }) held) in
     let known : Stands c.args.change.from places.items = c.if-not-any_at.ensures.some refl in
     let same : known.standing ≡ y = same_Some known.standing y (sym known.first ∙ first) in
-    let here : y.key.major ≡ c.args.change.from = ap (λ (x : Keyed Standing). x.key.major) (sym same) ∙ known.here in
+    let here : y.key.major ≡ c.args.change.from = ap (λ (x : Keyed PlacedBlock). x.key.major) (sym same) ∙ known.here in
     moves_same c.args.change pieces c.insert.new.self.items y l m r f here c.requires.other
     (ap (λ (p : Members Held). p.items) made ∙ ap (inserted (held_at n i b)) (left ∙ f.left))
 
@@ -67,8 +67,8 @@ returns-clause-fewer c = λ _.
     c.insert-2.ensures.members ∙ ap (λ (to : ℕ). record { items = inserted (record { key = key_of to n; value = y.value }) stand.items; room = stand.room - 1 }) c.from-2.ensures in
     let known : Stands c.args.change.from places.items = c.if-not-any_at.ensures.some refl in
     let same : known.standing ≡ y = same_Some known.standing y (sym known.first ∙ first) in
-    let here : y.key.major ≡ c.args.change.from = ap (λ (x : Keyed Standing). x.key.major) (sym same) ∙ known.here in
-    fewer_stand c.args.change.from c.args.change.to n i places.items stand.items c.insert-2.new.self.items y first here c.requires.other gone (ap (λ (p : Members Standing). p.items) put)
+    let here : y.key.major ≡ c.args.change.from = ap (λ (x : Keyed PlacedBlock). x.key.major) (sym same) ∙ known.here in
+    fewer_stand c.args.change.from c.args.change.to n i places.items stand.items c.insert-2.new.self.items y first here c.requires.other gone (ap (λ (p : Members PlacedBlock). p.items) put)
 
 pub returns-clause-tables : goal.returns-clause-tables
 returns-clause-tables c =

@@ -8,10 +8,10 @@ returns-clause-found c =
     let cut = c.in_ok-flags.ensures.cases in
     let read = c.in_ok-flags-2.ensures.found in
     let again =
-    key_bytes_again _ c.from.result c.in_ok-length.rest.now _ c.in_ok-db.rest.now c.in_ok-flags.flags.now _ name.3 (record { front_is = name.1; rest_is = name.2 })
-    (record { front_is = cut.1; rest_is = cut.2 }) read.0 in
+    key_bytes_again _ c.from.result c.in_ok-length.rest.now _ c.in_ok-db.rest.now c.in_ok-flags.flags.now _ name.3 (record { prefix_is = name.1; rest_is = name.2 })
+    (record { prefix_is = cut.1; rest_is = cut.2 }) read.0 in
     record {
-      can_be = c.can_be_keyed.ensures.0 c.if-not-can_be_keyed.false;
+      can_be = sym c.can_be_keyed.ensures ∙ c.if-not-can_be_keyed.false;
       limit = read.1;
       bytes = c.in_ok-length.ensures.cases.0 ∙ ap (λ (size : ℕ). size ∷ c.in_ok-length.rest.now) (sym c.from.ensures) ∙ sym again;
     }

@@ -1,7 +1,7 @@
 use Rattle.std.proofs.Common.{false, sym, ap, ◌∙◌, arith, length-drop}
 use Rattle.std.proofs.lemmas.List.{take_rest, length-take-le}
 use Rattle.qc_lex.specs.Fronts.{Ends, Skips, Gives, Faults, fault_of}
-use Rattle.qc_lex.specs.Heads.{lexemes, leading}
+use Rattle.qc_lex.specs.Heads.{lexemes_in, leading}
 use Rattle.qc_lex.proofs.LexLoop.{shown_within}
 use Rattle.qc_lex.proofs.FirstWords.{led, led_none, skipped, word_there}
 use Rattle.qc_lex.proofs.heads.first_word.Goals as goal
@@ -18,12 +18,12 @@ loop-bytes-smaller c =
     rw (take_rest c.loop-bytes.rest.now c.in-Skips.bytes) (omega (arith, there, length-drop c.in-Skips.bytes c.loop-bytes.rest.now))
 
 pub loop-bytes-preserved : goal.loop-bytes-preserved
-loop-bytes-preserved c = skipped c.in-Skips.bytes c.loop-bytes.rest.now (lexemes c.args.text.now) c.in-Skips.ensures c.loop-bytes.invariant
+loop-bytes-preserved c = skipped c.in-Skips.bytes c.loop-bytes.rest.now (lexemes_in c.args.text.now) c.in-Skips.ensures c.loop-bytes.invariant
 
 pub returns-in_default : goal.returns-in_default
 returns-in_default c =
     ap leading (sym c.loop-bytes.invariant)
-    ∙ led_none c.in-Gives.kind c.in-Gives.bytes c.loop-bytes.rest.now (lexemes c.loop-bytes.rest.now) c.in_default.not-Word
+    ∙ led_none c.in-Gives.kind c.in-Gives.bytes c.loop-bytes.rest.now (lexemes_in c.loop-bytes.rest.now) c.in_default.not-Word
     (led (Gives c.in-Gives.bytes c.in-Gives.kind) c.loop-bytes.rest.now c.in-Gives.ensures)
 
 pub slice_bounds-result-end : goal.slice_bounds-result-end
@@ -38,7 +38,7 @@ pub slice_bounds-result-start : goal.slice_bounds-result-start
 slice_bounds-result-start c = (shown_within false c.loop-bytes.rest.now (Gives c.in-Gives.bytes c.in-Gives.kind) c.in-Gives.ensures).1
 
 pub returns-in-Gives : goal.returns-in-Gives
-returns-in-Gives c = word_there c.in-Gives.bytes c.in-Gives.kind c.loop-bytes.rest.now (lexemes c.args.text.now) c.in-Word.is c.in-Gives.ensures c.loop-bytes.invariant
+returns-in-Gives c = word_there c.in-Gives.bytes c.in-Gives.kind c.loop-bytes.rest.now (lexemes_in c.args.text.now) c.in-Word.is c.in-Gives.ensures c.loop-bytes.invariant
 
 pub returns-in-Ends : goal.returns-in-Ends
 returns-in-Ends c = ap leading (sym c.loop-bytes.invariant) ∙ led Ends c.loop-bytes.rest.now c.in-Ends.ensures

@@ -1,6 +1,6 @@
 use Rattle.std.proofs.Common.{◌≡◌, drop}
 use Rattle.std.specs.List.{list_any}
-use Rattle.qc_resolve.specs.Judged.{has_aggregate_item, item_step, none_shown}
+use Rattle.qc_resolve.specs.Validated.{has_aggregate_item, item_step, none_shown}
 use Rattle.qc_resolve.specs.Steps.{run}
 use Rattle.qc_resolve.proofs.items.shown_items.Given as goal
 

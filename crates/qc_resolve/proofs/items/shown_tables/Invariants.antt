@@ -1,6 +1,6 @@
 use Rattle.std.proofs.Common.{◌≡◌, drop}
 use Rattle.qc_resolve.specs.Columns.{all_spots}
-use Rattle.qc_resolve.specs.Judged.{none_shown, with_spots}
+use Rattle.qc_resolve.specs.Validated.{none_shown, with_spots}
 use Rattle.qc_resolve.proofs.items.shown_tables.Given as goal
 
 abbrev pub invariant-loop-slot : goal.invariant-loop-slot

@@ -3,7 +3,7 @@ use Rattle.std.specs.Prelude.{◌&&◌}
 use Rattle.std.proofs.lemmas.Result.{err_from_is_err_and}
 use Rattle.qc_types.specs.Answers.{Gives}
 use Rattle.qc_sql.specs.Rows.{Bound, Scope, each, bind, rows}
-use Rattle.qc_resolve.specs.Judged.{judged_over}
+use Rattle.qc_resolve.specs.Validated.{validated_over}
 use Rattle.qc_resolve.specs.Meaning.{rows_of}
 use Rattle.qc_resolve.specs.declared.resolved.Resolved.{Resolved}
 use Rattle.qc_resolve.proofs.Agrees.{whole_gives, locked, not_bound, and_left, and_right}
@@ -37,7 +37,7 @@ returns-clause-gives c =
     elim c.else-select.branch [ else-select-via-then-select+else-flags w ↦ and_right select.lock flags.in_trans w.if-flags.false | else-select-via-else-select w ↦ and_left select.lock flags.in_trans w.if-select.false ] in
     whole_gives c.resolve_over.result select c.args.database.now c.args.db.now flags c.args.session c.in_ok-bounds.bounds free
     (ap (each (bind c.args.database.now c.args.db.now)) (sym c.items.ensures) ∙ c.in_ok-bounds.ensures.gives) c.in_ok-bounds.ensures.sound
-    (subst (λ (db : List ℕ). Gives (λ (x : Resolved). x) (λ e. e) c.resolve_over.result (judged_over select flags (record { bounds = c.in_ok-bounds.bounds; db = db; session = c.args.session }))) c.in_ok-db.ensures c.resolve_over.ensures)
+    (subst (λ (db : List ℕ). Gives (λ (x : Resolved). x) (λ e. e) c.resolve_over.result (validated_over select flags (record { bounds = c.in_ok-bounds.bounds; db = db; session = c.args.session }))) c.in_ok-db.ensures c.resolve_over.ensures)
 
 pub returns-clause-few : goal.returns-clause-few
 returns-clause-few c =

@@ -7,7 +7,7 @@ use Rattle.qc_sql.specs.declared.statements.Order.{Order}
 use Rattle.qc_sql.specs.Rows.{has_aggregate}
 use Rattle.qc_resolve.specs.declared.resolved.OrderKey.{OrderKey}
 use Rattle.qc_resolve.specs.declared.resolved.Resolved.{Resolved}
-use Rattle.qc_resolve.specs.Judged.{has_aggregate_item, order_judged, parts_judged}
+use Rattle.qc_resolve.specs.Validated.{has_aggregate_item, order_validated, parts_validated}
 use Rattle.qc_resolve.proofs.Exits.{refused_too}
 use Rattle.qc_resolve.proofs.Parts.{ordered_refused, order_refused, not_above, above_none, none_above}
 use Rattle.qc_resolve.proofs.Agrees.{and_left, and_right}
@@ -34,6 +34,6 @@ returns-in_err-order c =
       | else-aggregated-via-else-aggregated w ↦ and_left (has_aggregate select) (nat_lt 0 (length select.order)) (sym (w.if-aggregated.ensures ∙ ap (list_any has_aggregate_item) c.items-2.ensures))
     ] in
     rw (p.1, p.2)
-    (refused_too (λ (ks : List OrderKey). ks) (λ (r : Resolved). r) c.in_err-order.field-0.0 (order_judged scope c.items-3.result.now) (parts_judged select c.args.flags.now scope)
-    (λ e h. order_refused select c.args.flags.now scope c.in_ok-shown.shown c.in_ok-test.test c.in_ok-shown.ensures few c.in_ok-test.ensures e free (ap (order_judged scope) (sym c.items-3.ensures) ∙ h))
+    (refused_too (λ (ks : List OrderKey). ks) (λ (r : Resolved). r) c.in_err-order.field-0.0 (order_validated scope c.items-3.result.now) (parts_validated select c.args.flags.now scope)
+    (λ e h. order_refused select c.args.flags.now scope c.in_ok-shown.shown c.in_ok-test.test c.in_ok-shown.ensures few c.in_ok-test.ensures e free (ap (order_validated scope) (sym c.items-3.ensures) ∙ h))
     c.in_err-order.ensures)

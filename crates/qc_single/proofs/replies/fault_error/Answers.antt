@@ -1,7 +1,6 @@
 use Rattle.std.proofs.Common.{◌≡◌, sym, subst}
-use Rattle.qc_types.specs.declared.sql_error.SqlError.{SqlError}
 use Rattle.qc_sql.specs.Errors.{syntax_error}
-use Rattle.qc_bounds.specs.Replies.{FitsError}
+use Rattle.qc_laws.specs.sizes.Replies.{FitsError}
 use Rattle.qc_single.proofs.Methods.{if_ok}
 use Rattle.qc_single.proofs.Sizes.{syntax_fits}
 use Rattle.qc_single.proofs.replies.fault_error.Goals as goal

@@ -7,7 +7,7 @@ use Rattle.qc_table.proofs.draft.drafts_of.Goals as goal
 pub loop-entry-preserved : goal.loop-entry-preserved
 loop-entry-preserved c =
     let ordered = rw (← c.entries-entry-items.ensures.value) at c.entries-entry-items.ensures.ordered in
-    rw (c.in_ok-insert.ensures, c.bytes.ensures, c.in_ok-of.ensures, c.loop-entry.invariant)
+    rw (c.in_ok-insert.ensures.ok, c.bytes.ensures, c.in_ok-of.ensures, c.loop-entry.invariant)
     (insert_next c.entries-entry-items.result.now c.loop-entry.entry-index c.entry-item.result ordered c.loop-entry-test.true c.entry-item.is)
 
 pub returns : goal.returns

@@ -21,7 +21,7 @@ new-requires-clause-sound c =
     let low = rw (c.items-column-items.ensures, c.columns-columns.ensures.value) at c.loop-i-test.false in
     let high = rw (c.items-column-items.ensures, c.columns-columns.ensures.value) at c.loop-i.auto.i-end in
     let filled = all_filled cs rows c.loop-i.i c.loop-i.cells.items c.loop-i.invariant low high in
-    let sound = merged_sound c.args.base.now c.args.changes.now.entries c.columns-columns.ensures.sound c.requires in
+    let sound = merged_sound c.args.base.now c.args.changes.now.entries c.columns-columns.ensures.sound c.requires.fit c.requires.ordered in
     let back = rows_filled cs rows c.loop-i.cells.items filled (rows_wide cs rows sound.rows) in
     rw (c.in_ok-copy_of_columns.ensures, c.columns-columns.ensures.value, c.in_ok-keys.ensures, back) sound
 
@@ -32,6 +32,6 @@ returns c =
     let low = rw (c.items-column-items.ensures, c.columns-columns.ensures.value) at c.loop-i-test.false in
     let high = rw (c.items-column-items.ensures, c.columns-columns.ensures.value) at c.loop-i.auto.i-end in
     let filled = all_filled cs rows c.loop-i.i c.loop-i.cells.items c.loop-i.invariant low high in
-    let sound = merged_sound c.args.base.now c.args.changes.now.entries c.columns-columns.ensures.sound c.requires in
+    let sound = merged_sound c.args.base.now c.args.changes.now.entries c.columns-columns.ensures.sound c.requires.fit c.requires.ordered in
     let back = rows_filled cs rows c.loop-i.cells.items filled (rows_wide cs rows sound.rows) in
     c.new.ensures ∙ rw (c.in_ok-copy_of_columns.ensures, c.columns-columns.ensures.value, c.in_ok-keys.ensures, back) refl

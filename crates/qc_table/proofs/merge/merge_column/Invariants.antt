@@ -1,7 +1,8 @@
 use Rattle.std.proofs.Common.{◌≡◌, ◌≤◌, ◌++◌, length, drop}
 use Rattle.std.specs.List.{AllByRecursion}
 use Rattle.qc_table.specs.Changes.{merged}
-use Rattle.qc_table.specs.Stored.{column_of, is_int, is_ints, values_of, IsCells}
+use Rattle.qc_table.specs.Stored.{column_of, is_ints, values_of, IsCells}
+use Rattle.qc_sql.specs.Database.{is_int}
 use Rattle.qc_table.specs.Tables.{IsChange}
 use Rattle.qc_table.proofs.merge.merge_column.Given as goal
 

@@ -1,6 +1,7 @@
 use Rattle.std.proofs.Common.{◌≡◌, drop}
 use Rattle.std.specs.Prelude.{option_copied}
-use Rattle.qc_trx.specs.Writes.{columns_left, columns_of}
+use Rattle.qc_trx.specs.Writes.{columns_left}
+use Rattle.qc_sql.specs.Database.{columns_of}
 use Rattle.qc_trx.proofs.noting.columns_left.Given as goal
 
 -- the columns after the operations so far

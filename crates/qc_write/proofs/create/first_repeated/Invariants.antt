@@ -2,7 +2,7 @@ use Rattle.std.proofs.Common.{◌≡◌, List, [], drop, take}
 use Rattle.qc_sql.specs.Database.{Name}
 use Rattle.qc_sql.specs.Rows.{first_repeated}
 use Rattle.qc_write.specs.Parts.{columns_of, names_of}
-use Rattle.qc_write.proofs.Names.{SameSeen}
+use Rattle.qc_resolve.proofs.Lists.{SameSeen}
 use Rattle.qc_write.proofs.create.first_repeated.Given as goal
 
 abbrev pub invariant-loop-i : goal.invariant-loop-i

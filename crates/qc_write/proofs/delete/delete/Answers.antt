@@ -1,7 +1,7 @@
 use Rattle.std.proofs.Common.{sym, subst}
 use Rattle.std.proofs.lemmas.Result.{err_from_is_err_and}
 use Rattle.qc_types.specs.Answers.{Gives}
-use Rattle.qc_sql.specs.Effects.{Effect, Judged, delete_effect}
+use Rattle.qc_sql.specs.Effects.{Effect, Validated, delete_effect}
 use Rattle.qc_write.specs.Targets.{bound_of, target_in}
 use Rattle.qc_write.proofs.Dels.{delete_found, delete_lost}
 use Rattle.qc_resolve.proofs.Exits.{refused_too}
@@ -20,6 +20,6 @@ returns-in_err-target g c =
 pub returns : goal.returns
 returns g c =
     let t = c.in_ok-target.target in
-    subst (λ (m : Judged). Gives (λ (e : Effect). e) (λ e. e) c.delete_from.result m)
+    subst (λ (m : Validated). Gives (λ (e : Effect). e) (λ e. e) c.delete_from.result m)
     (sym (delete_found c.args.database.now c.args.db.now c.args.session c.args.table.now c.args.cond.now t.name t.version.now c.in_ok-target.ensures.gives c.in_ok-target.ensures.name))
     c.delete_from.ensures

@@ -4,7 +4,7 @@ use Rattle.qc_sql.specs.declared.tables.RowOp.{RowOp}
 use Rattle.qc_sql.specs.Effects.{Effect, effect_of}
 use Rattle.qc_resolve.specs.Kept.{kept_rows}
 use Rattle.qc_eval.specs.Entries.{entry_at}
-use Rattle.qc_write.specs.Removing.{del_of, delete_judged}
+use Rattle.qc_write.specs.Removing.{del_of, delete_validated}
 use Rattle.qc_write.specs.Targets.{bound_of}
 use Rattle.qc_resolve.proofs.Exits.{refused_too}
 use Rattle.qc_write.proofs.KeptEntries.{rows_gone}

@@ -3,7 +3,7 @@ use Rattle.std.proofs.lemmas.Result.{err_from_is_err_and}
 use Rattle.qc_types.specs.Answers.{Gives}
 use Rattle.qc_types.specs.declared.sql_error.SqlError.{SqlError}
 use Rattle.qc_sql.specs.Rows.{Bound}
-use Rattle.qc_sql.specs.Effects.{Effect, Judged, insert_effect}
+use Rattle.qc_sql.specs.Effects.{Effect, Validated, insert_effect}
 use Rattle.qc_write.specs.Targets.{bound_of, target_in}
 use Rattle.qc_resolve.proofs.Exits.{refused_too}
 use Rattle.qc_write.proofs.Whole.{insert_is, insert_refused}
@@ -20,6 +20,6 @@ returns-in_err-target g c =
 
 pub returns : goal.returns
 returns g c =
-    subst (λ (m : Judged). Gives (λ (e : Effect). e) (λ (e : SqlError). e) c.insert_into.result m)
+    subst (λ (m : Validated). Gives (λ (e : Effect). e) (λ (e : SqlError). e) c.insert_into.result m)
     (sym (insert_is c.args.database.now c.args.db.now c.args.insert.now (bound_of c.in_ok-target.target) c.in_ok-target.ensures.gives c.in_ok-target.ensures.name))
     c.insert_into.ensures

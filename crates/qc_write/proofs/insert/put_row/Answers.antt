@@ -8,7 +8,7 @@ use Rattle.qc_types.specs.declared.names.Value.{Value}
 use Rattle.qc_types.specs.declared.sql_error.SqlError.{SqlError}
 use Rattle.qc_sql.specs.declared.tables.Column.{Column}
 use Rattle.qc_sql.specs.Database.{key_of}
-use Rattle.qc_write.specs.Inserts.{named_in, tuple_judged, key_judged, row_judged}
+use Rattle.qc_write.specs.Inserts.{named_in, tuple_validated, key_validated, row_validated}
 use Rattle.qc_write.specs.Targets.{bound_of}
 use Rattle.qc_resolve.proofs.Exits.{refused_too}
 use Rattle.qc_write.proofs.Rows.{key_refused, row_good}
@@ -25,12 +25,12 @@ returns-in_err-take_key-clause-gives g c =
     let row = c.in_ok-row.row in
     let key = c.key_of_row-key.result in
     let same = to_z-of_z w64 key (record { sfits = c.key_of_row-key.type_inv }) in
-    let made : tuple_judged named b.table.columns n tuple ≡ Ok row = c.in_ok-row.ensures in
+    let made : tuple_validated named b.table.columns n tuple ≡ Ok row = c.in_ok-row.ensures in
     let of_row : key ≡ key_of b.table.columns row = c.key_of_row-key.ensures ∙ ap (λ (cs : List Column). key_of cs row) c.columns.ensures.value in
-    let told : Gives (λ (u : Unit {0}). tt {0}) (λ (e : SqlError). e) (Err c.in_err-take_key.field-0.0) (key_judged b seen n (to_z w64 (of_z w64 key))) = c.in_err-take_key.ensures.gives in
+    let told : Gives (λ (u : Unit {0}). tt {0}) (λ (e : SqlError). e) (Err c.in_err-take_key.field-0.0) (key_validated b seen n (to_z w64 (of_z w64 key))) = c.in_err-take_key.ensures.gives in
     rw (p.1, p.2)
-    (refused_too (λ (u : Unit {0}). tt {0}) (λ (vs : List Value). vs) c.in_err-take_key.field-0.0 (key_judged b seen n (to_z w64 (of_z w64 key))) (row_judged b named seen n tuple)
-    (λ e h. key_refused b named seen n tuple row key made of_row e (ap (key_judged b seen n) (sym same) ∙ h)) told)
+    (refused_too (λ (u : Unit {0}). tt {0}) (λ (vs : List Value). vs) c.in_err-take_key.field-0.0 (key_validated b seen n (to_z w64 (of_z w64 key))) (row_validated b named seen n tuple)
+    (λ e h. key_refused b named seen n tuple row key made of_row e (ap (key_validated b seen n) (sym same) ∙ h)) told)
 
 pub returns-clause-gives : goal.returns-clause-gives
 returns-clause-gives g c =
@@ -41,10 +41,10 @@ returns-clause-gives g c =
     let row = c.in_ok-row.row in
     let key = c.key_of_row-key.result in
     let same = to_z-of_z w64 key (record { sfits = c.key_of_row-key.type_inv }) in
-    let made : tuple_judged named b.table.columns n c.args.tuple.now ≡ Ok row = c.in_ok-row.ensures in
+    let made : tuple_validated named b.table.columns n c.args.tuple.now ≡ Ok row = c.in_ok-row.ensures in
     let of_row : key ≡ key_of b.table.columns row = c.key_of_row-key.ensures ∙ ap (λ (cs : List Column). key_of cs row) c.columns.ensures.value in
-    let taken : key_judged b seen n (to_z w64 (of_z w64 key)) ≡ Ok (tt {0}) = c.in_ok-take_key.ensures.gives in
-    row_good b named seen n c.args.tuple.now row key made of_row (ap (key_judged b seen n) (sym same) ∙ taken)
+    let taken : key_validated b seen n (to_z w64 (of_z w64 key)) ≡ Ok (tt {0}) = c.in_ok-take_key.ensures.gives in
+    row_good b named seen n c.args.tuple.now row key made of_row (ap (key_validated b seen n) (sym same) ∙ taken)
 
 pub returns-clause-taken : goal.returns-clause-taken
 returns-clause-taken g c =

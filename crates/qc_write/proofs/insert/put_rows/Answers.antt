@@ -11,7 +11,7 @@ use Rattle.qc_types.specs.declared.sql_error.SqlError.{SqlError}
 use Rattle.qc_sql.specs.declared.tables.RowOp.{RowOp}
 use Rattle.qc_sql.specs.declared.tables.RowOp.TheVariants as op
 use Rattle.qc_sql.specs.Database.{key_of}
-use Rattle.qc_write.specs.Inserts.{named_in, row_judged, rows_judged}
+use Rattle.qc_write.specs.Inserts.{named_in, row_validated, rows_validated}
 use Rattle.qc_write.specs.Targets.{bound_of}
 use Rattle.qc_resolve.proofs.Exits.{refused_too}
 use Rattle.qc_write.proofs.Inserts.{rows_on, row_refused, row_put, rows_ended}
@@ -34,8 +34,8 @@ loop-i-preserved g c =
     let tuple = c.index-tuples-i.result in
     let row = c.in_ok-row.row in
     let key = key_of b.table.columns row in
-    let made : row_judged b named (contains int_cmp c.loop-i.taken) (i + 1) tuple ≡ Ok row =
-    ap (λ (vs : List Value). row_judged b named (contains int_cmp c.loop-i.taken) (i + 1) vs) (sym c.items-tuple.ensures) ∙ c.in_ok-row.ensures.gives in (
+    let made : row_validated b named (contains int_cmp c.loop-i.taken) (i + 1) tuple ≡ Ok row =
+    ap (λ (vs : List Value). row_validated b named (contains int_cmp c.loop-i.taken) (i + 1) vs) (sym c.items-tuple.ensures) ∙ c.in_ok-row.ensures.gives in (
       key ∷ v.0,
       v.1
           ∙ row_put b named v.0 (contains int_cmp c.loop-i.taken) v.2 c.args.tuples.now i tuple c.loop-i-test.true c.index-tuples-i.is c.loop-i.ops (i + 1) row made
@@ -52,11 +52,11 @@ returns-in_err-row g c =
     let named = named_in c.args.shape.now in
     let i = c.loop-i.i in
     let tuple = c.index-tuples-i.result in
-    let judged : List Value → Result (List Value) SqlError = λ vs. row_judged b named (contains int_cmp c.loop-i.taken) (i + 1) vs in
-    let told : Gives (λ (vs : List Value). vs) (λ (e : SqlError). e) (Err c.in_err-row.field-0.0) (judged c.items-tuple.result.now) = c.in_err-row.ensures.gives in
+    let validated : List Value → Result (List Value) SqlError = λ vs. row_validated b named (contains int_cmp c.loop-i.taken) (i + 1) vs in
+    let told : Gives (λ (vs : List Value). vs) (λ (e : SqlError). e) (Err c.in_err-row.field-0.0) (validated c.items-tuple.result.now) = c.in_err-row.ensures.gives in
     rw (p.1, p.2)
-    (refused_too (λ (vs : List Value). vs) (λ (ops : List RowOp). ops) c.in_err-row.field-0.0 (judged c.items-tuple.result.now) (rows_judged b named c.args.tuples.now)
-    (λ e h. v.1 ∙ row_refused b named v.0 (contains int_cmp c.loop-i.taken) v.2 c.args.tuples.now i tuple c.loop-i-test.true c.index-tuples-i.is c.loop-i.ops (i + 1) e (ap judged (sym c.items-tuple.ensures) ∙ h)) told)
+    (refused_too (λ (vs : List Value). vs) (λ (ops : List RowOp). ops) c.in_err-row.field-0.0 (validated c.items-tuple.result.now) (rows_validated b named c.args.tuples.now)
+    (λ e h. v.1 ∙ row_refused b named v.0 (contains int_cmp c.loop-i.taken) v.2 c.args.tuples.now i tuple c.loop-i-test.true c.index-tuples-i.is c.loop-i.ops (i + 1) e (ap validated (sym c.items-tuple.ensures) ∙ h)) told)
 
 pub returns : goal.returns
 returns g c =

@@ -9,7 +9,7 @@ use Rattle.qc_types.specs.declared.sql_error.SqlError.{SqlError}
 use Rattle.qc_sql.specs.Effects.{has_key}
 use Rattle.qc_sql.specs.Errors.{duplicate_entry, table_full}
 use Rattle.qc_sql.specs.Rows.{◌>>=◌, refuse_if}
-use Rattle.qc_write.specs.Inserts.{key_judged}
+use Rattle.qc_write.specs.Inserts.{key_validated}
 use Rattle.qc_write.specs.Targets.{bound_of}
 use Rattle.qc_resolve.proofs.Exits.{refused_too}
 use Rattle.qc_write.proofs.Rows.{cond_or}

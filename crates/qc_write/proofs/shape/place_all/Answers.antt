@@ -4,8 +4,8 @@ use Rattle.qc_sql.specs.declared.tables.Column.{Column}
 use Rattle.qc_sql.specs.Errors.{value_needed}
 use Rattle.qc_sql.specs.Effects.{may_be_null}
 use Rattle.qc_write.specs.Inserts.{place_of, places}
-use Rattle.qc_write.specs.Lists.{lent}
-use Rattle.qc_write.proofs.Lists.{map_on}
+use Rattle.qc_write.specs.Lists.{borrowed}
+use Rattle.qc_resolve.proofs.Lists.{map_on}
 use Rattle.qc_write.proofs.Inserts.{lacks_it, lacks_no}
 use Rattle.qc_write.proofs.shape.place_all.Goals as goal
 use Rattle.qc_write.proofs.shape.place_all.Goals.{else-not-may_be_null-via-then-not-may_be_null+else-is_none, else-not-may_be_null-via-else-not-may_be_null}
@@ -20,7 +20,7 @@ false_and a b h = rw h refl
 pub returns-then-is_none-clause-gives : goal.returns-then-is_none-clause-gives
 returns-then-is_none-clause-gives c =
     let d = c.column-item.result in
-    let named = lent c.args.named.now in
+    let named = borrowed c.args.named.now in
     let may : may_be_null d ≡ false = sym c.may_be_null.ensures ∙ c.if-not-may_be_null.true in
     let placed : is_some (place_of d.name named) ≡ false = ap is_some (sym c.place_of-place.ensures) ∙ c.is_none.ensures ∙ ap not c.if-is_none.true in
     c.loop-column.invariant.gives
@@ -30,7 +30,7 @@ returns-then-is_none-clause-gives c =
 pub loop-column-preserved : goal.loop-column-preserved
 loop-column-preserved c =
     let d = c.column-item.result in
-    let named = lent c.args.named.now in
+    let named = borrowed c.args.named.now in
     let i = c.loop-column.column-index in
     let fine : (not (may_be_null d) && not (is_some (place_of d.name named))) ≡ false = elim c.else-not-may_be_null.branch [
       | else-not-may_be_null-via-then-not-may_be_null+else-is_none w ↦

@@ -1,7 +1,7 @@
 use Rattle.std.proofs.Common.{sym, subst}
 use Rattle.std.proofs.lemmas.Result.{err_from_is_err_and}
 use Rattle.qc_types.specs.Answers.{Gives}
-use Rattle.qc_sql.specs.Effects.{Effect, Judged, update_effect}
+use Rattle.qc_sql.specs.Effects.{Effect, Validated, update_effect}
 use Rattle.qc_write.specs.Targets.{bound_of, target_in}
 use Rattle.qc_resolve.proofs.Exits.{refused_too}
 use Rattle.qc_write.proofs.Puts.{update_found, update_lost}
@@ -20,6 +20,6 @@ returns-in_err-target g c =
 pub returns : goal.returns
 returns g c =
     let t = c.in_ok-target.target in
-    subst (λ (m : Judged). Gives (λ (e : Effect). e) (λ e. e) c.update_in.result m)
+    subst (λ (m : Validated). Gives (λ (e : Effect). e) (λ e. e) c.update_in.result m)
     (sym (update_found c.args.database.now c.args.db.now c.args.session c.args.update.now t.name t.version.now c.in_ok-target.ensures.sound c.in_ok-target.ensures.gives c.in_ok-target.ensures.name))
     c.update_in.ensures

@@ -14,7 +14,7 @@ use Rattle.qc_resolve.specs.Kept.{kept_rows}
 use Rattle.qc_resolve.specs.Steps.{run}
 use Rattle.qc_eval.specs.Entries.{entry_at}
 use Rattle.qc_write.specs.declared.assignments.Placed.{Placed}
-use Rattle.qc_write.specs.Placing.{IsPlacingIn, Placing, assignment_placed, placing_of, put_step, update_judged}
+use Rattle.qc_write.specs.Placing.{IsPlacingIn, Placing, assignment_placed, placing_of, put_step, update_validated}
 use Rattle.qc_write.specs.Targets.{bound_of}
 use Rattle.qc_resolve.proofs.Exits.{refused_too}
 use Rattle.qc_write.proofs.KeyColumns.{names_differ}
@@ -34,7 +34,7 @@ returns-in_err-sets g c =
     let b = bound_of c.args.target.now in
     let update = c.args.update.now in
     rw (p.1, p.2)
-    (refused_too (λ (ps : Vec Placed Global). map placing_of ps.items) (λ (e : Effect). e) c.in_err-sets.field-0.0 (each (assignment_placed c.items.result.now) c.items-2.result.now) (update_judged b c.args.db.now c.args.session update)
+    (refused_too (λ (ps : Vec Placed Global). map placing_of ps.items) (λ (e : Effect). e) c.in_err-sets.field-0.0 (each (assignment_placed c.items.result.now) c.items-2.result.now) (update_validated b c.args.db.now c.args.session update)
     (λ e h. sets_refused b c.args.db.now c.args.session update e (same_sets c.items.result.now b.table.columns c.items-2.result.now update.sets (c.items.ensures ∙ c.columns.ensures.value) c.items-2.ensures ∙ h))
     c.in_err-sets.ensures)
 
@@ -44,7 +44,7 @@ returns-in_err-rows g c =
     let b = bound_of c.args.target.now in
     let update = c.args.update.now in
     rw (p.1, p.2)
-    (refused_too (λ (is : List ℕ). map (entry_at b.table.rows) is) (λ (e : Effect). e) c.in_err-rows.field-0.0 (kept_rows b.name b.table update.cond c.args.db.now c.args.session) (update_judged b c.args.db.now c.args.session update)
+    (refused_too (λ (is : List ℕ). map (entry_at b.table.rows) is) (λ (e : Effect). e) c.in_err-rows.field-0.0 (kept_rows b.name b.table update.cond c.args.db.now c.args.session) (update_validated b c.args.db.now c.args.session update)
     (λ e h. cond_refused b c.args.db.now c.args.session update (map placing_of c.in_ok-sets.sets.items)
     (same_sets c.items.result.now b.table.columns c.items-2.result.now update.sets (c.items.ensures ∙ c.columns.ensures.value) c.items-2.ensures ∙ c.in_ok-sets.ensures) e h)
     c.in_err-rows.ensures.gives)
@@ -55,7 +55,7 @@ returns-in_err-ops g c =
     let b = bound_of c.args.target.now in
     let update = c.args.update.now in
     rw (p.1, p.2)
-    (refused_too (λ (ops : List RowOp). ops) (λ (e : Effect). e) c.in_err-ops.field-0.0 (run (put_step b.name (map placing_of c.deref.result.now) b.table.rows) c.items-3.result.now []) (update_judged b c.args.db.now c.args.session update)
+    (refused_too (λ (ops : List RowOp). ops) (λ (e : Effect). e) c.in_err-ops.field-0.0 (run (put_step b.name (map placing_of c.deref.result.now) b.table.rows) c.items-3.result.now []) (update_validated b c.args.db.now c.args.session update)
     (λ e h. rows_refused b c.args.db.now c.args.session update (map placing_of c.in_ok-sets.sets.items)
     (same_sets c.items.result.now b.table.columns c.items-2.result.now update.sets (c.items.ensures ∙ c.columns.ensures.value) c.items-2.ensures ∙ c.in_ok-sets.ensures) c.in_ok-rows.rows e c.in_ok-rows.ensures.gives
     (same_run b.name b.table.rows c.deref.result.now c.in_ok-sets.sets.items c.items-3.result.now c.in_ok-rows.rows c.deref.ensures.value c.items-3.ensures ∙ h))

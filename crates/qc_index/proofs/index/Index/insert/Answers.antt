@@ -1,10 +1,12 @@
-use Rattle.std.proofs.Common.{◌≡◌, ◌-◌, ◌∙◌, ap, arith, sym, subst, length, vec_len}
+use Rattle.std.proofs.Common.{◌≡◌, ℕ, ◌-◌, ◌∙◌, List, ap, arith, refl, sym, subst, length, vec_len}
 use Rattle.qc_index.specs.declared.keys.Keyed.{Keyed}
 use Rattle.qc_index.specs.Ordered.{IsOrdered, inserted, Members}
-use Rattle.qc_index.proofs.Cuts.{same_members}
 use Rattle.qc_index.proofs.Orders.{inserted-ordered, inserted-length}
 use Rattle.qc_index.proofs.TreeEdits.{joined}
 use Rattle.qc_index.proofs.index.Index.insert.Goals as goal
+
+same_members : {T : Type 0} (xs ys : List (Keyed T)) (n m : ℕ) → xs ≡ ys → n ≡ m → ◌≡◌ {A = Members T} record { items = xs; room = n } record { items = ys; room = m }
+same_members xs ys n m h k = rw (h, k) refl
 
 pub invariant_of-self : goal.invariant_of-self
 invariant_of-self g c =

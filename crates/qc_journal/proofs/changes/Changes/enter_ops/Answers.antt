@@ -4,7 +4,7 @@ use Rattle.std.specs.List.{list_any}
 use Rattle.std.proofs.lemmas.List.Folds.{list_any_more}
 use Rattle.qc_sql.specs.Database.{touches}
 use Rattle.qc_journal.specs.Indexed.{found}
-use Rattle.qc_journal.proofs.Numbers.{cond-cond, none_in_front}
+use Rattle.qc_journal.proofs.Numbers.{cond-cond, none_in_prefix}
 use Rattle.qc_journal.proofs.changes.Changes.enter_ops.Goals as goal
 
 pub loop-op-preserved : goal.loop-op-preserved
@@ -28,4 +28,4 @@ pub returns-in_err-enter_op-clause-others : goal.returns-in_err-enter_op-clause-
 returns-in_err-enter_op-clause-others c = λ t none.
     ap (found t) c.in_err-enter_op.ensures.err
     ∙ (c.loop-op.invariant.found t
-    ∙ ap (λ b. cond b c.args.number (found t c.args.self.now)) (none_in_front (touches t) c.args.ops.now c.loop-op.op-index none))
+    ∙ ap (λ b. cond b c.args.number (found t c.args.self.now)) (none_in_prefix (touches t) c.args.ops.now c.loop-op.op-index none))

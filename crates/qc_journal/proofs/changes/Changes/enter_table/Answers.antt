@@ -20,7 +20,7 @@ returns-in-Some-clause-ok c =
     let new : Changes = record { databases = c.get_mut.follows.lender tables; entered = old.entered } in
     let db = c.args.table.now.db in
     let name = c.args.table.now.name in
-    let ends = rw c.bytes.ensures at (c.get_mut.follows.holds tables) in
+    let ends = rw c.bytes.ensures at (c.get_mut.follows.holds tables).0 in
     let there = rw c.bytes.ensures at c.in-Some.ensures.value in
     on_ok_weaker c.enter.result (λ entered t.
     found-entered old new db tables (λ q. ap (at_name q) ends ∙ at_name-set q db tables old.databases (sym (ap is_some there))) t name c.args.number
@@ -30,7 +30,7 @@ pub returns-in-Some-clause-err : goal.returns-in-Some-clause-err
 returns-in-Some-clause-err c =
     let old = c.args.self.now in
     let db = c.args.table.now.db in
-    let ends = rw c.bytes.ensures at (c.get_mut.follows.holds c.enter.new.self) in
+    let ends = rw c.bytes.ensures at (c.get_mut.follows.holds c.enter.new.self).0 in
     let there = rw c.bytes.ensures at c.in-Some.ensures.value in
     on_err_weaker c.enter.result (λ same.
     ap (λ m. let r : Changes = record { databases = m; entered = old.entered } in r)

@@ -15,7 +15,7 @@ returns-in-Some-clause-ok c =
     let new : InDatabase = record { dropped = old.dropped; tables = c.get_mut.follows.lender c.args.number } in
     λ q.
     number_in-entered q c.args.name.now c.args.number old new refl
-    (ap (at_name q) (c.get_mut.follows.holds c.args.number) ∙ at_name-set q c.args.name.now c.args.number old.tables (sym (ap is_some c.in-Some.ensures.value)))
+    (ap (at_name q) (c.get_mut.follows.holds c.args.number).0 ∙ at_name-set q c.args.name.now c.args.number old.tables (sym (ap is_some c.in-Some.ensures.value)))
 
 pub returns-in-None-clause-ok : goal.returns-in-None-clause-ok
 returns-in-None-clause-ok c =

@@ -4,7 +4,7 @@ use Rattle.std.specs.Prelude.{Some}
 use Rattle.qc_lex.specs.Fronts.{Skips, Gives}
 use Rattle.qc_lex.specs.Ahead.{fault}
 use Rattle.qc_lex.proofs.LexLoop.{shown_within}
-use Rattle.qc_lex.proofs.NextTokens.{ended, skipped, given, faulted, from_front, farther, lends}
+use Rattle.qc_lex.proofs.NextTokens.{ended, skipped, given, faulted, from_front, farther, borrows}
 use Rattle.qc_lex.proofs.place.Lexer.next.Goals as goal
 
 pub skips-init : goal.skips-init
@@ -79,6 +79,6 @@ invariant_of-self c = record {
 pub returns-in-Gives : goal.returns-in-Gives
 returns-in-Gives c = record {
   ahead = c.skips.invariant.so_far ∙ given c.args.self.now.ansi c.skips.at c.skips.rest.now c.in-Gives.bytes c.in-Gives.kind _ c.in-Gives.ensures c.said_by-what.ensures.says;
-  bytes = (c.skips.invariant.on, lends c.skips.at c.args.self.now.at c.in-Gives.bytes c.args.self.now.rest.now c.skips.rest.now c.skips.invariant.rest c.said_by-what.result c.said_by-what.ensures.lent);
+  bytes = (c.skips.invariant.on, borrows c.skips.at c.args.self.now.at c.in-Gives.bytes c.args.self.now.rest.now c.skips.rest.now c.skips.invariant.rest c.said_by-what.result c.said_by-what.ensures.borrowed);
   stands = (refl, refl, farther c.skips.at c.args.self.now.at c.in-Gives.bytes c.args.self.now.rest.now c.skips.rest.now c.skips.invariant.on c.skips.invariant.rest);
 }

@@ -2,7 +2,7 @@ use Rattle.std.proofs.Common.{sym, ◌∙◌, ap, List}
 use Rattle.std.proofs.lemmas.List.{drop_all}
 use Rattle.qc_sql.specs.declared.tables.Column.{Column}
 use Rattle.qc_resolve.specs.Columns.{spots_from}
-use Rattle.qc_resolve.specs.Judged.{with_spots}
+use Rattle.qc_resolve.specs.Validated.{with_spots}
 use Rattle.qc_resolve.proofs.Shows.{spot_on}
 use Rattle.qc_resolve.proofs.items.Shown.add_table.Goals as goal
 

@@ -1,6 +1,6 @@
 use Rattle.std.proofs.Common.{◌≡◌, drop}
 use Rattle.qc_resolve.specs.Columns.{spots_from}
-use Rattle.qc_resolve.specs.Judged.{with_spots}
+use Rattle.qc_resolve.specs.Validated.{with_spots}
 use Rattle.qc_resolve.proofs.items.Shown.add_table.Given as goal
 
 abbrev pub invariant-loop-i : goal.invariant-loop-i

@@ -1,10 +1,10 @@
-use Rattle.std.proofs.Common.{◌≡◌, List, None, refl, sym, subst}
+use Rattle.std.proofs.Common.{◌≡◌, None, refl, sym, subst}
 use Rattle.qc_types.specs.declared.sql_error.SqlError.{SqlError}
 use Rattle.qc_model.specs.Session.{with_transaction}
 use Rattle.qc_model.specs.Machine.{Given, other, refused}
-use Rattle.qc_bounds.specs.Replies.{FitsError}
+use Rattle.qc_laws.specs.sizes.Replies.{FitsError}
 use Rattle.qc_single.specs.Sound.{next_who}
-use Rattle.qc_trx.specs.Standings.{Standing}
+use Rattle.qc_trx.specs.SnapshotStates.{SnapshotState}
 use Rattle.qc_single.specs.Going.{GivesOut}
 use Rattle.qc_single.proofs.Conflicts.{conflict_is_commit}
 use Rattle.qc_single.proofs.Endings.{full_ends, full_fits}
@@ -29,4 +29,4 @@ returns-in_ok-table_full-in-Full c = λ go.
     let ends = rw c.in-Full.is at c.requires.ends in
     on_ok c.log_error.result (λ out. subst (λ (g : Given). GivesOut old new g) (full_ends old.journal.events old.state.state c.in-Full.table go ends.0 ends.1)
     (subst (λ (e : SqlError). GivesOut old new (other who (with_transaction old.state.state None) (refused e))) c.in_ok-table_full-in-Full.ensures
-    (subst (λ (x : Standing). GivesOut old new (other who x.state (refused c.in_ok-table_full-in-Full.field-0))) c.clear.ensures (moved old _ new _ (record { journal = refl; lines = refl; options = refl }) out)))) c.log_error.ensures
+    (subst (λ (x : SnapshotState). GivesOut old new (other who x.state (refused c.in_ok-table_full-in-Full.field-0))) c.clear.ensures (moved old _ new _ (record { journal = refl; lines = refl; options = refl }) out)))) c.log_error.ensures

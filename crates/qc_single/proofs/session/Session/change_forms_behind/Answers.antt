@@ -1,11 +1,12 @@
 use Rattle.std.proofs.Common.{◌≡◌, sym, subst, Ok, Err, Result}
 use Rattle.qc_types.specs.declared.sql_error.SqlError.{SqlError}
 use Rattle.qc_sql.specs.Effects.{Effect, effect}
-use Rattle.qc_bounds.proofs.Changes.{change_errors_fit}
-use Rattle.qc_fits.proofs.RowChanges.{forms_change}
+use Rattle.qc_laws.proofs.sizes.Changes.{change_errors_fit}
+use Rattle.qc_laws.proofs.fits.RowChanges.{forms_change}
 use Rattle.qc_model.specs.Session.{own_operations}
-use Rattle.qc_model.specs.Machine.{Given}
-use Rattle.qc_single.specs.Going.{GivesOut, forms_given}
+use Rattle.qc_model.specs.Machine.{Given, form_given}
+use Rattle.qc_single.specs.Going.{GivesOut}
+use Rattle.qc_single.specs.Sound.{next_who}
 use Rattle.qc_single.proofs.TableChanges.{orderly_behind, change_follows, forms_refused}
 use Rattle.qc_single.proofs.Methods.{on_ok}
 use Rattle.qc_single.proofs.session.Session.change_forms_behind.Goals as goal
@@ -44,7 +45,7 @@ returns-in-Ok g c =
     let state = fit.state in
     let is : effect c.args.statement.now c.args.database.now st.db 1 ≡ Ok c.in-Ok.effect = rw c.db.ensures at c.in-Ok.ensures in
     let its : effect c.args.statement.now c.args.database.now st.db st.session ≡ Ok c.in-Ok.effect = rw state.session is in
-    on_ok c.commit_forms.result (λ out. subst (λ (r : Result Effect SqlError). GivesOut old c.commit_forms.new.self (forms_given old.journal.events st (own_operations st) r)) (sym its) out) c.commit_forms.ensures
+    on_ok c.commit_forms.result (λ out. subst (λ (r : Result Effect SqlError). GivesOut old c.commit_forms.new.self (form_given (next_who old.journal.events) st (own_operations st) r)) (sym its) out) c.commit_forms.ensures
 
 pub returns-in-Err-Other : goal.returns-in-Err-Other
 returns-in-Err-Other g c =

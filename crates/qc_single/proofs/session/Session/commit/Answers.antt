@@ -1,7 +1,7 @@
 use Rattle.std.proofs.Common.{List, None, sym, subst}
 use Rattle.qc_sql.specs.declared.tables.RowOp.{RowOp}
 use Rattle.qc_model.specs.Session.{State, with_transaction}
-use Rattle.qc_model.specs.Machine.{begun, committed, ok_reply}
+use Rattle.qc_model.specs.Machine.{committed, ok_reply}
 use Rattle.qc_single.specs.Sound.{next_who, MayFollow}
 use Rattle.qc_single.proofs.Endings.{ended_follows}
 use Rattle.qc_single.proofs.session.Session.commit.Goals as goal

@@ -1,4 +1,4 @@
-use Rattle.std.proofs.Common.{◌∙◌, ap, Ok}
+use Rattle.std.proofs.Common.{◌∙◌}
 use Rattle.qc_single.proofs.Methods.{on_ok}
 use Rattle.qc_single.proofs.session.Session.execute_statement.Goals as goal
 

@@ -1,6 +1,6 @@
 use Rattle.std.proofs.Common.{arith}
 use Rattle.qc_parse.specs.Refusals.{as_meant}
-use Rattle.qc_bounds.proofs.Parsed.{parsed_names_are_short}
+use Rattle.qc_laws.proofs.sizes.Parsed.{parsed_names_are_short}
 use Rattle.qc_single.proofs.Trimmed.{trimmed_below}
 use Rattle.qc_single.proofs.Told.{is_told}
 use Rattle.qc_single.proofs.session.Session.parse_and_execute.Goals as goal

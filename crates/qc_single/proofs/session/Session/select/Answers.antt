@@ -2,12 +2,12 @@ use Rattle.std.proofs.Common.{◌≡◌, ◌∙◌, List, length, sym, ap, subst
 use Rattle.std.specs.Prelude.{◌==◌}
 use Rattle.qc_sql.specs.declared.statements.Source.{Source}
 use Rattle.qc_single.specs.declared.session.Session.{Session}
-use Rattle.qc_single.specs.Going.{Arrives, IsFit, SelectsOut}
+use Rattle.qc_single.specs.Going.{Arrives, SelectsOut}
 use Rattle.qc_single.specs.Choosing.{Comes}
-use Rattle.qc_single.proofs.Hitting.{arrived_in, arrived_fit, arrived_is}
+use Rattle.qc_single.proofs.Hitting.{arrived_in, arrived_is}
 use Rattle.qc_single.proofs.Methods.{on_ok}
-use Rattle.qc_single.proofs.Offers.{comes_arrived, comes_plain}
-use Rattle.qc_single.proofs.Statements.{arrived_select, plain_select, some_there, none_there}
+use Rattle.qc_single.proofs.Offers.{arrived_select, comes_arrived, comes_plain, plain_select}
+use Rattle.qc_single.proofs.Statements.{some_there}
 use Rattle.qc_single.proofs.session.Session.select.Goals.{then-not-is_empty+in_ok-arrive, else-not-is_empty}
 use Rattle.qc_single.proofs.session.Session.select.Goals as goal
 
@@ -35,10 +35,10 @@ returns g c =
     elim c.if-not-is_empty.branch [
       | then-not-is_empty+in_ok-arrive w ↦
           on_ok c.select_now.result
-          (arrived_select s text old c.if-not-is_empty.self new c.requires.fit (some_there (length s.from) (empty ∙ w.if-not-is_empty.true)) (subst (λ (m : Session). Arrives old m) (sym w.self-is) w.in_ok-arrive.ensures) c.requires.means)
+          (arrived_select s text old c.if-not-is_empty.self new c.requires.fit (some_there (length s.from) (empty ∙ w.if-not-is_empty.true)) (subst (λ (m : Session). Arrives old m) (sym w.self-is) w.in_ok-arrive.ensures) c.requires.means c.requires.none)
           c.select_now.ensures
       | else-not-is_empty w ↦
           on_ok c.select_now.result
-          (λ out. plain_select s text old new c.requires.fit (none_there (length s.from) (empty ∙ w.if-not-is_empty.false)) c.requires.means (subst (λ (m : Session). SelectsOut m new text s) w.self-is out))
+          (λ out. plain_select s text old new c.requires.fit (empty ∙ w.if-not-is_empty.false) c.requires.means c.requires.none (subst (λ (m : Session). SelectsOut m new text s) w.self-is out))
           c.select_now.ensures
     ]

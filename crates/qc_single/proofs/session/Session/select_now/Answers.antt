@@ -5,8 +5,8 @@ use Rattle.qc_sql.specs.Database.{Database}
 use Rattle.qc_sql.specs.Packets.{packets}
 use Rattle.qc_sql.specs.Rows.{Rows, rows}
 use Rattle.qc_model.specs.Session.{base, flags_of, select_reply}
-use Rattle.qc_bounds.specs.Replies.{is_bounded_database}
-use Rattle.qc_trx.specs.Standings.{seen_on}
+use Rattle.qc_laws.specs.sizes.Replies.{is_bounded_database}
+use Rattle.qc_trx.specs.SnapshotStates.{seen_on}
 use Rattle.qc_single.proofs.Methods.{on_ok}
 use Rattle.qc_single.proofs.Offered.{gives_error, gives_rows}
 use Rattle.qc_single.proofs.States.{base_is, orderly_base}

@@ -1,12 +1,11 @@
-use Rattle.std.proofs.Common.{◌≡◌, ◌∙◌, ◌+◌, ◌++◌, ◌∷◌, [], ℕ, List, refl, sym, ap, subst}
+use Rattle.std.proofs.Common.{◌≡◌, ◌∙◌, ◌+◌, ◌++◌, ◌∷◌, [], ℕ, List, refl, ap, subst}
 use Rattle.qc_model.specs.declared.events.Event.{Event}
 use Rattle.qc_model.specs.declared.events.Event.TheVariants as event
 use Rattle.qc_model.specs.declared.events.How.TheVariants as how
 use Rattle.qc_model.specs.declared.events.Who.{Who}
 use Rattle.qc_model.specs.Choice.{start_count}
-use Rattle.qc_kept.specs.declared.answers.KeptAnswer.{KeptAnswer}
+use Rattle.qc_single.specs.declared.entries.StoredEntry.{StoredEntry}
 use Rattle.qc_single.specs.declared.session.Session.{Session}
-use Rattle.qc_single.specs.Sound.{next_who}
 use Rattle.qc_single.specs.Going.{Adds}
 use Rattle.qc_single.specs.Choosing.{Fills}
 use Rattle.qc_single.proofs.Starting.{start_of, started}
@@ -17,7 +16,7 @@ returns c =
     let old = c.args.self.now in
     let J = old.journal.events in
     let n = start_count J + 1 in
-    let a : KeptAnswer = record { serial = n; key = c.args.key; tables = c.args.tables; packets = c.args.reply } in
+    let a : StoredEntry = record { serial = n; key = c.args.key; tables = c.args.tables; packets = c.args.reply } in
     let mid : Session = c.fill.new.self in
     let last : Session = c.log.new.self in
     let new : Session = record last { journal = c.push.new.self } in

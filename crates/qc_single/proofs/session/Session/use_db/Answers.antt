@@ -1,11 +1,11 @@
 use Rattle.std.proofs.Common.{◌≡◌, refl, sym, ◌∙◌, subst, true, None}
 use Rattle.std.specs.Prelude.{is_some}
 use Rattle.qc_sql.specs.Database.{Database, tables_of}
-use Rattle.qc_bounds.proofs.Answered.{unknown_database_fits}
-use Rattle.qc_fits.proofs.Maps.{some_there}
+use Rattle.qc_laws.proofs.sizes.Answered.{unknown_database_fits}
+use Rattle.qc_laws.proofs.fits.Maps.{some_there}
 use Rattle.qc_model.specs.Session.{base}
 use Rattle.qc_model.specs.Machine.{Given, ok_reply, other}
-use Rattle.qc_trx.specs.Standings.{Standing, in_database}
+use Rattle.qc_trx.specs.SnapshotStates.{SnapshotState, in_database}
 use Rattle.qc_single.specs.declared.session.Session.{Session}
 use Rattle.qc_single.specs.Sound.{next_who, IsFitState}
 use Rattle.qc_single.specs.Going.{GivesOut}
@@ -42,7 +42,7 @@ log_ok-requires c =
       words = fit.words;
       numbered = fit.numbered;
       reached = fit.reached;
-      state = subst (λ (x : Standing). IsFitState J x) (sym c.use_db.ensures) (rw c.in_ok-copy.ensures (fit_in_database J name old.state short fit.state));
+      state = subst (λ (x : SnapshotState). IsFitState J x) (sym c.use_db.ensures) (rw c.in_ok-copy.ensures (fit_in_database J name old.state short fit.state));
     }
 
 pub returns : goal.returns

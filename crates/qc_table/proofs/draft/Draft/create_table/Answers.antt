@@ -20,4 +20,4 @@ pub returns : goal.returns
 returns c =
     let found = rw (c.bytes.ensures, c.self.view_is) at c.in-Some.ensures.value in
     let ends = rw (c.bytes.ensures, c.self.view_is) at (c.get_mut.follows.holds c.insert.new.self) in
-    on_ok_weaker c.insert.result (λ made. changed _ _ _ _ _ _ ends found (made ∙ rw (c.bytes-2.ensures, c.in_ok-draft.ensures) refl)) c.insert.ensures
+    on_ok_weaker c.insert.result (λ made. changed _ _ _ _ _ _ ends found (made ∙ rw (c.bytes-2.ensures, c.in_ok-draft.ensures) refl)) c.insert.ensures.ok

@@ -11,6 +11,6 @@ returns-clause-found c =
     let keys = rw (c.deref.ensures, c.self.view_is) at c.keys.ensures in
     let bound = rw keys at c.binary_search.ensures.bound in
     let position = rw (keys, to_z-of_z w64 c.args.key c.ranges.key) at c.binary_search.ensures.position in
-    let ordered = rw c.self.view_is at c.self.invariant.ordered in
+    let ordered = rw c.self.view_is at c.self.invariant.sound.ordered in
     let at = found c.args.key rows c.binary_search.result ordered bound position in
     rw (c.ok.ensures.value, ← (length-keys_of rows)) at

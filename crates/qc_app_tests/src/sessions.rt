@@ -1,0 +1,334 @@
+//! Scripts of one session, each statement with its answer and the event that it leaves, worked out by hand.
+//!
+//! A text is a statement, but for three:
+//!
+//! ```text
+//! init NAME        COM_INIT_DB
+//! ping             COM_PING
+//! empty            a command of no bytes
+//! ```
+//!
+//! An answer is spelled in one of these ways. A status is 1 in a transaction, and 2 more with autocommit:
+//!
+//! ```text
+//! ok 2 status 3                      affected rows and status
+//! error 1062 Duplicate entry: 7      code and message
+//! rows 7,NULL;8,abc status 2         the rows of a result set, and its status
+//! no rows status 2                   a result set without rows
+//! ```
+//!
+//! And an event in one of these:
+//!
+//! ```text
+//! -                                  none
+//! other                              a command that is no SELECT and changed no data
+//! hit 1                              a SELECT, answered by the entry with this serial
+//! start 1 done                       a SELECT that begins an entry, which is completed
+//! start 1 gone 62 over 61            the same, where a prefix of its reply is longer than the limit
+//! plain off                          a SELECT outside the cache, and why: off, notasked, locking, notables, systemtable, function, written
+//! plain error 1146                   a SELECT that was refused
+//! commit put d.t 7,abc; del d.t 8    operations, in their order
+//! ```
+//!
+//! The other operations are `create d.t id BIGINT key, v VARCHAR(10), w BIGINT not null`, `drop d.t`, `createdb d` and `dropdb d`.
+//! A line of the session that has another place or word than its event says is an error too, and so is an event of another session or number.
+
+mod autocommit;
+mod cached;
+mod definitions;
+mod deletes;
+mod inserts;
+mod settings;
+mod show;
+mod texts;
+mod transactions;
+mod updates;
+
+ghost use Rattle.std.specs.Prelude.{◌≡◌, ◌≢◌, ◌<◌, ◌≤◌, length, IfOk};
+ghost use Rattle.qc_sql.specs.declared.commands.Command.TheVariants as sent;
+ghost use Rattle.qc_sql.specs.Commands.{command_payload};
+ghost use Rattle.qc_sql.specs.Packets.{most_payload};
+ghost use Rattle.qc_single.specs.Stage.{HasWords};
+
+use qc_app::{Event, ReportLine};
+use qc_single::{Finished, SingleSession};
+use qc_sql::commands::Command;
+use qc_types::{NoMemory, Options, Steps, Text};
+use show::{Left, put_answer, put_event};
+use std::alloc::Global;
+use std::marker::Brand;
+use std::sync::ledger::{Blank, Ledger};
+use std::test::Fail;
+
+/// A text, its answer and the event that it leaves.
+pub struct Step {
+    pub text: &'static str,
+    pub answer: &'static str,
+    pub event: &'static str,
+}
+
+/// The command that a text means.
+fn command_of(alloc: Global, text: &str) -> Result<Command, Fail>
+    ensures within { IfOk result (λ command. length (command_payload command) ≤ most_payload) }
+    ensures answered { IfOk result (λ command. command ≢ sent.Quit) }
+{
+    if text == "ping" {
+        return Ok(Command::Ping);
+    }
+    if text == "empty" {
+        return Ok(Command::Empty);
+    }
+    match text.strip_prefix("init ") {
+        Some(name) => Ok(Command::InitDb(short(alloc, name)?)),
+        None => Ok(Command::Query(short(alloc, text)?)),
+    }
+}
+
+/// A text of no more than 10,000 bytes.
+fn short(alloc: Global, text: &str) -> Result<Text, Fail>
+    ensures { IfOk result (λ t. length t ≤ 10000) }
+{
+    let bytes = text.as_bytes();
+    if bytes.len() > 10_000 {
+        return Err(Fail::from("a text is too long"));
+    }
+    Ok(Text::of(alloc, bytes)?)
+}
+
+/// What a command was answered and left, by its line and the events that are left.
+fn found_in(alloc: Global, line: &ReportLine, left: &mut Left) -> Result<Vec<u8>, NoMemory> {
+    let mut found = Vec::new(alloc);
+    put_answer(alloc, line, &mut found)?;
+    found.extend_from_slice(b" | ")?;
+    put_event(alloc, line, left, &mut found)?;
+    Ok(found)
+}
+
+/// What it should have.
+fn wanted_by(alloc: Global, step: &Step) -> Result<Vec<u8>, NoMemory> {
+    let mut wanted = Vec::from_slice(alloc, step.answer.as_bytes())?;
+    wanted.extend_from_slice(b" | ")?;
+    wanted.extend_from_slice(step.event.as_bytes())?;
+    Ok(wanted)
+}
+
+fn difference(alloc: Global, text: &str, found: &[u8], wanted: &[u8]) -> Result<String, NoMemory> {
+    let text = prefix(alloc, text.as_bytes())?;
+    let found = prefix(alloc, found)?;
+    let wanted = prefix(alloc, wanted)?;
+    Ok(format!(in alloc; "{text}\n    is  {found}\n    not {wanted}\n")?)
+}
+
+/// The first bytes of a text, to be printed.
+fn prefix(alloc: Global, text: &[u8]) -> Result<String, NoMemory> {
+    let prefix = text.get(..400).unwrap_or(text);
+    Ok(String::from_utf8_lossy(alloc, prefix)?)
+}
+
+/// Three lines for each text that was answered otherwise than it should, and one more where lines or events are left.
+fn differences_in(
+    alloc: Global,
+    script: &[Step],
+    lines: &[ReportLine],
+    events: &[Event],
+) -> Result<String, NoMemory> {
+    let mut differences = String::new(alloc);
+    let mut left = Left::of(events);
+    for (step, line) in script.iter().zip(lines) {
+        let found = found_in(alloc, line, &mut left)?;
+        let wanted = wanted_by(alloc, step)?;
+        if found.as_slice() != wanted.as_slice() {
+            let more = difference(alloc, step.text, found.as_slice(), wanted.as_slice())?;
+            differences.push_str(&more)?;
+        }
+    }
+    if lines.len() != script.len() {
+        differences.push_str("another number of lines\n")?;
+    }
+    if !left.is_empty() {
+        differences.push_str("events of no line\n")?;
+    }
+    Ok(differences)
+}
+
+/// The options with which a cache of this size keeps replies of so many bytes.
+fn options(size: u32, limit: u32) -> Options
+    ensures { result ≡ record { size = size; limit = limit; unit = 4096; kind = 1 } }
+{
+    Options {
+        size,
+        limit,
+        unit: 4096,
+        kind: 1,
+    }
+}
+
+/// What a session on an empty database answers and leaves otherwise than a script says.
+fn differences_with(alloc: Global, options: Options, script: &[Step]) -> Result<String, Fail>
+    requires words { HasWords options }
+{
+    differences_by::<Brand>(alloc, options, script, Blank::new(1))
+}
+
+/// The same, with the steps counted on this ledger.
+fn differences_by<L: Ledger>(
+    alloc: Global,
+    options: Options,
+    script: &[Step],
+    blank: Blank,
+) -> Result<String, Fail>
+    requires words { HasWords options }
+    requires name { blank.name ≡ L.name }
+    requires parts { blank.parts ≡ L.parts }
+    requires one { 0 < blank.parts }
+{
+    let mut steps = Steps::<L>::new(blank);
+    let mut session = SingleSession::new(alloc, options)?;
+    for step in script {
+        let command = command_of(alloc, step.text)?;
+        session = session.execute(alloc, &command, &mut steps)?;
+    }
+    let Finished { journal, lines, .. } = session.finish();
+    let events = journal.into_events();
+    Ok(differences_in(alloc, script, lines.items(), events.items())?)
+}
+
+/// What one without a cache answers and leaves otherwise.
+fn differences(alloc: Global, script: &[Step]) -> Result<String, Fail> {
+    differences_with(alloc, options(0, 1_048_576), script)
+}
+
+/// What one with a cache does, where it keeps replies of so many bytes.
+fn cached_differences(alloc: Global, limit: u32, script: &[Step]) -> Result<String, Fail> {
+    differences_with(alloc, options(1_048_576, limit), script)
+}
+
+/// The differences of several scripts, each on a session of its own.
+fn differences_of_all(alloc: Global, scripts: &[&[Step]]) -> Result<String, Fail> {
+    let mut lines = String::new(alloc);
+    for script in scripts {
+        let more = differences(alloc, script)?;
+        lines.push_str(&more)?;
+    }
+    Ok(lines)
+}
+
+#[test]
+fn rows_are_inserted(rt: HostRuntime) -> Result<(), Fail> {
+    let scripts = [
+        inserts::SETS_OF_ROWS,
+        inserts::KEYS_THAT_ARE_THERE,
+        inserts::REFUSED_VALUES,
+        inserts::FIRST_REFUSALS,
+    ];
+    let lines = differences_of_all(rt.alloc(), &scripts)?;
+    assert!(rt; lines.is_empty(), "{lines}");
+    Ok(())
+}
+
+#[test]
+fn rows_are_updated(rt: HostRuntime) -> Result<(), Fail> {
+    let scripts = [
+        updates::ASSIGNMENTS,
+        updates::UNKNOWN_CONDITIONS,
+        updates::FIRST_REFUSALS,
+    ];
+    let lines = differences_of_all(rt.alloc(), &scripts)?;
+    assert!(rt; lines.is_empty(), "{lines}");
+    Ok(())
+}
+
+#[test]
+fn rows_are_deleted(rt: HostRuntime) -> Result<(), Fail> {
+    let scripts = [deletes::SOME_AND_ALL, deletes::REFUSALS_AND_TRUNCATE];
+    let lines = differences_of_all(rt.alloc(), &scripts)?;
+    assert!(rt; lines.is_empty(), "{lines}");
+    Ok(())
+}
+
+#[test]
+fn tables_and_databases(rt: HostRuntime) -> Result<(), Fail> {
+    let scripts = [
+        definitions::DATABASES,
+        definitions::TABLES,
+        definitions::REFUSED_TABLES,
+    ];
+    let lines = differences_of_all(rt.alloc(), &scripts)?;
+    assert!(rt; lines.is_empty(), "{lines}");
+    Ok(())
+}
+
+#[test]
+fn begun_and_ended(rt: HostRuntime) -> Result<(), Fail> {
+    let scripts = [
+        transactions::ENDS,
+        transactions::BEGIN_INSIDE,
+        transactions::REFUSED_INSIDE,
+        transactions::DEFINITIONS_INSIDE,
+        transactions::REFUSED_DEFINITIONS_INSIDE,
+        transactions::TWO_DATABASES,
+    ];
+    let lines = differences_of_all(rt.alloc(), &scripts)?;
+    assert!(rt; lines.is_empty(), "{lines}");
+    Ok(())
+}
+
+#[test]
+fn without_autocommit(rt: HostRuntime) -> Result<(), Fail> {
+    let scripts = [autocommit::OPENING, autocommit::SWITCHES];
+    let lines = differences_of_all(rt.alloc(), &scripts)?;
+    assert!(rt; lines.is_empty(), "{lines}");
+    Ok(())
+}
+
+#[test]
+fn variables_are_set(rt: HostRuntime) -> Result<(), Fail> {
+    let scripts = [
+        settings::VARIABLES,
+        settings::ANSI_QUOTES,
+        settings::ROW_LIMIT,
+    ];
+    let lines = differences_of_all(rt.alloc(), &scripts)?;
+    assert!(rt; lines.is_empty(), "{lines}");
+    Ok(())
+}
+
+#[test]
+fn refused_texts_and_the_cache(rt: HostRuntime) -> Result<(), Fail> {
+    let scripts = [
+        texts::REFUSED_TEXTS,
+        texts::STATEMENTS_ON_THE_CACHE,
+        texts::WITHOUT_A_CACHE,
+    ];
+    let lines = differences_of_all(rt.alloc(), &scripts)?;
+    assert!(rt; lines.is_empty(), "{lines}");
+    Ok(())
+}
+
+#[test]
+fn the_cache_answers(rt: HostRuntime) -> Result<(), Fail> {
+    let mut lines = String::new(rt.alloc());
+    for script in [
+        cached::HITS,
+        cached::WRITES,
+        cached::KEYS,
+        cached::REASONS,
+        cached::TRANSACTIONS,
+    ] {
+        let more = cached_differences(rt.alloc(), 1_048_576, script)?;
+        lines.push_str(&more)?;
+    }
+    assert!(rt; lines.is_empty(), "{lines}");
+    Ok(())
+}
+
+#[test]
+fn replies_that_are_too_large(rt: HostRuntime) -> Result<(), Fail> {
+    let mut lines = cached_differences(rt.alloc(), 62, cached::OF_62_BYTES)?;
+    let of_61 = cached_differences(rt.alloc(), 61, cached::TOO_LARGE)?;
+    let of_46 = cached_differences(rt.alloc(), 46, cached::PREFIX_TOO_LARGE)?;
+    lines.push_str(&of_61)?;
+    lines.push_str(&of_46)?;
+    assert!(rt; lines.is_empty(), "{lines}");
+    Ok(())
+}

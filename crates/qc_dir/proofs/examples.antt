@@ -1,0 +1,2 @@
+mod Directory
+pub mod Entries

@@ -1,0 +1,13 @@
+//! Block memory and its directory by their public calls.
+#![tactic(auto)]
+
+#[cfg(test)]
+mod chains;
+#[cfg(test)]
+mod directory;
+#[cfg(test)]
+mod index;
+#[cfg(test)]
+mod tiles;
+#[cfg(test)]
+mod told;

@@ -1,0 +1,92 @@
+//! What is seen of a database besides by a SELECT.
+
+ghost use Rattle.std.specs.Prelude.{◌≡◌, ◌<◌};
+
+use super::tables::small;
+use super::{PLAIN, Report, Shown, table};
+use crate::told::{is_empty, must};
+use crate::words::table_name;
+use qc_sql::tables::Kind;
+use qc_table::{Database, TableVersion};
+use qc_types::{NoMemory, Steps};
+use std::alloc::Global;
+use std::marker::Brand;
+use std::sync::ledger::{Blank, Ledger};
+
+#[test]
+fn a_shared_database_stays(rt: HostRuntime) {
+    let alloc = rt.alloc();
+    let database = small(&rt, alloc);
+    let shared = must(&rt, database.share());
+    drop(database);
+    let mut report = Report::new(alloc, &shared, PLAIN, Shown::Rows);
+    must(&rt, report.compare_all(table::SOURCES));
+    is_empty(&rt, &report.lines);
+}
+
+#[test]
+fn names_of_tables(rt: HostRuntime) {
+    let database = small(&rt, rt.alloc());
+    let rows: [(&[u8], u64, Option<&[u8]>); 6] = [
+        (b"d", 0, Some(b"e")),
+        (b"d", 1, Some(b"s")),
+        (b"d", 2, Some(b"t")),
+        (b"d", 3, None),
+        (b"o", 0, Some(b"t")),
+        (b"none", 0, None),
+    ];
+    for (db, index, name) in rows {
+        assert_eq!(rt; database.table_at(db, index), name);
+    }
+}
+
+/// The numbers and the NULL bits of a column of numbers, where there is one at that index.
+fn column(alloc: Global, table: &TableVersion, index: u8) -> Result<String, NoMemory> {
+    column_by::<Brand>(alloc, table, index, Blank::new(1))
+}
+
+/// The same, with the steps counted on this ledger.
+fn column_by<L: Ledger>(
+    alloc: Global,
+    table: &TableVersion,
+    index: u8,
+    blank: Blank,
+) -> Result<String, NoMemory>
+    requires name { blank.name ≡ L.name }
+    requires parts { blank.parts ≡ L.parts }
+    requires one { 0 < blank.parts }
+{
+    let mut steps = Steps::<L>::new(blank);
+    let Some(named) = table.columns().items().get(usize::from(index)) else {
+        return Ok(String::from_str(alloc, "no column")?);
+    };
+    let kind = named.kind;
+    let column = table.column(index, &mut steps);
+    let nulls = column.nulls();
+    match kind {
+        Kind::Int => Ok(format!(in alloc; "{:?} {nulls:?}", column.values())?),
+        Kind::Str(_) => Ok(format!(in alloc; "{nulls:?}")?),
+    }
+}
+
+#[test]
+fn whole_columns(rt: HostRuntime) {
+    let alloc = rt.alloc();
+    let database: Database = small(&rt, alloc);
+    let rows: [(&[u8], u8, &str); 7] = [
+        (b"t", 0, "[-2, 1, 2, 3, 4, 7] [0]"),
+        (b"t", 1, "[-5, 0, 5, 5, 0, 0] [34]"),
+        (b"t", 2, "[4]"),
+        (b"t", 3, "no column"),
+        (b"s", 1, "[2, 2, -2, 0, 9] [8]"),
+        (b"s", 2, "[0]"),
+        (b"e", 0, "[] []"),
+    ];
+    for (name, index, shown) in rows {
+        let Some(table) = database.table(&must(&rt, table_name(alloc, b"d", name))) else {
+            panic!(rt; "no table");
+        };
+        let found = must(&rt, column(alloc, table, index));
+        assert_eq!(rt; found.as_str(), shown);
+    }
+}

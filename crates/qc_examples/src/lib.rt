@@ -1,2 +1,0 @@
-//! The definitions on small examples that were worked out by hand.
-#![tactic(auto)]

@@ -1,8 +1,0 @@
-use Rattle.qc_fits.proofs.Changes.{changes_fit, changes_stay_within}
-use Rattle.qc_fits.proofs.laws.changes_fit.Goals as goal
-
-pub returns-clause-fit : goal.returns-clause-fit
-returns-clause-fit c = changes_fit
-
-pub returns-clause-within : goal.returns-clause-within
-returns-clause-within c = changes_stay_within

@@ -1,0 +1,5 @@
+pub mod sizes
+pub mod fits
+pub mod history
+pub mod runs
+mod examples

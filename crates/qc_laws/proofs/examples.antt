@@ -1,0 +1,5 @@
+mod Answers
+mod Fits
+mod History
+mod Sessions
+mod Sizes

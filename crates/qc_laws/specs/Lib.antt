@@ -1,0 +1,4 @@
+pub mod sizes
+pub mod fits
+pub mod history
+pub mod runs

@@ -1,0 +1,2267 @@
+//! Texts and what each is read as, worked out by hand from the grammar.
+//!
+//! In a table a text stands on a line of its own, and below it stands, indented, what it is read as: the statement as `show` writes it, or the code of a refusal with its place or its word. Every other line says what the next texts are about.
+
+/// Parts of a select, there and not, and its items.
+pub const SELECTS: &str = r#"
+; as programs write them
+SELECT u.name, o.total FROM users AS u JOIN orders o ON o.user_id = u.id WHERE o.total IS NOT NULL ORDER BY o.total DESC LIMIT 10
+    SELECT u.name@7-13"u.name", o.total@15-22"o.total" FROM users:u, orders:o WHERE (AND (= o.user_id u.id) (NOT (NULL o.total))) ORDER o.total DESC LIMIT 0+10
+SELECT COUNT(*), SUM(total), MAX(total) FROM orders
+    SELECT COUNT(*)@7-15"COUNT(*)", SUM(total)@17-27"SUM(total)", MAX(total)@29-39"MAX(total)" FROM orders:orders
+SELECT id, v FROM a WHERE id = 1000042
+    SELECT id@7-9"id", v@11-12"v" FROM a:a WHERE (= id 1000042)
+; what it says of the cache
+SELECT *
+    SELECT *
+SELECT 1
+    SELECT 1@7-8"1"
+SELECT SQL_CACHE a FROM t
+    SELECT CACHE a@17-18"a" FROM t:t
+SELECT SQL_NO_CACHE * FROM t
+    SELECT NOCACHE * FROM t:t
+select sql_no_cache 1
+    SELECT NOCACHE 1@20-21"1"
+SELECT SQL_CACHE SQL_NO_CACHE 1
+    1064 17
+SELECT SQL_CACHE
+    1064 16
+SELECT a SQL_CACHE FROM t
+    1064 9
+; items
+SELECT
+    1064 6
+SELECT FROM t
+    1064 7
+SELECT *, a FROM t
+    1064 8
+SELECT a, * FROM t
+    1064 10
+SELECT t.* FROM t
+    1064 9
+SELECT a,
+    1064 9
+SELECT a, FROM t
+    1064 10
+SELECT , a
+    1064 7
+SELECT a, t.b, 1, 'x', NULL, -2
+    SELECT a@7-8"a", t.b@10-13"t.b", 1@15-16"1", 'x'@18-21"'x'", NULL@23-27"NULL", -2@29-31"-2"
+SELECT a b, c AS d FROM t
+    SELECT a AS b@7-8"a", c AS d@12-13"c" FROM t:t
+SELECT a AS `from`
+    SELECT a AS from@7-8"a"
+SELECT a AS from
+    1064 12
+SELECT a AS
+    1064 11
+SELECT a AS 'x'
+    1064 12
+SELECT a 'x'
+    1064 9
+SELECT a AS 1
+    1064 12
+SELECT a AS b c
+    1064 14
+SELECT a AS b.c
+    1064 13
+SELECT a AS b (c)
+    1064 14
+; columns
+SELECT t . a FROM t
+    SELECT t.a@7-12"t . a" FROM t:t
+SELECT a.b.c
+    1064 10
+SELECT a.
+    1064 9
+SELECT a.5
+    1064 9
+SELECT a.'b'
+    1064 9
+SELECT a.select
+    1064 9
+SELECT .a
+    1064 7
+; numbers with a sign
+SELECT - 5
+    SELECT -5@7-10"- 5"
+SELECT -5 a
+    SELECT -5 AS a@7-9"-5"
+SELECT -
+    1064 8
+SELECT -a
+    1064 8
+SELECT -'5'
+    1064 8
+SELECT --5
+    1064 8
+SELECT +5
+    1064 7
+SELECT 1.5
+    1064 8
+; conditions and brackets are no values
+SELECT (a) FROM t
+    1064 7
+SELECT (SELECT 1)
+    1064 7
+SELECT a = 1
+    1064 9
+SELECT a IS NULL
+    1064 9
+SELECT NOT a
+    1064 7
+SELECT a AND b
+    1064 9
+SELECT a IN (1)
+    1064 9
+SELECT a LIKE 'x'
+    1064 9
+; parts without FROM, and their order
+SELECT a FROM
+    1064 13
+SELECT a WHERE a = 1
+    1064 9
+SELECT a ORDER BY a
+    1064 9
+SELECT a JOIN t
+    1064 9
+SELECT a LIMIT 1
+    SELECT a@7-8"a" LIMIT 0+1
+SELECT a FOR UPDATE
+    SELECT a@7-8"a" LOCK
+SELECT a FROM t WHERE a=1 LIMIT 2
+    SELECT a@7-8"a" FROM t:t WHERE (= a 1) LIMIT 0+2
+SELECT * FROM t WHERE a = 1 ORDER BY a DESC LIMIT 1, 2 FOR UPDATE
+    SELECT * FROM t:t WHERE (= a 1) ORDER a DESC LIMIT 1+2 LOCK
+select A from T as X where A iS nOt nUlL oRdEr bY A dEsC lImIt 1 oFfSeT 2 lOcK iN sHaRe mOdE
+    SELECT A@7-8"A" FROM T:X WHERE (NOT (NULL A)) ORDER A DESC LIMIT 2+1 LOCK
+SELECT * FROM t WHERE
+    1064 21
+SELECT * FROM t WHERE a = 1 WHERE b = 1
+    1064 28
+SELECT * FROM t ORDER BY a WHERE b = 1
+    1064 27
+SELECT * FROM t LIMIT 1 ORDER BY a
+    1064 24
+SELECT * FROM t LIMIT 1 LIMIT 1
+    1064 24
+SELECT * FROM t SELECT 1
+    1064 16
+SELECT 1; SELECT 2
+    1064 8
+SELECT 1 )
+    1064 9
+; ORDER BY
+SELECT * FROM t ORDER BY a
+    SELECT * FROM t:t ORDER a
+SELECT * FROM t ORDER BY a ASC, t.b DESC, c
+    SELECT * FROM t:t ORDER a,t.b DESC,c
+SELECT * FROM t ORDER
+    1064 21
+SELECT * FROM t ORDER a
+    1064 22
+SELECT * FROM t ORDER BY
+    1064 24
+SELECT * FROM t ORDER BY 1
+    1064 25
+SELECT * FROM t ORDER BY 'a'
+    1064 25
+SELECT * FROM t ORDER BY NULL
+    1064 25
+SELECT * FROM t ORDER BY DESC
+    1064 25
+SELECT * FROM t ORDER BY a ASC DESC
+    1064 31
+SELECT * FROM t ORDER BY a,
+    1064 27
+SELECT * FROM t ORDER BY a b
+    1064 27
+SELECT * FROM t ORDER BY (a)
+    1064 25
+SELECT * FROM t ORDER BY NOW()
+    1064 28
+; LIMIT
+SELECT * LIMIT 2, 5
+    SELECT * LIMIT 2+5
+SELECT * LIMIT 5 OFFSET 2
+    SELECT * LIMIT 2+5
+SELECT * LIMIT 0
+    SELECT * LIMIT 0+0
+SELECT * LIMIT 18446744073709551615, 18446744073709551615
+    SELECT * LIMIT 18446744073709551615+18446744073709551615
+SELECT * LIMIT 18446744073709551616
+    1064 15
+SELECT * LIMIT
+    1064 14
+SELECT * LIMIT -1
+    1064 15
+SELECT * LIMIT a
+    1064 15
+SELECT * LIMIT '1'
+    1064 15
+SELECT * LIMIT NULL
+    1064 15
+SELECT * LIMIT 1,
+    1064 17
+SELECT * LIMIT 1, a
+    1064 18
+SELECT * LIMIT 1 OFFSET
+    1064 23
+SELECT * LIMIT 1 OFFSET -2
+    1064 24
+SELECT * LIMIT 1, 2 OFFSET 3
+    1064 20
+SELECT * LIMIT 1 OFFSET 2, 3
+    1064 25
+SELECT * OFFSET 1
+    1064 9
+SELECT * LIMIT 1 a
+    1064 17
+; locks
+SELECT * FROM t LOCK IN SHARE MODE
+    SELECT * FROM t:t LOCK
+SELECT * FROM t FOR
+    1064 19
+SELECT * FROM t FOR SHARE
+    1064 20
+SELECT * FROM t LOCK
+    1064 20
+SELECT * FROM t LOCK SHARE
+    1064 21
+SELECT * FROM t LOCK IN
+    1064 23
+SELECT * FROM t LOCK IN MODE
+    1064 24
+SELECT * FROM t LOCK IN SHARE
+    1064 29
+SELECT * FROM t LOCK IN SHARE t
+    1064 30
+SELECT * FROM t FOR UPDATE LIMIT 1
+    1064 27
+SELECT * FROM t FOR UPDATE LOCK IN SHARE MODE
+    1064 27
+"#;
+
+/// What stands behind FROM.
+pub const SOURCES: &str = r#"
+; tables and their names
+SELECT a FROM d.t
+    SELECT a@7-8"a" FROM d.t:t
+SELECT * FROM d.t AS x
+    SELECT * FROM d.t:x
+SELECT * FROM t x
+    SELECT * FROM t:x
+SELECT * FROM t AS x, u y, e . v
+    SELECT * FROM t:x, u:y, e.v:v
+SELECT * FROM t, t
+    SELECT * FROM t:t, t:t
+SELECT * FROM 't'
+    1064 14
+SELECT * FROM 5
+    1064 14
+SELECT * FROM (t)
+    1064 14
+SELECT * FROM (SELECT 1)
+    1064 14
+SELECT * FROM t AS
+    1064 18
+SELECT * FROM t AS on
+    1064 19
+SELECT * FROM t AS 'x'
+    1064 19
+SELECT * FROM t x y
+    1064 18
+SELECT * FROM a.b.c
+    1064 17
+SELECT * FROM a.
+    1064 16
+SELECT * FROM a.*
+    1064 16
+SELECT * FROM a.5
+    1064 16
+SELECT * FROM t AS x.y
+    1064 20
+SELECT * FROM t,
+    1064 16
+SELECT * FROM t, WHERE a = 1
+    1064 17
+SELECT * FROM t + 1
+    1064 16
+SELECT * FROM t (a)
+    1064 16
+; joins, with their conditions before that of WHERE
+SELECT * FROM t JOIN u ON t.a = u.b
+    SELECT * FROM t:t, u:u WHERE (= t.a u.b)
+SELECT * FROM t INNER JOIN d.u AS x ON a = 1
+    SELECT * FROM t:t, d.u:x WHERE (= a 1)
+SELECT * FROM t AS x JOIN u y ON a = 1
+    SELECT * FROM t:x, u:y WHERE (= a 1)
+SELECT * FROM t JOIN u ON a = 1 WHERE b = 2
+    SELECT * FROM t:t, u:u WHERE (AND (= a 1) (= b 2))
+SELECT * FROM t JOIN u ON a = 1 AND b = 2
+    SELECT * FROM t:t, u:u WHERE (AND (= a 1) (= b 2))
+SELECT * FROM t JOIN u ON a = 1 AND b = 2 WHERE c = 3 AND d = 4
+    SELECT * FROM t:t, u:u WHERE (AND (AND (= a 1) (= b 2)) (AND (= c 3) (= d 4)))
+SELECT * FROM t JOIN u ON a = 1 OR b = 2 JOIN v ON c = 3
+    SELECT * FROM t:t, u:u, v:v WHERE (AND (OR (= a 1) (= b 2)) (= c 3))
+SELECT * FROM t JOIN u ON a = 1 JOIN v ON b = 2 WHERE c = 3
+    SELECT * FROM t:t, u:u, v:v WHERE (AND (= a 1) (= b 2) (= c 3))
+SELECT * FROM t, u JOIN v ON a = 1, w WHERE b = 2
+    SELECT * FROM t:t, u:u, v:v, w:w WHERE (AND (= a 1) (= b 2))
+SELECT * FROM t JOIN u ON NOT a = 1 ORDER BY a
+    SELECT * FROM t:t, u:u WHERE (NOT (= a 1)) ORDER a
+SELECT * FROM t JOIN u ON a BETWEEN 1 AND 2 AND b = 3
+    SELECT * FROM t:t, u:u WHERE (AND (BETWEEN a 1 2) (= b 3))
+SELECT * FROM JOIN u ON a = 1
+    1064 14
+SELECT * FROM t JOIN
+    1064 20
+SELECT * FROM t JOIN u
+    1064 22
+SELECT * FROM t JOIN u WHERE a = 1
+    1064 23
+SELECT * FROM t JOIN u, v ON a = 1
+    1064 22
+SELECT * FROM t JOIN u JOIN v ON a = 1
+    1064 23
+SELECT * FROM t JOIN u ON
+    1064 25
+SELECT * FROM t JOIN u ON WHERE a = 1
+    1064 26
+SELECT * FROM t JOIN u ON a
+    1064 27
+SELECT * FROM t JOIN u ON a = 1 ON b = 2
+    1064 32
+SELECT * FROM t JOIN u USING (a)
+    1064 29
+SELECT * FROM t INNER
+    1064 21
+SELECT * FROM t INNER u ON a = 1
+    1064 22
+SELECT * FROM t INNER , u
+    1064 22
+SELECT * FROM t, JOIN u ON a = 1
+    1064 17
+SELECT * FROM t ON a = 1
+    1064 16
+SELECT * FROM t, u ON a = 1
+    1064 19
+; eight sources and nine
+SELECT * FROM a, b, c, d, e, f, g, h
+    SELECT * FROM a:a, b:b, c:c, d:d, e:e, f:f, g:g, h:h
+SELECT * FROM a, b, c, d, e, f, g, h, i
+    1116
+SELECT * FROM a, b, c, d, e, f, g, h, d.i
+    1116
+SELECT * FROM a, b, c, d, e, f, g, h, i i i
+    1116
+SELECT * FROM a, b, c, d, e, f, g, h, i AS
+    1116
+SELECT * FROM a, b, c, d, e, f, g, h, i, j
+    1116
+SELECT * FROM a, b, c, d, e, f, g, h, i UNION SELECT 1
+    1116
+SELECT * FROM a, b, c, d, e, f, g, h JOIN i
+    1116
+SELECT * FROM a, b, c, d, e, f, g, h INNER JOIN i ON
+    1116
+SELECT * FROM a, b, c, d, e, f, g, h,
+    1064 37
+SELECT * FROM a, b, c, d, e, f, g, h, 5
+    1064 38
+SELECT * FROM a, b, c, d, e, f, g, h, i.
+    1064 40
+SELECT * FROM a, b, c, d, e, f, g, h, i.5
+    1064 40
+SELECT * FROM a, b, c, d, e, f, g, h, i @
+    1064 40
+SELECT * FROM a, b, c, d, e, f, g, h, i '
+    1064 40
+SELECT * FROM a, b, c, d, e, f, g, h, i /*! x */
+    1235 executable comment
+SELECT * FROM a JOIN b ON x = 1 JOIN c ON x = 2 JOIN d ON x = 3 JOIN e ON x = 4 JOIN f ON x = 5 JOIN g ON x = 6 JOIN h ON x = 7
+    SELECT * FROM a:a, b:b, c:c, d:d, e:e, f:f, g:g, h:h WHERE (AND (= x 1) (= x 2) (= x 3) (= x 4) (= x 5) (= x 6) (= x 7))
+SELECT * FROM a JOIN b ON x = 1 JOIN c ON x = 2 JOIN d ON x = 3 JOIN e ON x = 4 JOIN f ON x = 5 JOIN g ON x = 6 JOIN h ON x = 7 JOIN i ON x = 8
+    1116
+SELECT * FROM a JOIN b ON x = 1 JOIN c ON x = 2 JOIN d ON x = 3 JOIN e ON x = 4 JOIN f ON x = 5 JOIN g ON x = 6 JOIN h ON x = 7, i
+    1116
+"#;
+
+/// Aggregates and other functions.
+pub const CALLS: &str = r#"
+; aggregates
+SELECT COUNT(*) FROM t
+    SELECT COUNT(*)@7-15"COUNT(*)" FROM t:t
+SELECT count ( * ) n
+    SELECT COUNT(*) AS n@7-18"count ( * )"
+SELECT COUNT(a), COUNT(1), COUNT(NULL), COUNT(LENGTH(a))
+    SELECT COUNT(a)@7-15"COUNT(a)", COUNT(1)@17-25"COUNT(1)", COUNT(NULL)@27-38"COUNT(NULL)", COUNT(LENGTH(a))@40-56"COUNT(LENGTH(a))"
+SELECT SUM(a), MIN(t.a), MAX( a )
+    SELECT SUM(a)@7-13"SUM(a)", MIN(t.a)@15-23"MIN(t.a)", MAX(a)@25-33"MAX( a )"
+SELECT COUNT, sum, Min AS max, t.count FROM count
+    SELECT COUNT@7-12"COUNT", sum@14-17"sum", Min AS max@19-22"Min", t.count@31-38"t.count" FROM count:count
+SELECT SUM(count), COUNT.a
+    SELECT SUM(count)@7-17"SUM(count)", COUNT.a@19-26"COUNT.a"
+SELECT COUNT(
+    1064 13
+SELECT COUNT(*
+    1064 14
+SELECT COUNT(a
+    1064 14
+SELECT COUNT()
+    1064 13
+SELECT COUNT(a, b)
+    1064 14
+SELECT COUNT(*, a)
+    1064 14
+SELECT COUNT(* + 1)
+    1064 15
+SELECT COUNT((a))
+    1064 13
+SELECT SUM(1)
+    1064 11
+SELECT SUM('a')
+    1064 11
+SELECT SUM(-1)
+    1064 11
+SELECT SUM(*)
+    1064 11
+SELECT SUM()
+    1064 11
+SELECT SUM(NULL)
+    1064 11
+SELECT MIN(a, b)
+    1064 12
+SELECT MAX(a.b.c)
+    1064 14
+SELECT MAX(a
+    1064 12
+SELECT `count`(*)
+    1064 14
+; aggregates where none may stand
+SELECT SUM(MIN(a))
+    1064 14
+SELECT MAX(LENGTH(a))
+    1064 17
+SELECT MIN(DATABASE())
+    1064 11
+SELECT COUNT(SUM(a))
+    1064 13
+SELECT COUNT(COUNT(*))
+    1064 13
+SELECT COUNT(LENGTH(MAX(a)))
+    1064 20
+SELECT COUNT(CONCAT(a, COUNT(*)))
+    1064 23
+SELECT * FROM t WHERE COUNT(*) > 1
+    1064 22
+SELECT * FROM t WHERE a > SUM(b)
+    1064 26
+SELECT * FROM t WHERE NOT min(a) = 1
+    1064 26
+SELECT * FROM t WHERE (MAX(a) = 1)
+    1064 23
+SELECT * FROM t WHERE LENGTH(MAX(a)) = 1
+    1064 29
+SELECT * FROM t WHERE a IN (COUNT(*))
+    1064 28
+SELECT * FROM t WHERE a BETWEEN 1 AND MAX(b)
+    1064 38
+SELECT * FROM t WHERE COUNT(
+    1064 22
+SELECT * FROM t JOIN u ON MIN(a) = 1
+    1064 26
+DELETE FROM t WHERE COUNT(*) = 1
+    1064 20
+SELECT * FROM t ORDER BY COUNT(*)
+    1064 30
+SELECT * FROM t WHERE count = sum
+    SELECT * FROM t:t WHERE (= count sum)
+; LENGTH and CONCAT
+SELECT LENGTH(a), CONCAT(a), CONCAT(a, '-', 1, NULL)
+    SELECT LENGTH(a)@7-16"LENGTH(a)", CONCAT(a)@18-27"CONCAT(a)", CONCAT(a,'-',1,NULL)@29-52"CONCAT(a, '-', 1, NULL)"
+SELECT LENGTH(COUNT(*)), concat(MIN(a), SUM(b)), NOW(MAX(a))
+    SELECT LENGTH(COUNT(*))@7-23"LENGTH(COUNT(*))", CONCAT(MIN(a),SUM(b))@25-47"concat(MIN(a), SUM(b))", CALL NOW(MAX(a))@49-60"NOW(MAX(a))"
+SELECT length, concat FROM t
+    SELECT length@7-13"length", concat@15-21"concat" FROM t:t
+SELECT LENGTH()
+    1064 14
+SELECT LENGTH(*)
+    1064 14
+SELECT LENGTH(a, b)
+    1064 15
+SELECT LENGTH(a
+    1064 15
+SELECT CONCAT()
+    1064 14
+SELECT CONCAT(a,)
+    1064 16
+SELECT CONCAT(a b)
+    1064 16
+SELECT CONCAT(a,
+    1064 16
+; other functions
+SELECT NOW()
+    SELECT CALL NOW()@7-12"NOW()"
+SELECT now ( a , 1 ) FROM t
+    SELECT CALL now(a,1)@7-20"now ( a , 1 )" FROM t:t
+SELECT UNIX_TIMESTAMP(1), ENCRYPT(), Encrypt(a, b)
+    SELECT CALL UNIX_TIMESTAMP(1)@7-24"UNIX_TIMESTAMP(1)", CALL ENCRYPT()@26-35"ENCRYPT()", CALL Encrypt(a,b)@37-50"Encrypt(a, b)"
+SELECT RAND(RAND(1))
+    SELECT CALL RAND(CALL RAND(1))@7-20"RAND(RAND(1))"
+SELECT AES_DECRYPT(), AES_ENCRYPT(), BENCHMARK(), CONNECTION_ID(), CONVERT_TZ(), CURDATE(), CURRENT_DATE(), CURRENT_TIME()
+    SELECT CALL AES_DECRYPT()@7-20"AES_DECRYPT()", CALL AES_ENCRYPT()@22-35"AES_ENCRYPT()", CALL BENCHMARK()@37-48"BENCHMARK()", CALL CONNECTION_ID()@50-65"CONNECTION_ID()", CALL CONVERT_TZ()@67-79"CONVERT_TZ()", CALL CURDATE()@81-90"CURDATE()", CALL CURRENT_DATE()@92-106"CURRENT_DATE()", CALL CURRENT_TIME()@108-122"CURRENT_TIME()"
+SELECT CURRENT_TIMESTAMP(), CURRENT_USER(), CURTIME(), DATABASE(), FOUND_ROWS(), GET_LOCK(), IS_FREE_LOCK(), IS_USED_LOCK()
+    SELECT CALL CURRENT_TIMESTAMP()@7-26"CURRENT_TIMESTAMP()", CALL CURRENT_USER()@28-42"CURRENT_USER()", CALL CURTIME()@44-53"CURTIME()", CALL DATABASE()@55-65"DATABASE()", CALL FOUND_ROWS()@67-79"FOUND_ROWS()", CALL GET_LOCK()@81-91"GET_LOCK()", CALL IS_FREE_LOCK()@93-107"IS_FREE_LOCK()", CALL IS_USED_LOCK()@109-123"IS_USED_LOCK()"
+SELECT LAST_INSERT_ID(), LOAD_FILE(), MASTER_POS_WAIT(), NOW(), PASSWORD(), RAND(), RANDOM_BYTES(), RELEASE_ALL_LOCKS()
+    SELECT CALL LAST_INSERT_ID()@7-23"LAST_INSERT_ID()", CALL LOAD_FILE()@25-36"LOAD_FILE()", CALL MASTER_POS_WAIT()@38-55"MASTER_POS_WAIT()", CALL NOW()@57-62"NOW()", CALL PASSWORD()@64-74"PASSWORD()", CALL RAND()@76-82"RAND()", CALL RANDOM_BYTES()@84-98"RANDOM_BYTES()", CALL RELEASE_ALL_LOCKS()@100-119"RELEASE_ALL_LOCKS()"
+SELECT RELEASE_LOCK(), SLEEP(), SYSDATE(), USER(), UUID(), UUID_SHORT(), ENCRYPT(), UNIX_TIMESTAMP()
+    SELECT CALL RELEASE_LOCK()@7-21"RELEASE_LOCK()", CALL SLEEP()@23-30"SLEEP()", CALL SYSDATE()@32-41"SYSDATE()", CALL USER()@43-49"USER()", CALL UUID()@51-57"UUID()", CALL UUID_SHORT()@59-71"UUID_SHORT()", CALL ENCRYPT()@73-82"ENCRYPT()", CALL UNIX_TIMESTAMP()@84-100"UNIX_TIMESTAMP()"
+SELECT now, user.rand FROM sleep
+    SELECT now@7-10"now", user.rand@12-21"user.rand" FROM sleep:sleep
+SELECT NOW(
+    1064 11
+SELECT NOW(a
+    1064 12
+SELECT NOW(a,)
+    1064 13
+SELECT NOW(, a)
+    1064 11
+SELECT NOW(*)
+    1064 11
+SELECT NOW((a))
+    1064 11
+SELECT NOW()()
+    1064 12
+SELECT NOW().a
+    1064 12
+SELECT `now`()
+    1064 12
+SELECT a.now()
+    1064 12
+; DATABASE is a function before a bracket, and otherwise reserved
+SELECT DATABASE()
+    SELECT CALL DATABASE()@7-17"DATABASE()"
+SELECT database ( ) d
+    SELECT CALL database() AS d@7-19"database ( )"
+SELECT DATABASE(1), `database`
+    SELECT CALL DATABASE(1)@7-18"DATABASE(1)", database@20-30"`database`"
+SELECT * FROM t WHERE DATABASE() = 'd'
+    SELECT * FROM t:t WHERE (= CALL DATABASE() 'd')
+SELECT DATABASE
+    1064 15
+SELECT DATABASE FROM t
+    1064 16
+SELECT DATABASE.a
+    1064 15
+SELECT DATABASE, a
+    1064 15
+SELECT DATABASE + 1
+    1064 16
+SELECT a DATABASE
+    1064 9
+SELECT a AS DATABASE
+    1064 12
+SELECT a.DATABASE()
+    1064 9
+SELECT * FROM DATABASE
+    1064 14
+SELECT * FROM t ORDER BY DATABASE()
+    1064 25
+SELECT `database`()
+    1064 17
+; words that are no function
+SELECT foo(1)
+    1235 foo
+SELECT Foo (
+    1235 Foo
+SELECT IF(a, 1, 2)
+    1235 IF
+SELECT COUNT(upper(a))
+    1235 upper
+SELECT LENGTH(REPLACE(a, b))
+    1235 REPLACE
+SELECT SUMM(a)
+    1235 SUMM
+SELECT * FROM t WHERE UPPER(a) = 1
+    1235 UPPER
+SELECT LEFT(a, 1)
+    1235 LEFT
+SELECT VALUES(a)
+    1064 7
+SELECT SET(a)
+    1064 7
+SELECT IN(1)
+    1064 7
+"#;
+
+/// Conditions: the tests, and how OR, AND, NOT and brackets bind.
+pub const CONDITIONS: &str = r#"
+; comparisons
+SELECT * FROM t WHERE a = 1
+    SELECT * FROM t:t WHERE (= a 1)
+SELECT * FROM t WHERE a <> 1
+    SELECT * FROM t:t WHERE (<> a 1)
+SELECT * FROM t WHERE a != 1
+    SELECT * FROM t:t WHERE (<> a 1)
+SELECT * FROM t WHERE a < 1
+    SELECT * FROM t:t WHERE (< a 1)
+SELECT * FROM t WHERE a <= 1
+    SELECT * FROM t:t WHERE (<= a 1)
+SELECT * FROM t WHERE a > 1
+    SELECT * FROM t:t WHERE (> a 1)
+SELECT * FROM t WHERE a >= 1
+    SELECT * FROM t:t WHERE (>= a 1)
+SELECT * FROM t WHERE 'x' < t.b
+    SELECT * FROM t:t WHERE (< 'x' t.b)
+SELECT * FROM t WHERE NULL = -1
+    SELECT * FROM t:t WHERE (= NULL -1)
+SELECT * FROM t WHERE LENGTH(a) > CONCAT(b, c)
+    SELECT * FROM t:t WHERE (> LENGTH(a) CONCAT(b,c))
+SELECT * FROM t WHERE a
+    1064 23
+SELECT * FROM t WHERE 1
+    1064 23
+SELECT * FROM t WHERE a WHERE b = 1
+    1064 24
+SELECT * FROM t WHERE = 1
+    1064 22
+SELECT * FROM t WHERE a =
+    1064 25
+SELECT * FROM t WHERE a = = 1
+    1064 26
+SELECT * FROM t WHERE a = 1 = 1
+    1064 28
+SELECT * FROM t WHERE a = 1 b
+    1064 28
+SELECT * FROM t WHERE a AND b = 1
+    1064 24
+SELECT * FROM t WHERE a = AND
+    1064 26
+SELECT * FROM t WHERE a = (b)
+    1064 26
+SELECT * FROM t WHERE a = *
+    1064 26
+SELECT * FROM t WHERE a REGEXP 'x'
+    1064 24
+; IS NULL
+SELECT * FROM t WHERE a IS NULL
+    SELECT * FROM t:t WHERE (NULL a)
+SELECT * FROM t WHERE a IS NOT NULL
+    SELECT * FROM t:t WHERE (NOT (NULL a))
+SELECT * FROM t WHERE NULL IS NULL
+    SELECT * FROM t:t WHERE (NULL NULL)
+SELECT * FROM t WHERE NOW() IS NULL
+    SELECT * FROM t:t WHERE (NULL CALL NOW())
+SELECT * FROM t WHERE a IS
+    1064 26
+SELECT * FROM t WHERE a IS NOT
+    1064 30
+SELECT * FROM t WHERE a IS 1
+    1064 27
+SELECT * FROM t WHERE a IS NOT 1
+    1064 31
+SELECT * FROM t WHERE a IS NULL IS NULL
+    1064 32
+SELECT * FROM t WHERE a IS NULL = 1
+    1064 32
+SELECT * FROM t WHERE a NOT NULL
+    1064 28
+; IN
+SELECT * FROM t WHERE a IN (1, 'x', NULL, -2)
+    SELECT * FROM t:t WHERE (IN a 1 'x' NULL -2)
+SELECT * FROM t WHERE a NOT IN (1)
+    SELECT * FROM t:t WHERE (NOT (IN a 1))
+SELECT * FROM t WHERE 'x' IN ('x')
+    SELECT * FROM t:t WHERE (IN 'x' 'x')
+SELECT * FROM t WHERE a IN
+    1064 26
+SELECT * FROM t WHERE a IN 1
+    1064 27
+SELECT * FROM t WHERE a IN ()
+    1064 28
+SELECT * FROM t WHERE a IN (b)
+    1064 28
+SELECT * FROM t WHERE a IN (NOW())
+    1064 28
+SELECT * FROM t WHERE a IN ((1))
+    1064 28
+SELECT * FROM t WHERE a IN (-b)
+    1064 29
+SELECT * FROM t WHERE a IN (1
+    1064 29
+SELECT * FROM t WHERE a IN (1 2)
+    1064 30
+SELECT * FROM t WHERE a IN (1,
+    1064 30
+SELECT * FROM t WHERE a IN (1,)
+    1064 30
+SELECT * FROM t WHERE a IN (1) IN (2)
+    1064 31
+SELECT * FROM t WHERE a NOT
+    1064 27
+SELECT * FROM t WHERE a NOT = 1
+    1064 28
+SELECT * FROM t WHERE a NOT NOT IN (1)
+    1064 28
+SELECT * FROM t WHERE a = 1 NOT IN (1)
+    1064 28
+; BETWEEN takes the first AND
+SELECT * FROM t WHERE a BETWEEN 1 AND 2
+    SELECT * FROM t:t WHERE (BETWEEN a 1 2)
+SELECT * FROM t WHERE a NOT BETWEEN 1 AND 2
+    SELECT * FROM t:t WHERE (NOT (BETWEEN a 1 2))
+SELECT * FROM t WHERE a BETWEEN 1 AND 2 AND b = 3
+    SELECT * FROM t:t WHERE (AND (BETWEEN a 1 2) (= b 3))
+SELECT * FROM t WHERE a BETWEEN b AND c OR d = 1
+    SELECT * FROM t:t WHERE (OR (BETWEEN a b c) (= d 1))
+SELECT * FROM t WHERE a BETWEEN 1 AND 2 AND b BETWEEN 3 AND 4
+    SELECT * FROM t:t WHERE (AND (BETWEEN a 1 2) (BETWEEN b 3 4))
+SELECT * FROM t WHERE LENGTH(a) BETWEEN 'x' AND NULL
+    SELECT * FROM t:t WHERE (BETWEEN LENGTH(a) 'x' NULL)
+SELECT * FROM t WHERE a BETWEEN
+    1064 31
+SELECT * FROM t WHERE a BETWEEN 1
+    1064 33
+SELECT * FROM t WHERE a BETWEEN 1 OR 2
+    1064 34
+SELECT * FROM t WHERE a BETWEEN 1, 2
+    1064 33
+SELECT * FROM t WHERE a BETWEEN 1 AND
+    1064 37
+SELECT * FROM t WHERE a BETWEEN 1 AND NOT 2
+    1064 38
+SELECT * FROM t WHERE a BETWEEN (1) AND 2
+    1064 32
+SELECT * FROM t WHERE a BETWEEN 1 AND 2 AND
+    1064 43
+SELECT * FROM t WHERE a BETWEEN 1 AND 2 AND 3
+    1064 45
+; AND binds more than OR, and each has all its members in one list
+SELECT * FROM t WHERE a = 1 OR b = 2
+    SELECT * FROM t:t WHERE (OR (= a 1) (= b 2))
+SELECT * FROM t WHERE a = 1 AND b = 2
+    SELECT * FROM t:t WHERE (AND (= a 1) (= b 2))
+SELECT * FROM t WHERE a = 1 OR b = 2 AND c = 3
+    SELECT * FROM t:t WHERE (OR (= a 1) (AND (= b 2) (= c 3)))
+SELECT * FROM t WHERE a = 1 AND b = 2 OR c = 3
+    SELECT * FROM t:t WHERE (OR (AND (= a 1) (= b 2)) (= c 3))
+SELECT * FROM t WHERE a = 1 OR b = 2 OR c = 3
+    SELECT * FROM t:t WHERE (OR (= a 1) (= b 2) (= c 3))
+SELECT * FROM t WHERE a = 1 AND b = 2 AND c = 3
+    SELECT * FROM t:t WHERE (AND (= a 1) (= b 2) (= c 3))
+SELECT * FROM t WHERE a = 1 AND b = 2 OR c = 3 AND d = 4
+    SELECT * FROM t:t WHERE (OR (AND (= a 1) (= b 2)) (AND (= c 3) (= d 4)))
+SELECT * FROM t WHERE a = 1 OR b = 2 AND c = 3 OR d = 4
+    SELECT * FROM t:t WHERE (OR (= a 1) (AND (= b 2) (= c 3)) (= d 4))
+SELECT * FROM t WHERE OR a = 1
+    1064 22
+SELECT * FROM t WHERE AND a = 1
+    1064 22
+SELECT * FROM t WHERE a = 1 OR
+    1064 30
+SELECT * FROM t WHERE a = 1 AND
+    1064 31
+SELECT * FROM t WHERE a = 1 OR AND b = 2
+    1064 31
+SELECT * FROM t WHERE a = 1 AND OR b = 2
+    1064 32
+SELECT * FROM t WHERE a = 1 XOR b = 2
+    1064 28
+SELECT * FROM t WHERE a = 1 && b = 2
+    1064 28
+SELECT * FROM t WHERE a = 1 || b = 2
+    1064 28
+; brackets
+SELECT * FROM t WHERE (a = 1)
+    SELECT * FROM t:t WHERE (= a 1)
+SELECT * FROM t WHERE ((a = 1))
+    SELECT * FROM t:t WHERE (= a 1)
+SELECT * FROM t WHERE (a = 1 OR b = 2) AND c = 3
+    SELECT * FROM t:t WHERE (AND (OR (= a 1) (= b 2)) (= c 3))
+SELECT * FROM t WHERE a = 1 AND (b = 2 OR c = 3) AND d = 4
+    SELECT * FROM t:t WHERE (AND (= a 1) (OR (= b 2) (= c 3)) (= d 4))
+SELECT * FROM t WHERE a = 1 AND (b = 2 AND c = 3)
+    SELECT * FROM t:t WHERE (AND (= a 1) (AND (= b 2) (= c 3)))
+SELECT * FROM t WHERE (a = 1 AND b = 2) AND c = 3
+    SELECT * FROM t:t WHERE (AND (AND (= a 1) (= b 2)) (= c 3))
+SELECT * FROM t WHERE (a = 1 OR b = 2) OR c = 3
+    SELECT * FROM t:t WHERE (OR (OR (= a 1) (= b 2)) (= c 3))
+SELECT * FROM t WHERE (a = 1) OR (b = 2)
+    SELECT * FROM t:t WHERE (OR (= a 1) (= b 2))
+SELECT * FROM t WHERE (
+    1064 23
+SELECT * FROM t WHERE ()
+    1064 23
+SELECT * FROM t WHERE )
+    1064 22
+SELECT * FROM t WHERE (a
+    1064 24
+SELECT * FROM t WHERE (a)
+    1064 24
+SELECT * FROM t WHERE (a) = 1
+    1064 24
+SELECT * FROM t WHERE (a = 1
+    1064 28
+SELECT * FROM t WHERE (a = 1))
+    1064 29
+SELECT * FROM t WHERE (a = 1) = 1
+    1064 30
+SELECT * FROM t WHERE (a = 1) IS NULL
+    1064 30
+SELECT * FROM t WHERE (a = 1) (b = 2)
+    1064 30
+SELECT * FROM t WHERE (a = 1, b = 2)
+    1064 28
+; NOT binds more than AND, and less than a test
+SELECT * FROM t WHERE NOT a = 1
+    SELECT * FROM t:t WHERE (NOT (= a 1))
+SELECT * FROM t WHERE NOT NOT a = 1
+    SELECT * FROM t:t WHERE (NOT (NOT (= a 1)))
+SELECT * FROM t WHERE NOT a = 1 AND b = 2
+    SELECT * FROM t:t WHERE (AND (NOT (= a 1)) (= b 2))
+SELECT * FROM t WHERE NOT a = 1 OR b = 2
+    SELECT * FROM t:t WHERE (OR (NOT (= a 1)) (= b 2))
+SELECT * FROM t WHERE a = 1 AND NOT b = 2 AND c = 3
+    SELECT * FROM t:t WHERE (AND (= a 1) (NOT (= b 2)) (= c 3))
+SELECT * FROM t WHERE a = 1 OR NOT b = 2
+    SELECT * FROM t:t WHERE (OR (= a 1) (NOT (= b 2)))
+SELECT * FROM t WHERE NOT (a = 1 AND b = 2)
+    SELECT * FROM t:t WHERE (NOT (AND (= a 1) (= b 2)))
+SELECT * FROM t WHERE NOT (a = 1) AND b = 2
+    SELECT * FROM t:t WHERE (AND (NOT (= a 1)) (= b 2))
+SELECT * FROM t WHERE NOT (NOT a = 1)
+    SELECT * FROM t:t WHERE (NOT (NOT (= a 1)))
+SELECT * FROM t WHERE NOT a IN (1)
+    SELECT * FROM t:t WHERE (NOT (IN a 1))
+SELECT * FROM t WHERE NOT a NOT IN (1, 2)
+    SELECT * FROM t:t WHERE (NOT (NOT (IN a 1 2)))
+SELECT * FROM t WHERE NOT a IS NULL
+    SELECT * FROM t:t WHERE (NOT (NULL a))
+SELECT * FROM t WHERE NOT a IS NOT NULL
+    SELECT * FROM t:t WHERE (NOT (NOT (NULL a)))
+SELECT * FROM t WHERE NOT a BETWEEN 1 AND 2 AND b = 3
+    SELECT * FROM t:t WHERE (AND (NOT (BETWEEN a 1 2)) (= b 3))
+SELECT * FROM t WHERE NOT a NOT BETWEEN 1 AND 2
+    SELECT * FROM t:t WHERE (NOT (NOT (BETWEEN a 1 2)))
+SELECT * FROM t WHERE NOT
+    1064 25
+SELECT * FROM t WHERE NOT a
+    1064 27
+SELECT * FROM t WHERE NOT = 1
+    1064 26
+SELECT * FROM t WHERE NOT AND a = 1
+    1064 26
+SELECT * FROM t WHERE a = NOT b
+    1064 26
+SELECT * FROM t WHERE (NOT)
+    1064 26
+"#;
+
+/// What the profile knows of, and leaves out.
+pub const UNSUPPORTED: &str = r#"
+; set operations, groups, joins
+SELECT a FROM t UNION SELECT b FROM t
+    1235 UNION
+SELECT 1 LIMIT 1 union all SELECT 2
+    1235 UNION
+SELECT a FROM t GROUP BY a
+    1235 GROUP
+SELECT a FROM t WHERE a = 1 group
+    1235 GROUP
+SELECT a FROM t HAVING a = 1
+    1235 HAVING
+SELECT DISTINCT a FROM t
+    1235 DISTINCT
+SELECT SQL_CACHE distinct a
+    1235 DISTINCT
+SELECT COUNT(DISTINCT a) FROM t
+    1235 DISTINCT
+SELECT * FROM t LEFT JOIN u ON a = b
+    1235 LEFT
+SELECT * FROM t RIGHT OUTER JOIN u ON a = b
+    1235 RIGHT
+SELECT * FROM t x CROSS JOIN u
+    1235 CROSS
+SELECT * FROM t NATURAL
+    1235 NATURAL
+UPDATE t LEFT JOIN u ON a = b SET a = 1
+    1235 LEFT
+; INTO in a select alone
+SELECT a INTO x FROM t
+    1235 INTO
+SELECT INTO x
+    1235 INTO
+SELECT a FROM t INTO OUTFILE 'x'
+    1235 INTO
+SELECT a FROM t WHERE a = 1 into x
+    1235 INTO
+INSERT INTO INTO t
+    1064 12
+DELETE FROM t INTO x
+    1064 14
+INTO t
+    1064 0
+; LIKE in a test alone
+SELECT * FROM t WHERE a LIKE 'x'
+    1235 LIKE
+SELECT * FROM t WHERE a NOT LIKE 'x'
+    1235 LIKE
+SELECT * FROM t WHERE like
+    1235 LIKE
+SELECT * FROM t WHERE NOT LIKE
+    1235 LIKE
+SELECT * FROM t WHERE a = 1 AND (LIKE
+    1235 LIKE
+SELECT * FROM t WHERE a = LIKE
+    1235 LIKE
+DELETE FROM t WHERE a LIKE 'x'
+    1235 LIKE
+LIKE 1
+    1064 0
+USE LIKE
+    1064 4
+; EXISTS and subqueries
+SELECT * FROM t WHERE EXISTS (SELECT 1)
+    1235 EXISTS
+SELECT * FROM t WHERE NOT EXISTS (SELECT 1)
+    1235 EXISTS
+SELECT EXISTS (SELECT 1)
+    1235 EXISTS
+DROP TABLE IF EXISTS t
+    1235 EXISTS
+SELECT * FROM t WHERE (SELECT 1) = 1
+    1235 subquery
+SELECT * FROM t WHERE ((select 1
+    1235 subquery
+SELECT * FROM t WHERE a IN (SELECT b FROM u)
+    1235 subquery
+SELECT * FROM t WHERE a NOT IN (SELECT b FROM u)
+    1235 subquery
+SELECT * FROM t WHERE LENGTH(SELECT 1) = 1
+    1235 subquery
+SELECT COUNT(SELECT 1)
+    1235 subquery
+SELECT SUM(SELECT 1)
+    1235 subquery
+SELECT CONCAT(SELECT 1)
+    1235 subquery
+SELECT NOW(SELECT 1)
+    1235 subquery
+INSERT INTO t (SELECT a FROM u)
+    1235 subquery
+INSERT INTO t VALUES (SELECT 1)
+    1235 subquery
+SELECT * FROM t WHERE a = (SELECT 1)
+    1064 26
+SELECT * FROM t WHERE a BETWEEN (SELECT 1) AND 2
+    1064 32
+SELECT * FROM t WHERE LENGTH(a, SELECT 1)
+    1064 30
+SELECT CONCAT(a, SELECT 1)
+    1064 17
+UPDATE t SET a = (SELECT 1)
+    1064 17
+INSERT INTO t SELECT a FROM u
+    1064 14
+(SELECT 1) UNION (SELECT 2)
+    1064 0
+; arithmetic behind a value
+SELECT 1 + 2
+    1235 arithmetic
+SELECT a - 1
+    1235 arithmetic
+SELECT t.a * 2
+    1235 arithmetic
+SELECT 'a' / 'b'
+    1235 arithmetic
+SELECT NULL + 1
+    1235 arithmetic
+SELECT -1 - 1
+    1235 arithmetic
+SELECT a -1
+    1235 arithmetic
+SELECT a --1
+    1235 arithmetic
+SELECT a *
+    1235 arithmetic
+SELECT COUNT(*) * 2
+    1235 arithmetic
+SELECT NOW() + 1
+    1235 arithmetic
+SELECT COUNT(a + 1)
+    1235 arithmetic
+SELECT SUM(a * b)
+    1235 arithmetic
+SELECT MIN(t.a / 2)
+    1235 arithmetic
+SELECT LENGTH(a - 1)
+    1235 arithmetic
+SELECT CONCAT(a, b + 1)
+    1235 arithmetic
+SELECT NOW(1 - 1)
+    1235 arithmetic
+SELECT * FROM t WHERE a + 1 = 2
+    1235 arithmetic
+SELECT * FROM t WHERE a = 1 + 1
+    1235 arithmetic
+SELECT * FROM t WHERE a - 1 IN (2)
+    1235 arithmetic
+SELECT * FROM t WHERE a IN (1, 2 * 3)
+    1235 arithmetic
+SELECT * FROM t WHERE a BETWEEN 1 / 1 AND 2
+    1235 arithmetic
+SELECT * FROM t WHERE a BETWEEN 1 AND 2 + 1
+    1235 arithmetic
+SELECT * FROM t JOIN u ON a = b + 1
+    1235 arithmetic
+SELECT * FROM t ORDER BY a + 1
+    1235 arithmetic
+SELECT * FROM t ORDER BY b, t.a * 2
+    1235 arithmetic
+INSERT INTO t VALUES (1 + 2)
+    1235 arithmetic
+INSERT INTO t VALUES (NULL), ('a' - 1)
+    1235 arithmetic
+UPDATE t SET a = a + 1
+    1235 arithmetic
+UPDATE t SET a = 1 * 2
+    1235 arithmetic
+SELECT * + 1
+    1064 9
+SELECT * * 2
+    1064 9
+SELECT a b + 1
+    1064 11
+SELECT a AS b / 2
+    1064 14
+SELECT + a
+    1064 7
+SELECT / a
+    1064 7
+SELECT * FROM t ORDER BY a DESC - 1
+    1064 32
+SELECT * LIMIT 1 + 1
+    1064 17
+SELECT * LIMIT 1, 2 * 3
+    1064 20
+SELECT * LIMIT 1 OFFSET 2 - 1
+    1064 26
+SELECT * FROM t WHERE (a = 1) + 1
+    1064 30
+SELECT * FROM t WHERE a IN (1) * 2
+    1064 31
+UPDATE t SET a + 1 = 2
+    1064 15
+SET x = 1 + 1
+    1064 10
+; numbers outside of 64 bits with a sign
+SELECT 9223372036854775808
+    1235 unsigned
+SELECT -9223372036854775809
+    1235 unsigned
+SELECT 18446744073709551615
+    1235 unsigned
+SELECT NOW(0009223372036854775808
+    1235 unsigned
+SELECT * FROM t WHERE a = 9223372036854775808
+    1235 unsigned
+SELECT * FROM t WHERE a IN (1, -9223372036854775809)
+    1235 unsigned
+INSERT INTO t VALUES (9223372036854775808)
+    1235 unsigned
+UPDATE t SET a = 9223372036854775808
+    1235 unsigned
+; statements
+ALTER TABLE t
+    1235 ALTER
+prepare s FROM 1
+    1235 PREPARE
+EXECUTE s
+    1235 EXECUTE
+CALL p()
+    1235 CALL
+LOCK TABLES t READ
+    1235 LOCK TABLES
+lock tables t WRITE
+    1235 LOCK TABLES
+UNLOCK TABLES
+    1235 UNLOCK
+REPLACE INTO t VALUES (1)
+    1235 REPLACE
+UNION SELECT 1
+    1235 UNION
+LOCK TABLE t
+    1064 0
+LOCK
+    1064 0
+LOCK IN SHARE MODE
+    1064 0
+DEALLOCATE PREPARE s
+    1064 0
+; these words wherever the grammar takes none, and as names elsewhere
+COMMIT REPLACE
+    1235 REPLACE
+BEGIN call
+    1235 CALL
+ROLLBACK PREPARE
+    1235 PREPARE
+START TRANSACTION EXECUTE
+    1235 EXECUTE
+START UNION
+    1235 UNION
+SELECT a b UNLOCK
+    1235 UNLOCK
+USE d ALTER
+    1235 ALTER
+USE Natural
+    1235 NATURAL
+INSERT LEFT
+    1235 LEFT
+SELECT a AS group
+    1235 GROUP
+SELECT a.distinct
+    1235 DISTINCT
+SELECT * FROM t FOR UNION
+    1235 UNION
+INSERT INTO t VALUES (1) UNION SELECT 2
+    1235 UNION
+INSERT INTO t VALUES (DEFAULT)
+    1235 DEFAULT
+SELECT a b default
+    1235 DEFAULT
+SELECT a b AUTO_INCREMENT
+    1235 AUTO_INCREMENT
+SET x = DEFAULT DEFAULT
+    1235 DEFAULT
+SELECT replace, call prepare, execute FROM unlock
+    SELECT replace@7-14"replace", call AS prepare@16-20"call", execute@30-37"execute" FROM unlock:unlock
+SELECT DEFAULT, auto_increment FROM t default
+    SELECT DEFAULT@7-14"DEFAULT", auto_increment@16-30"auto_increment" FROM t:default
+SELECT * FROM t WHERE a = DEFAULT
+    SELECT * FROM t:t WHERE (= a DEFAULT)
+"#;
+
+/// INSERT, UPDATE, DELETE and TRUNCATE.
+pub const WRITES: &str = r#"
+; as programs write them
+INSERT INTO users VALUES (1,'Ann'),(2,'Bob')
+    INSERT users [1,'Ann'] [2,'Bob']
+INSERT INTO orders (id, user_id, total) VALUES (1,2,30),(2,1,10),(3,2,NULL)
+    INSERT orders (id,user_id,total) [1,2,30] [2,1,10] [3,2,NULL]
+UPDATE a SET v = 7 WHERE id BETWEEN 1000000 AND 1000042
+    UPDATE a SET v=7 WHERE (BETWEEN id 1000000 1000042)
+DELETE FROM users WHERE name = 'Ann' OR name IS NULL
+    DELETE users WHERE (OR (= name 'Ann') (NULL name))
+; INSERT
+INSERT INTO t VALUES (1)
+    INSERT t [1]
+INSERT INTO d.t VALUES (1, 'x', NULL, -2)
+    INSERT d.t [1,'x',NULL,-2]
+INSERT INTO t (a) VALUES (1)
+    INSERT t (a) [1]
+INSERT INTO t (a, `b c`) VALUES (1, 'x'), (2, NULL)
+    INSERT t (a,b c) [1,'x'] [2,NULL]
+insert into t values(1),(2),(3)
+    INSERT t [1] [2] [3]
+INSERT INTO t (a) VALUES (1, 2), (3)
+    INSERT t (a) [1,2] [3]
+INSERT INTO t VALUES (-9223372036854775808, 9223372036854775807)
+    INSERT t [-9223372036854775808,9223372036854775807]
+INSERT
+    1064 6
+INSERT t VALUES (1)
+    1064 7
+INSERT IGNORE INTO t VALUES (1)
+    1064 7
+INSERT INTO
+    1064 11
+INSERT INTO VALUES (1)
+    1064 12
+INSERT INTO t
+    1064 13
+INSERT INTO d.
+    1064 14
+INSERT INTO t AS u VALUES (1)
+    1064 14
+INSERT INTO t SET a = 1
+    1064 14
+INSERT INTO t VALUE (1)
+    1064 14
+INSERT INTO t VALUES
+    1064 20
+INSERT INTO t VALUES 1
+    1064 21
+INSERT INTO t VALUES (
+    1064 22
+INSERT INTO t VALUES ()
+    1064 22
+INSERT INTO t VALUES (1
+    1064 23
+INSERT INTO t VALUES (1,
+    1064 24
+INSERT INTO t VALUES (1,)
+    1064 24
+INSERT INTO t VALUES (1 2)
+    1064 24
+INSERT INTO t VALUES (a)
+    1064 22
+INSERT INTO t VALUES (NOW())
+    1064 22
+INSERT INTO t VALUES ((1))
+    1064 22
+INSERT INTO t VALUES (-'a')
+    1064 23
+INSERT INTO t VALUES (+1)
+    1064 22
+INSERT INTO t VALUES (1),
+    1064 25
+INSERT INTO t VALUES (1), 2
+    1064 26
+INSERT INTO t VALUES (1) (2)
+    1064 25
+INSERT INTO t VALUES (1) ON DUPLICATE KEY UPDATE a = 1
+    1064 25
+INSERT INTO t (
+    1064 15
+INSERT INTO t () VALUES (1)
+    1064 15
+INSERT INTO t (a
+    1064 16
+INSERT INTO t (a,) VALUES (1)
+    1064 17
+INSERT INTO t (a b) VALUES (1)
+    1064 17
+INSERT INTO t (d.a) VALUES (1)
+    1064 16
+INSERT INTO t (1) VALUES (1)
+    1064 15
+INSERT INTO t ('a') VALUES (1)
+    1064 15
+INSERT INTO t (key) VALUES (1)
+    1064 15
+INSERT INTO t (a)
+    1064 17
+INSERT INTO t (a) (b)
+    1064 18
+; UPDATE
+UPDATE t SET a = 1
+    UPDATE t SET a=1
+UPDATE d.t SET a = 'x', b = NULL, c = -1, d = e WHERE id = 2
+    UPDATE d.t SET a='x',b=NULL,c=-1,d=e WHERE (= id 2)
+UPDATE t SET a = `null`, a = a
+    UPDATE t SET a=null,a=a
+update t set a=b where not a=1 or b=2
+    UPDATE t SET a=b WHERE (OR (NOT (= a 1)) (= b 2))
+UPDATE t SET a = default
+    UPDATE t SET a=default
+UPDATE
+    1064 6
+UPDATE SET a = 1
+    1064 7
+UPDATE t
+    1064 8
+UPDATE t a = 1
+    1064 9
+UPDATE t AS x SET a = 1
+    1064 9
+UPDATE t x SET a = 1
+    1064 9
+UPDATE t, u SET a = 1
+    1064 8
+UPDATE t SET
+    1064 12
+UPDATE t SET 1 = 1
+    1064 13
+UPDATE t SET t.a = 1
+    1064 14
+UPDATE t SET a
+    1064 14
+UPDATE t SET a 1
+    1064 15
+UPDATE t SET a <> 1
+    1064 15
+UPDATE t SET a =
+    1064 16
+UPDATE t SET a = b.c
+    1064 18
+UPDATE t SET a = (1)
+    1064 17
+UPDATE t SET a = NOW()
+    1064 20
+UPDATE t SET a = foo(1)
+    1064 20
+UPDATE t SET a = COUNT(b)
+    1064 22
+UPDATE t SET a = DATABASE()
+    1064 17
+UPDATE t SET a = -b
+    1064 18
+UPDATE t SET a = 1 b = 2
+    1064 19
+UPDATE t SET a = 1 AND b = 2
+    1064 19
+UPDATE t SET a = 1,
+    1064 19
+UPDATE t SET a = 1, WHERE b = 2
+    1064 20
+UPDATE t SET a = 1 WHERE
+    1064 24
+UPDATE t SET a = 1 WHERE b
+    1064 26
+UPDATE t SET a = 1 ORDER BY a
+    1064 19
+UPDATE t SET a = 1 WHERE b = 2 LIMIT 1
+    1064 31
+; DELETE
+DELETE FROM t
+    DELETE t
+delete from d.t where a = 1 OR b = 2
+    DELETE d.t WHERE (OR (= a 1) (= b 2))
+DELETE
+    1064 6
+DELETE t
+    1064 7
+DELETE * FROM t
+    1064 7
+DELETE FROM
+    1064 11
+DELETE FROM WHERE a = 1
+    1064 12
+DELETE FROM t AS x
+    1064 14
+DELETE FROM t x
+    1064 14
+DELETE FROM t, u
+    1064 13
+DELETE FROM t WHERE
+    1064 19
+DELETE FROM t ORDER BY a
+    1064 14
+DELETE FROM t WHERE a = 1 LIMIT 1
+    1064 26
+; TRUNCATE
+TRUNCATE t
+    TRUNCATE t
+TRUNCATE TABLE d.t
+    TRUNCATE d.t
+truncate table `table`
+    TRUNCATE table
+TRUNCATE
+    1064 8
+TRUNCATE TABLE
+    1064 14
+TRUNCATE TABLE TABLE t
+    1064 15
+TRUNCATE DATABASE d
+    1064 9
+TRUNCATE 't'
+    1064 9
+TRUNCATE t u
+    1064 11
+TRUNCATE TABLE t, u
+    1064 16
+"#;
+
+/// CREATE and DROP.
+pub const TABLES: &str = r#"
+; as programs write them
+CREATE TABLE users (id BIGINT, name VARCHAR(40) NOT NULL, PRIMARY KEY (id))
+    CREATE TABLE users (id BIGINT,name VARCHAR(40) NOTNULL,PRIMARY(id))
+CREATE TABLE orders (id BIGINT PRIMARY KEY, user_id BIGINT NOT NULL, total BIGINT)
+    CREATE TABLE orders (id BIGINT PRIMARY,user_id BIGINT NOTNULL,total BIGINT)
+; databases
+CREATE DATABASE d
+    CREATE DATABASE d
+create database `table`
+    CREATE DATABASE table
+DROP DATABASE d
+    DROP DATABASE d
+drop database If
+    DROP DATABASE If
+CREATE
+    1064 6
+CREATE DATABASE
+    1064 15
+CREATE DATABASE d e
+    1064 18
+CREATE DATABASE d.e
+    1064 17
+CREATE DATABASE if NOT EXISTS d
+    1064 19
+DROP
+    1064 4
+DROP DATABASE
+    1064 13
+DROP DATABASE d.e
+    1064 15
+DROP DATABASE d CASCADE
+    1064 16
+; tables
+CREATE TABLE t (id BIGINT PRIMARY KEY)
+    CREATE TABLE t (id BIGINT PRIMARY)
+CREATE TABLE t (id BIGINT NOT NULL PRIMARY KEY, name VARCHAR(40), PRIMARY KEY (id))
+    CREATE TABLE t (id BIGINT NOTNULL PRIMARY,name VARCHAR(40),PRIMARY(id))
+CREATE TABLE d.t (a BIGINT, b BIGINT NULL, c BIGINT NOT NULL, d BIGINT NULL PRIMARY KEY)
+    CREATE TABLE d.t (a BIGINT,b BIGINT,c BIGINT NOTNULL,d BIGINT PRIMARY)
+create table t(a varchar(1) not null,primary key(a))
+    CREATE TABLE t (a VARCHAR(1) NOTNULL,PRIMARY(a))
+CREATE TABLE bigint (varchar BIGINT, default VARCHAR(0), `primary` VARCHAR(18446744073709551615) PRIMARY KEY)
+    CREATE TABLE bigint (varchar BIGINT,default VARCHAR(0),primary VARCHAR(18446744073709551615) PRIMARY)
+CREATE TABLE t (PRIMARY KEY (`key`), PRIMARY KEY (b))
+    CREATE TABLE t (PRIMARY(key),PRIMARY(b))
+DROP TABLE t
+    DROP TABLE t
+drop table `a b`.t
+    DROP TABLE a b.t
+; the text ends before the statement does
+CREATE TABLE
+    1064 12
+CREATE TABLE d.
+    1064 15
+CREATE TABLE t
+    1064 14
+CREATE TABLE t (
+    1064 16
+CREATE TABLE t (a
+    1064 17
+CREATE TABLE t (a BIGINT
+    1064 24
+CREATE TABLE t (a BIGINT NOT
+    1064 28
+CREATE TABLE t (a BIGINT NOT NULL
+    1064 33
+CREATE TABLE t (a BIGINT PRIMARY
+    1064 32
+CREATE TABLE t (a BIGINT PRIMARY KEY
+    1064 36
+CREATE TABLE t (a BIGINT,
+    1064 25
+CREATE TABLE t (a VARCHAR
+    1064 25
+CREATE TABLE t (a VARCHAR(
+    1064 26
+CREATE TABLE t (a VARCHAR(1
+    1064 27
+CREATE TABLE t (a VARCHAR(1)
+    1064 28
+CREATE TABLE t (PRIMARY
+    1064 23
+CREATE TABLE t (PRIMARY KEY
+    1064 27
+CREATE TABLE t (PRIMARY KEY (
+    1064 29
+CREATE TABLE t (PRIMARY KEY (a
+    1064 30
+CREATE TABLE t (PRIMARY KEY (a)
+    1064 31
+DROP TABLE
+    1064 10
+DROP TABLE d.
+    1064 13
+; what follows a whole statement
+CREATE TABLE t (a BIGINT) 5
+    1064 26
+CREATE TABLE t (a BIGINT), u (a BIGINT)
+    1064 25
+CREATE TABLE t (a BIGINT))
+    1064 25
+CREATE TABLE t (a BIGINT) `x`
+    1064 26
+DROP TABLE t u
+    1064 13
+DROP TABLE t, u
+    1064 12
+CREATE TABLE t (a BIGINT) ENGINE = InnoDB
+    1235 table option
+CREATE TABLE t (a BIGINT) x
+    1235 table option
+CREATE TABLE t (a BIGINT) AUTO_INCREMENT = 5
+    1235 table option
+CREATE TABLE t (a BIGINT) DEFAULT CHARSET utf8
+    1235 table option
+CREATE TABLE t (a BIGINT) UNION
+    1235 table option
+CREATE TABLE t (a BIGINT) SELECT 1
+    1235 table option
+; types, AUTO_INCREMENT and DEFAULT
+CREATE TABLE t (a INT)
+    1235 INT
+CREATE TABLE t (a int
+    1235 INT
+CREATE TABLE t (a BIGINT, b Decimal(1, 2))
+    1235 DECIMAL
+CREATE TABLE t (a BIGINTS)
+    1235 BIGINTS
+CREATE TABLE t (a BIGINT, UNIQUE u (a))
+    1235 U
+CREATE TABLE t (a AUTO_INCREMENT)
+    1235 AUTO_INCREMENT
+CREATE TABLE t (a BIGINT AUTO_INCREMENT)
+    1235 AUTO_INCREMENT
+CREATE TABLE t (a BIGINT NOT NULL auto_increment PRIMARY KEY)
+    1235 AUTO_INCREMENT
+CREATE TABLE t (a BIGINT DEFAULT 1)
+    1235 DEFAULT
+CREATE TABLE t (a VARCHAR(1) PRIMARY KEY default 'x')
+    1235 DEFAULT
+; other things to create and drop
+CREATE INDEX i ON t (a)
+    1235 CREATE
+CREATE INDEX i
+    1235 CREATE
+create unique INDEX i ON t (a)
+    1235 CREATE
+CREATE TEMPORARY TABLE t (a BIGINT)
+    1235 CREATE
+CREATE t
+    1235 CREATE
+CREATE 5
+    1235 CREATE
+CREATE (
+    1235 CREATE
+CREATE `TABLE` t (a BIGINT)
+    1235 CREATE
+CREATE UNION
+    1235 CREATE
+DROP INDEX i ON t
+    1235 DROP
+drop view v
+    1235 DROP
+DROP t
+    1235 DROP
+DROP UNION
+    1235 DROP
+DROP 'x'
+    1235 DROP
+; behind DATABASE and TABLE a token is validated like any other
+CREATE DATABASE 5
+    1064 16
+CREATE DATABASE 'd'
+    1064 16
+CREATE DATABASE key
+    1064 16
+CREATE TABLE 5
+    1064 13
+CREATE TABLE t LIKE u
+    1064 15
+CREATE TABLE if NOT EXISTS t (a BIGINT)
+    1064 16
+CREATE TABLE t ()
+    1064 16
+CREATE TABLE t (a UNION)
+    1235 UNION
+CREATE TABLE t (5 BIGINT)
+    1064 16
+CREATE TABLE t (a)
+    1064 17
+CREATE TABLE t (a 5)
+    1064 18
+CREATE TABLE t (a `BIGINT`)
+    1064 18
+CREATE TABLE t (a NULL)
+    1064 18
+CREATE TABLE t (a BIGINT(20))
+    1064 24
+CREATE TABLE t (a BIGINT UNSIGNED)
+    1064 25
+CREATE TABLE t (a BIGINT NOT 5)
+    1064 29
+CREATE TABLE t (a BIGINT NOTNULL)
+    1064 25
+CREATE TABLE t (a BIGINT PRIMARY)
+    1064 32
+CREATE TABLE t (a BIGINT KEY)
+    1064 25
+CREATE TABLE t (a BIGINT PRIMARY KEY NOT NULL)
+    1064 37
+CREATE TABLE t (a BIGINT NULL NOT NULL)
+    1064 30
+CREATE TABLE t (a BIGINT b BIGINT)
+    1064 25
+CREATE TABLE t (a BIGINT,)
+    1064 25
+CREATE TABLE t (a VARCHAR)
+    1064 25
+CREATE TABLE t (a VARCHAR())
+    1064 26
+CREATE TABLE t (a VARCHAR(x))
+    1064 26
+CREATE TABLE t (a VARCHAR(-1))
+    1064 26
+CREATE TABLE t (a BIGINT, KEY k (a))
+    1064 26
+CREATE TABLE t (a BIGINT, INDEX (a))
+    1064 32
+CREATE TABLE t (PRIMARY KEY a)
+    1064 28
+CREATE TABLE t (PRIMARY KEY (a, b))
+    1064 30
+DROP DATABASE 5
+    1064 14
+DROP TABLE table
+    1064 11
+DROP TABLE d.'t'
+    1064 13
+"#;
+
+/// SET, SHOW and the statements of a few words.
+pub const OTHERS: &str = r#"
+; USE
+USE d
+    USE d
+use `select`
+    USE select
+USE "d"
+    1064 4
+USE
+    1064 3
+USE 5
+    1064 4
+USE d.t
+    1064 5
+USE d e
+    1064 6
+; transactions
+BEGIN
+    BEGIN
+begin
+    BEGIN
+START TRANSACTION
+    BEGIN
+COMMIT
+    COMMIT
+Rollback
+    ROLLBACK
+BEGIN WORK
+    1064 6
+START
+    1064 5
+START SLAVE
+    1064 6
+START TRANSACTION READ ONLY
+    1064 18
+COMMIT 1
+    1064 7
+ROLLBACK TO a
+    1064 9
+; SHOW
+SHOW STATUS LIKE 'Qcache%'
+    SHOW STATUS
+show global status like 'Qcache%'
+    SHOW STATUS
+SHOW STATUS LIKE "Qcache%"
+    SHOW STATUS
+SHOW STATUS LIKE 'Q\cache%'
+    SHOW STATUS
+SHOW
+    1064 4
+SHOW STATUS
+    1064 11
+SHOW GLOBAL
+    1064 11
+SHOW STATUS LIKE
+    1064 16
+SHOW STATUS LIKE 'Qcache%' x
+    1064 27
+SHOW STATUS LIKE 'Qcache%', 'Qcache%'
+    1064 26
+SHOW TABLES
+    1235 SHOW
+show variables
+    1235 SHOW
+SHOW 5
+    1235 SHOW
+SHOW UNION
+    1235 SHOW
+SHOW SESSION STATUS LIKE 'Qcache%'
+    1235 SHOW
+SHOW GLOBAL VARIABLES
+    1235 SHOW
+SHOW GLOBAL GLOBAL STATUS
+    1235 SHOW
+SHOW STATUS x
+    1235 SHOW
+SHOW STATUS 'Qcache%'
+    1235 SHOW
+SHOW STATUS WHERE a = 1
+    1235 SHOW
+SHOW STATUS LIKE 'qcache%'
+    1235 SHOW
+SHOW STATUS LIKE 'Qcache\%'
+    1235 SHOW
+SHOW STATUS LIKE 'Qcache%%'
+    1235 SHOW
+SHOW STATUS LIKE x
+    1235 SHOW
+SHOW STATUS LIKE `Qcache%`
+    1235 SHOW
+; FLUSH and RESET
+FLUSH QUERY CACHE
+    FLUSH CACHE
+flush tables
+    FLUSH TABLES
+Reset Query Cache
+    RESET CACHE
+FLUSH
+    1064 5
+FLUSH LOGS
+    1064 6
+FLUSH CACHE
+    1064 6
+FLUSH QUERY
+    1064 11
+FLUSH QUERY TABLES
+    1064 12
+FLUSH QUERY CACHE x
+    1064 18
+FLUSH TABLES t
+    1064 13
+RESET
+    1064 5
+RESET MASTER
+    1064 6
+RESET TABLES
+    1064 6
+RESET QUERY
+    1064 11
+RESET QUERY CACHE, MASTER
+    1064 17
+; SET NAMES
+SET NAMES utf8
+    SET NAMES utf8
+set names DEFAULT
+    SET NAMES DEFAULT
+SET NAMES select
+    SET NAMES select
+SET NAMES = 1
+    SET NAMES=1
+SET NAMES
+    1064 9
+SET NAMES 'utf8'
+    1064 10
+SET NAMES `utf8`
+    1064 10
+SET NAMES 8
+    1064 10
+SET NAMES utf8 COLLATE x
+    1064 15
+SET NAMES utf8 = 1
+    1064 15
+SET NAMES utf8, x = 1
+    1235 SET
+; SET of a variable
+SET autocommit = 1
+    SET autocommit=1
+SET AutoCommit=OFF
+    SET AutoCommit=word OFF
+SET autocommit = ON
+    SET autocommit=word ON
+SET sql_mode = 'ANSI_QUOTES'
+    SET sql_mode='ANSI_QUOTES'
+SET sql_mode = ""
+    SET sql_mode=''
+SET sql_select_limit = default
+    SET sql_select_limit=DEFAULT
+SET x = 18446744073709551615
+    SET x=18446744073709551615
+SET x = NULL
+    SET x=word NULL
+SET x = UNION
+    SET x=word UNION
+SET select = from
+    SET select=word from
+SET SESSION x = 1
+    SET x=1
+set session autocommit = off
+    SET autocommit=word off
+SET SESSION = 1
+    SET SESSION=1
+SET session session = 1
+    SET session=1
+SET SESSION NAMES = 1
+    SET NAMES=1
+SET SESSION GLOBAL = 1
+    SET GLOBAL=1
+SET global = 1
+    SET global=1
+SET TRANSACTION = 1
+    SET TRANSACTION=1
+SET default = DEFAULT
+    SET default=DEFAULT
+SET
+    1064 3
+SET 1
+    1064 4
+SET = 1
+    1064 4
+SET `x` = 1
+    1064 4
+SET @x = 1
+    1064 4
+SET @@x = 1
+    1064 4
+SET x
+    1064 5
+SET x 1
+    1064 6
+SET x := 1
+    1064 6
+SET x.y = 1
+    1064 5
+SET x =
+    1064 7
+SET x = -1
+    1064 8
+SET x = `a`
+    1064 8
+SET x = (1)
+    1064 8
+SET x = 18446744073709551616
+    1064 8
+SET x = 1 y
+    1064 10
+SET x = a.b
+    1064 9
+SET SESSION
+    1064 11
+SET SESSION 5
+    1064 12
+SET SESSION x
+    1064 13
+SET SESSION x 1
+    1064 14
+SET SESSION NAMES utf8
+    1064 18
+SET GLOBAL
+    1064 10
+SET GLOBAL =
+    1064 12
+SET TRANSACTION
+    1064 15
+SET GLOBAL x = 1
+    1235 SET GLOBAL
+set global x = 1
+    1235 SET GLOBAL
+SET TRANSACTION ISOLATION LEVEL SERIALIZABLE
+    1235 SET TRANSACTION
+SET x = 1, y = 2
+    1235 SET
+SET SESSION x = a, SESSION y = b
+    1235 SET
+SET x = 'a', NAMES utf8
+    1235 SET
+SET x = DEFAULT,
+    1235 SET
+SET x = 1 GROUP
+    1235 GROUP
+; no statement at all
+
+    1064 0
+/* c */
+    1064 7
+# c
+    1064 3
+--
+    1064 2
+SELEC 1
+    1064 0
+SELECT1
+    1064 0
+1
+    1064 0
+'a'
+    1064 0
+`SELECT` 1
+    1064 0
+;
+    1064 0
+(
+    1064 0
+x
+    1064 0
+EXPLAIN SELECT 1
+    1064 0
+FROM t
+    1064 0
+TABLE t
+    1064 0
+"#;
+
+/// Quotes, escapes, comments, numbers and bytes.
+pub const TOKENS: &str = r#"
+; texts and quoted names
+SELECT "a"
+    SELECT 'a'@7-10""a""
+SELECT "a""b"
+    SELECT 'a"b'@7-13""a""b""
+SELECT 'it''s'
+    SELECT 'it's'@7-14"'it''s'"
+SELECT '', "", '''', '"'
+    SELECT ''@7-9"''", ''@11-13"""", '''@15-19"''''", '"'@21-24"'"'"
+SELECT "a'b`c"
+    SELECT 'a'b`c'@7-14""a'b`c""
+SELECT 'a' 'b'
+    1064 11
+SELECT 'a'"b"
+    1064 10
+SELECT `a``b`
+    SELECT a`b@7-13"`a``b`"
+SELECT `a"b`, `it's`
+    SELECT a"b@7-12"`a"b`", it's@14-20"`it's`"
+SELECT `a\`
+    SELECT a\@7-11"`a\`"
+SELECT `a b`.`c d` FROM `e f`.`g h` AS `i j`
+    SELECT a b.c d@7-18"`a b`.`c d`" FROM e f.g h:i j
+SELECT `select`, `NULL`, `1` FROM `from`
+    SELECT select@7-15"`select`", NULL@17-23"`NULL`", 1@25-28"`1`" FROM from:from
+SELECT a "b"
+    1064 9
+SELECT ``
+    1064 7
+SELECT a.``
+    1064 9
+SELECT a, A, `a` FROM Tt tT
+    SELECT a@7-8"a", A@10-11"A", a@13-16"`a`" FROM Tt:tT
+; escapes
+SELECT '\%\_'
+    SELECT '\%\_'@7-13"'\%\_'"
+SELECT '\x\N\B\z\a'
+    SELECT 'xNBza'@7-19"'\x\N\B\z\a'"
+SELECT '\\n'
+    SELECT '\n'@7-12"'\\n'"
+SELECT '\'', 'a\\'
+    SELECT '''@7-11"'\''", 'a\'@13-18"'a\\'"
+SELECT '\''''
+    SELECT ''''@7-13"'\''''"
+; quotes and comments without an end
+SELECT '
+    1064 7
+SELECT 'a
+    1064 7
+SELECT 'a''
+    1064 7
+SELECT 'a\'
+    1064 7
+SELECT 'a\
+    1064 7
+SELECT 'a"
+    1064 7
+SELECT "
+    1064 7
+SELECT "a'
+    1064 7
+SELECT `
+    1064 7
+SELECT `a``
+    1064 7
+SELECT 'a' '
+    1064 11
+SELECT 1 /*
+    1064 9
+SELECT 1 /* *
+    1064 9
+SELECT /*/
+    1064 7
+SELECT 1 /* a */ /* b
+    1064 17
+; comments
+SELECT/**/1/* c */
+    SELECT 1@10-11"1"
+/* c */ SELECT 1
+    SELECT 1@15-16"1"
+/* c */ select sql_no_cache 1
+    SELECT NOCACHE 1@28-29"1"
+SELECT 1 # c
+    SELECT 1@7-8"1"
+SELECT 1 -- c
+    SELECT 1@7-8"1"
+SELECT 1--
+    SELECT 1@7-8"1"
+SELECT 1#
+    SELECT 1@7-8"1"
+SELECT /*/ */1
+    SELECT 1@13-14"1"
+SELECT /***/1
+    SELECT 1@12-13"1"
+SELECT /* ' # -- /* */1
+    SELECT 1@22-23"1"
+SELECT 1 -- /*
+    SELECT 1@7-8"1"
+SELECT '/* a */', '# b', `-- c`
+    SELECT '/* a */'@7-16"'/* a */'", '# b'@18-23"'# b'", -- c@25-31"`-- c`"
+SELECT # 1
+    1064 10
+SELECT -- 1
+    1064 11
+SELECT /* 1 */
+    1064 14
+SELECT /* a */ */
+    1064 16
+SELECT 1 /* a */ */
+    1235 arithmetic
+SELECT /* a */ b /* c */ d /* e */ f
+    1064 35
+/*! x */ SELECT 1
+    1235 executable comment
+SELECT 1 /*!40000 x */
+    1235 executable comment
+SELECT /*!
+    1235 executable comment
+SELECT 1 /* a *//*! b */
+    1235 executable comment
+SELECT /* ! */'/*! x */' # /*! y */
+    SELECT '/*! x */'@14-24"'/*! x */'"
+; what stands between the words of an item is part of its text
+SELECT a /* c */ . b /* d */ AS c
+    SELECT a.b AS c@7-20"a /* c */ . b"
+; white space
+SELECT'a'b
+    SELECT 'a' AS b@6-9"'a'"
+SELECT`a`b
+    SELECT a AS b@6-9"`a`"
+SELECT-1FROM t
+    SELECT -1@6-8"-1" FROM t:t
+; words and numbers
+SELECT _a1$, a$b, _
+    SELECT _a1$@7-11"_a1$", a$b@13-16"a$b", _@18-19"_"
+SELECT 1a
+    SELECT 1 AS a@7-8"1"
+SELECT 0x10
+    SELECT 0 AS x10@7-8"0"
+SELECT 007, 0, -0, 00000000000000000000000001
+    SELECT 7@7-10"007", 0@12-13"0", 0@15-17"-0", 1@19-45"00000000000000000000000001"
+SELECT 9223372036854775807
+    SELECT 9223372036854775807@7-26"9223372036854775807"
+SELECT -9223372036854775808
+    SELECT -9223372036854775808@7-27"-9223372036854775808"
+SELECT 18446744073709551616
+    1064 7
+SELECT -18446744073709551616
+    1064 8
+SELECT 0018446744073709551616
+    1064 7
+SELECT 99999999999999999999
+    1064 7
+; the longest sign is taken
+SELECT * FROM t WHERE a<=1 AND b<>2 AND c!=3 AND d>=4
+    SELECT * FROM t:t WHERE (AND (<= a 1) (<> b 2) (<> c 3) (>= d 4))
+SELECT * FROM t WHERE a=-1 AND b<-2
+    SELECT * FROM t:t WHERE (AND (= a -1) (< b -2))
+SELECT * FROM t WHERE a <=> 1
+    1064 26
+SELECT * FROM t WHERE a < > 1
+    1064 26
+SELECT * FROM t WHERE a > = 1
+    1064 26
+SELECT * FROM t WHERE a => 1
+    1064 25
+SELECT * FROM t WHERE a=--1
+    1064 25
+SELECT * FROM t WHERE a ! = 1
+    1064 24
+SELECT * FROM t WHERE a !1
+    1064 24
+; bytes that begin no token, and bytes that do
+SELECT @a
+    1064 7
+SELECT a@
+    1064 8
+SELECT $a
+    1064 7
+SELECT 1$
+    1064 8
+SELECT ?
+    1064 7
+SELECT :a
+    1064 7
+SELECT a % 2
+    1064 9
+SELECT a ~ b
+    1064 9
+SELECT a | b
+    1064 9
+SELECT \N
+    1064 7
+SELECT [a]
+    1064 7
+; of two faults the first is told, whether the parser or the lexer finds it
+SELEC '
+    1064 0
+SELECT , '
+    1064 7
+SELECT FROM @
+    1064 7
+SELECT 1 1 @
+    1064 9
+SELECT 1 1 /*! x */
+    1064 9
+SELECT a WHERE ``
+    1064 9
+SELECT a FROM t UNION '
+    1235 UNION
+SELECT DISTINCT ``
+    1235 DISTINCT
+SELECT 1 + @
+    1235 arithmetic
+SELECT 9223372036854775808 @
+    1235 unsigned
+SELECT foo(@
+    1235 foo
+SELECT * FROM t WHERE COUNT(@
+    1064 22
+SELECT 1 UNION /*! x */
+    1235 UNION
+SHOW x @
+    1235 SHOW
+CREATE x @
+    1235 CREATE
+CREATE TABLE t (a BIGINT) x '
+    1235 table option
+SET x = 1, @
+    1235 SET
+SET x = 1 y '
+    1064 10
+LOCK @
+    1064 0
+SELECT @ UNION
+    1064 7
+SELECT 'a' ' UNION
+    1064 11
+SELECT a @ /*! x */
+    1064 9
+CREATE @
+    1064 7
+CREATE TABLE t (a BIGINT @
+    1064 25
+SHOW @
+    1064 5
+SHOW STATUS @
+    1064 12
+SET GLOBAL @x = 1
+    1064 11
+SELECT DATABASE @
+    1064 16
+SELECT * FROM t WHERE (a @ UNION
+    1064 25
+"#;
+
+/// Texts where double quotes stand around names.
+pub const DOUBLE_QUOTED: &str = r#"
+USE "d"
+    USE d
+SHOW STATUS LIKE "Qcache%"
+    1235 SHOW
+SET "x" = 1
+    1064 4
+SET x = "a"
+    1064 8
+"SELECT" 1
+    1064 0
+SELECT "a"
+    SELECT a@7-10""a""
+SELECT "a""b"
+    SELECT a"b@7-13""a""b""
+SELECT 'it''s'
+    SELECT 'it's'@7-14"'it''s'"
+SELECT 'a' "b"
+    SELECT 'a' AS b@7-10"'a'"
+SELECT "a\"
+    SELECT a\@7-11""a\""
+SELECT "t"."a" "b" FROM "d"."t" "x"
+    SELECT t.a AS b@7-14""t"."a"" FROM d.t:x
+SELECT ""
+    1064 7
+SELECT "
+    1064 7
+INSERT INTO "t" ("a") VALUES ('x')
+    INSERT t (a) ['x']
+INSERT INTO t VALUES ("x")
+    1064 22
+CREATE TABLE "t" ("primary" BIGINT PRIMARY KEY)
+    CREATE TABLE t (primary BIGINT PRIMARY)
+SELECT * FROM t WHERE a = "b" AND c IN ('"')
+    SELECT * FROM t:t WHERE (AND (= a b) (IN c '"'))
+SELECT * FROM t WHERE a IN ("b")
+    1064 28
+UPDATE t SET a = "b", c = 'd'
+    UPDATE t SET a=b,c='d'
+SELECT * FROM t ORDER BY "a" DESC
+    SELECT * FROM t:t ORDER a DESC
+SELECT "count"(*)
+    1064 14
+SELECT "a" "b" "c"
+    1064 15
+SELECT 'a' 'b'
+    1064 11
+SELECT "a`b'c", `d"e`
+    SELECT a`b'c@7-14""a`b'c"", d"e@16-21"`d"e`"
+SELECT '\'', 'a""b'
+    SELECT '''@7-11"'\''", 'a""b'@13-19"'a""b'"
+"#;
+
+/// Texts of more than one line or with bytes that have no place in a line, and what they are read as.
+pub const BYTES: [(&[u8], &[u8]); 24] = [
+    (
+        b"SELECT SQL_NO_CACHE CONCAT(first, ' ', last) AS name\n  FROM shop.people AS p, shop.cities c\n WHERE p.city = c.id AND (c.name IN ('Bern', 'Brno') OR NOT p.age BETWEEN 20 AND 30)\n ORDER BY last, first\n LIMIT 10 OFFSET 20",
+        b"SELECT NOCACHE CONCAT(first,' ',last) AS name@20-44\"CONCAT(first, ' ', last)\" FROM shop.people:p, shop.cities:c WHERE (AND (= p.city c.id) (OR (IN c.name 'Bern' 'Brno') (NOT (BETWEEN p.age 20 30)))) ORDER last,first LIMIT 20+10",
+    ),
+    (b"USE \x80", b"USE \x80"),
+    (
+        b"SELECT '\\0\\'\\\"\\b\\n\\r\\t\\Z\\\\'",
+        b"SELECT '\0'\"\x08\n\r\t\x1a\\'@7-27\"'\\0\\'\\\"\\b\\n\\r\\t\\Z\\\\'\"",
+    ),
+    (b"SELECT \"\\n\\\"\"", b"SELECT '\n\"'@7-13\"\"\\n\\\"\"\""),
+    (
+        b"SELECT 'a\\\nb\\\xff'",
+        b"SELECT 'a\nb\xff'@7-15\"'a\\\nb\\\xff'\"",
+    ),
+    (
+        b"SELECT * FROM t WHERE a IN ('\\t', '''')",
+        b"SELECT * FROM t:t WHERE (IN a '\t' ''')",
+    ),
+    (b"SELECT # c\n1", b"SELECT 1@11-12\"1\""),
+    (b"SELECT -- c\n1", b"SELECT 1@12-13\"1\""),
+    (b"SELECT --\n1", b"SELECT 1@10-11\"1\""),
+    (b"SELECT --\t'\n1", b"SELECT 1@12-13\"1\""),
+    (b"SELECT # /*\n1", b"SELECT 1@12-13\"1\""),
+    (b"SELECT # a\r1", b"1064 12"),
+    (
+        b"SELECT COUNT /* x */ (  * ) , -\n1",
+        b"SELECT COUNT(*)@7-27\"COUNT /* x */ (  * )\", -1@30-33\"-\n1\"",
+    ),
+    (b"SELECT a -- c\n, b", b"SELECT a@7-8\"a\", b@16-17\"b\""),
+    (
+        b"SELECT /* a */ CONCAT(a,# b\n'c') FROM t",
+        b"SELECT CONCAT(a,'c')@15-32\"CONCAT(a,# b\n'c')\" FROM t:t",
+    ),
+    (b"SELECT\t\n\x0b\x0c\r 1", b"SELECT 1@12-13\"1\""),
+    (b"SELECT \0", b"1064 7"),
+    (b"SELECT 1\0", b"1064 8"),
+    (b"SELECT \x1f", b"1064 7"),
+    (b"SELECT \x7f", b"1064 7"),
+    (
+        b"SELECT '\0', `\0`",
+        b"SELECT '\0'@7-10\"'\0'\", \0@12-15\"`\0`\"",
+    ),
+    (
+        b"SELECT \x80\xff FROM caf\xc3\xa9",
+        b"SELECT \x80\xff@7-9\"\x80\xff\" FROM caf\xc3\xa9:caf\xc3\xa9",
+    ),
+    (
+        b"SELECT '\x80' \xa0",
+        b"SELECT '\x80' AS \xa0@7-10\"'\x80'\"",
+    ),
+    (b"SELECT \xc3\xa9(1)", b"1235 \xc3\xa9"),
+];
+
+/// Words that are no names unless they are quoted.
+pub const RESERVED: &str =
+    "SELECT SQL_CACHE SQL_NO_CACHE FROM WHERE ORDER BY LIMIT OFFSET AS AND OR NOT IS NULL IN BETWEEN ASC DESC FOR LOCK JOIN INNER ON INSERT INTO VALUES UPDATE SET DELETE TRUNCATE CREATE DROP TABLE DATABASE PRIMARY KEY LIKE USE SHOW";
+
+/// Words that are no names either, and that the profile knows of and leaves out.
+pub const LEFT_OUT: &str = "LEFT RIGHT CROSS NATURAL UNION GROUP HAVING DISTINCT EXISTS ALTER";
+
+/// Words that are names where a name may stand.
+pub const FREE: &str =
+    "BEGIN START TRANSACTION COMMIT ROLLBACK GLOBAL SESSION STATUS NAMES FLUSH RESET QUERY CACHE TABLES COUNT SUM MIN MAX LENGTH CONCAT SHARE MODE BIGINT VARCHAR DEFAULT AUTO_INCREMENT PREPARE EXECUTE CALL UNLOCK REPLACE NOW ENCRYPT KEYS SELECTED";

@@ -1,0 +1,7 @@
+mod Commands
+mod Effects
+mod Errors
+pub mod Keys
+mod Order
+mod Rows
+mod Rules

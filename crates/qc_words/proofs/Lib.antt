@@ -1,5 +1,0 @@
-mod Examples
-pub mod Digits
-pub mod Options
-pub mod Rounding
-pub mod Taken

@@ -1,5 +1,0 @@
-use Rattle.qc_words.proofs.Rounding.{options_are_rounded}
-use Rattle.qc_words.proofs.laws.options_are_rounded.Goals as goal
-
-pub returns : goal.returns
-returns c = options_are_rounded
