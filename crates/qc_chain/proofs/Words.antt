@@ -93,6 +93,41 @@ pub in_block : (bs : List Block) (ends : List ℕ) (i at : ℕ) (block : Block) 
 in_block bs ends i at block is index within before after =
     is_in 0 i bs at block (omega arith) (omega arith) (rw is at within) (λ k h. rw is at (before k h)) (λ k h l. let m : k < length ends = rw (← is) at l in rw is at (after k h m))
 
+end_within : (n : ℕ) (bs : List Block) (k : ℕ) → k < length (ends_from n bs) → get_or (ends_from n bs) k 0 ≤ n + words_of bs
+end_within n [] k h = absurd (omega (arith, h))
+end_within n (b ∷ bs) zero h = omega arith
+end_within n (b ∷ bs) (suc k) h = omega (arith, end_within (n + b.words) bs k (omega (arith, h)))
+
+-- the words from an index on, up to the end of the block that it is in
+pub record IsRun (bs : List Block) (ends : List ℕ) (i at : ℕ) (block : Block) : Type 0 where
+  pub inside : at < length ends
+  pub within : at < length bs
+  pub some : i < get_or ends at 0
+  pub most : get_or ends at 0 ≤ words_of bs
+  pub start : start_at 0 (ends_from 0 bs) at ≤ i
+  pub places : (k : ℕ) → i + k < get_or ends at 0 → word_at (i + k) bs ≡ (get_or bs at block).first + (i + k - start_at 0 (ends_from 0 bs) at)
+
+pub is_run : (bs : List Block) (ends : List ℕ) (i at : ℕ) (block : Block) → ends ≡ ends_from 0 bs → i < words_of bs → at ≤ length ends → ((k : ℕ) → k < at → get_or ends k 0 ≤ i) → ((k : ℕ) → at ≤ k → k < length ends → i < get_or ends k 0) → IsRun bs ends i at block
+is_run bs ends i at block is index within before after =
+    let one = in_block bs ends i at block is index within before after in
+    let long : length ends ≡ length bs = ap length is ∙ length-ends 0 bs in
+    let inside : at < length ends = omega (arith, one.within, long) in
+    let last : get_or (ends_from 0 bs) at 0 ≤ 0 + words_of bs = end_within 0 bs at (rw (length-ends 0 bs) one.within) in
+    let same : get_or ends at 0 ≡ get_or (ends_from 0 bs) at 0 = ap (λ l. get_or l at 0) is in
+    let most : get_or ends at 0 ≤ words_of bs = omega (arith, last, same) in
+    record {
+      inside = inside;
+      within = one.within;
+      some = after at (omega arith) inside;
+      most = most;
+      start = one.start;
+      places = λ k h.
+          let none : i + k - 0 ≡ i + k = omega arith in
+          let later = in_block bs ends (i + k) at block is (omega (arith, h, most)) within (λ j l. let t = before j l in omega (arith, t))
+          (λ j l m. let r : get_or ends at 0 ≤ get_or ends j 0 = rw is (ends_rise 0 bs at j l (rw is at m)) in omega (arith, r, h)) in
+          rw none at later.place;
+    }
+
 -- a number that fits stays as it is
 pub wraps_to : (a b : ℕ) → a ≡ b → b < 4294967296 → a % 4294967296 ≡ b
 wraps_to a b same fits = omega arith

@@ -10,4 +10,4 @@ mod tables;
 pub use chains::Chains;
 pub use names::{ChainName, Extent, Spot};
 pub use qc_tiles::{Block, Move, Tiles};
-pub use ranges::Ranges;
+pub use ranges::{Ranges, Run};

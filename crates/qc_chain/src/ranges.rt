@@ -46,6 +46,18 @@ impl Ranges {
         })
     }
 
+    /// No blocks and no bytes, and no room. It takes no memory.
+    pub fn empty(alloc: Global) -> Ranges
+        ensures { result ≡ record { blocks = []; bytes = 0; room = 0 } }
+    {
+        Ranges {
+            blocks: Vec::new(alloc),
+            ends: Vec::new(alloc),
+            bytes: 0,
+            room: 0,
+        }
+    }
+
     /// How many blocks there is room for in all. Constant time.
     pub fn room(&self) -> u32
         ensures { result ≡ self.now.room }
@@ -118,6 +130,29 @@ impl Ranges {
         let start = start_at(self.ends.as_slice(), at);
         self.blocks[at].first.wrapping_add(index - start)
     }
+
+    /// The words from that index on, up to the end of the block that it is in, where 32 bits hold their places. Costs the logarithm of the blocks.
+    pub fn run(&self, index: u32) -> Run
+        requires { index < words_of self.now.blocks }
+        ensures some { 0 < result.words }
+        ensures within { index + result.words ≤ words_of self.now.blocks }
+        ensures places { (k : ℕ) → k < result.words → word_at (index + k) self.now.blocks < 2 ^ 32 → word_at (index + k) self.now.blocks ≡ result.first + k }
+    {
+        let at = count_up_to(self.ends.as_slice(), index);
+        let start = start_at(self.ends.as_slice(), at);
+        let first = self.blocks[at].first.wrapping_add(index - start);
+        let words = self.ends[at] - index;
+        Run { first, words }
+    }
+}
+
+/// Words of the region that stand together: what is left of a block from one of its words on.
+#[derive(Clone, Copy, Debug, PartialEq, Eq)]
+pub struct Run {
+    /// The place of its first word.
+    pub first: u32,
+    /// How many words it has, 1 or more.
+    pub words: u32,
 }
 
 /// The last end, or 0 where there is none.

@@ -1,0 +1,9 @@
+pub mod Blocks
+pub mod Bytes
+pub mod Tasks
+pub mod Words
+pub mod Views
+pub mod Rules
+pub mod Steps
+pub mod Releases
+pub mod Seats

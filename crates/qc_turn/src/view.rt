@@ -1,0 +1,50 @@
+//! What a seat knows, for contracts alone: no value of these types is made.
+
+use crate::task::Task;
+use qc_chain::Block;
+use std::collections::LinkedList;
+
+/// Whether a seat holds the turn. If so: the value as it was taken, and the words as they are now.
+pub enum Holding<V> {
+    Free,
+    Holds(V, LinkedList<u64>),
+}
+
+/// What the first seat keeps of a seat that it met.
+pub struct MetSeat<E> {
+    pub events: LinkedList<E>,
+    pub seen: LinkedList<E>,
+}
+
+/// A task word that the holder read: whose it is, and whether it was set.
+pub struct FoundWord {
+    pub seat: u32,
+    pub set: bool,
+}
+
+/// What a seat knows.
+pub struct View<V, E> {
+    /// The number of words of the region.
+    pub size: u32,
+    /// Its number, or 0 once it was met.
+    pub number: u32,
+    /// Of the first seat: for each seat made after it, in order, what it did, once it was met.
+    pub registry: LinkedList<Option<MetSeat<E>>>,
+    /// The journal when it last had the turn, or the longer one of a seat that it met.
+    pub seen: LinkedList<E>,
+    /// What no holding changes.
+    pub fixed: LinkedList<u64>,
+    /// The events of its session.
+    pub events: LinkedList<E>,
+    pub connected: bool,
+    pub task: Task,
+    /// The blocks of its task.
+    pub blocks: LinkedList<Block>,
+    /// The words of its stream, or the bytes so far of its fill.
+    pub content: LinkedList<u64>,
+    pub holding: Holding<V>,
+    /// Whether its own task word is set.
+    pub word_set: bool,
+    /// The task words that it read in this holding, the last one first.
+    pub found: LinkedList<FoundWord>,
+}

@@ -1,0 +1,85 @@
+//! Seats that add to one log.
+
+ghost use Rattle.std.specs.Prelude.{◌≡◌, ℕ, ◌-◌, ◌^◌, ◌<◌, [], ◌∷◌, ◌++◌, OnOk, OnErr, IfOk, IfSome};
+ghost use Rattle.qc_turn.specs.Seats.{IsSeatOf, view};
+ghost use Rattle.qc_turn.specs.Views.{of_seat};
+ghost use Rattle.qc_turn.specs.declared.task.Task.TheVariants.{Rest};
+ghost use Rattle.qc_turn_tests.specs.Logs.{entry};
+
+use crate::log::{LOG_WORDS, Log, push};
+use qc_turn::{Busy, Kept, Seat, Task, Turn};
+use qc_types::NoMemory;
+use std::alloc::{AllocError, Global};
+use std::sync::Wait;
+
+/// Adds an entry under one holding.
+pub fn add<R: Wait>(
+    rt: &R,
+    turn: &Turn<Log>,
+    seat: &mut Seat<Log>,
+    number: u64,
+) -> Result<(), AllocError>
+    requires { IsSeatOf turn.now seat.old × ((view seat.old).task ≡ Rest) }
+    ensures seated { IsSeatOf turn.now seat.new }
+    ensures number { (view seat.new).number ≡ (view seat.old).number }
+    ensures rests { (view seat.new).task ≡ Rest }
+    ensures ok { OnOk result ((view seat.new).events ≡ (view seat.old).events ++ entry ((view seat.old).number - 1) number ∷ []) }
+    ensures err { OnErr result ((view seat.new).events ≡ (view seat.old).events) }
+{
+    let mut held = turn.take(rt, seat);
+    let done = if held.value().len() < 1 << 32 {
+        push(&mut held, number)
+    } else {
+        Err(AllocError)
+    };
+    held.release(Task::Rest);
+    done
+}
+
+/// Adds this many entries, or fewer where memory lacks.
+pub fn add_all<R: Wait>(rt: &R, turn: &Turn<Log>, seat: &mut Seat<Log>, count: u64)
+    requires { IsSeatOf turn.now seat.old × ((view seat.old).task ≡ Rest) }
+    ensures { IsSeatOf turn.now seat.new × ((view seat.new).number ≡ (view seat.old).number) × ((view seat.new).task ≡ Rest) }
+{
+    for number in 0..count {
+        let _ = add(rt, turn, seat, number);
+    }
+}
+
+/// Asks for the turn once, and says whether it was free.
+pub fn asks_once(turn: &Turn<Log>, seat: &mut Seat<Log>) -> bool
+    requires { IsSeatOf turn.now seat.old × ((view seat.old).task ≡ Rest) }
+    ensures { IsSeatOf turn.now seat.new × ((view seat.new).number ≡ (view seat.old).number) × ((view seat.new).task ≡ Rest) × ((view seat.new).events ≡ (view seat.old).events) }
+{
+    match turn.try_take(seat) {
+        Ok(held) => {
+            held.release(Task::Rest);
+            true
+        }
+        Err(busy) => {
+            let Busy { holder: _, seat: _ } = busy;
+            false
+        }
+    }
+}
+
+/// A second seat adds three entries, and the first one meets it. The log has these entries of it and no others.
+pub fn three<R: Wait>(rt: &R, alloc: Global) -> Result<Option<Log>, NoMemory>
+    ensures { IfOk result (λ some. IfSome some (λ log. (of_seat ⟦<Log as Kept>⟧ 2 log.entries.items ≡ entry 1 1 ∷ entry 1 2 ∷ entry 1 3 ∷ []) × (of_seat ⟦<Log as Kept>⟧ 1 log.entries.items ≡ []))) }
+{
+    let (turn, mut first) = Turn::new(alloc, Log::new(alloc), LOG_WORDS)?;
+    let Ok(mut second) = first.split(alloc, &turn) else {
+        let _log = turn.close(first);
+        return Err(NoMemory);
+    };
+    let one = add(rt, &turn, &mut second, 1).is_ok();
+    let two = add(rt, &turn, &mut second, 2).is_ok();
+    let three = add(rt, &turn, &mut second, 3).is_ok();
+    first.meet(&turn, second);
+    let log = turn.close(first);
+    if one && two && three {
+        Ok(Some(log))
+    } else {
+        Ok(None)
+    }
+}
