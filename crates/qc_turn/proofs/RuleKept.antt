@@ -1,5 +1,5 @@
 -- Each step keeps the rule of the turn.
-use Rattle.std.proofs.Common.{◌≡◌, ◌≢◌, ◌⊎◌, ℕ, zero, suc, ◌+◌, ◌-◌, ◌*◌, ◌<◌, ◌≤◌, eqb, eq-eqb, ne_eqb, Bool, true, false, Option, Some, None, List, [], ◌∷◌, ◌++◌, length, get_or, set, refl, sym, ap, ◌∙◌, subst, inl, inr, ⊎_elim, arith, take, drop, length-drop, get_or-drop, replicate, append-nil, length-append, length-set, get_or-set_same, get_or-set_other, map}
+use Rattle.std.proofs.Common.{◌≡◌, ◌≢◌, ◌⊎◌, ℕ, zero, suc, ◌+◌, ◌-◌, ◌*◌, ◌<◌, ◌≤◌, eqb, eq-eqb, ne_eqb, Bool, true, false, Option, Some, None, List, [], ◌∷◌, ◌++◌, length, get_or, set, refl, sym, ap, ◌∙◌, subst, inl, inr, ⊎_elim, arith, true≢false, take, drop, length-drop, get_or-drop, replicate, append-nil, length-append, length-set, get_or-set_same, get_or-set_other, map}
 use mathlib.Core.Logic.{dite}
 use mathlib.Core.Option.{some, none, some-injective, some-ne-none}
 use native.Mathlib.Decide.{ℕ_discrete}
@@ -24,10 +24,10 @@ use Rattle.qc_turn.specs.Bytes.{bytes_of, filled}
 use Rattle.qc_turn.specs.Releases.{HeldFreeOfOthers, IsFresh, ClosesWith, SpellsReleased, ListsReleased, Follows}
 use Rattle.qc_turn.specs.Rules.{HoldingRule, ContentRule, TaskRule, SeatRule, MetRule, UnmadeRule, TurnRule}
 use Rattle.qc_turn.specs.Steps.{Taken, TookTurn, LoadedWord, takes_turn, releases_turn, loads_word, loads_streamed, stores_filled, sets_task_word, clears_task_word, reads_task_word, stores_word}
-use Rattle.qc_turn.specs.Tasks.{is_stream, IsListed, FoundIdle, released_task, released_blocks, OutsideOtherFills, Agrees, fill_places, places_of, listed_for, own, task_in, blocks_in, HasBlocks}
+use Rattle.qc_turn.specs.Tasks.{is_stream, IsListed, IsEnded, FoundIdle, released_task, released_blocks, OutsideOtherFills, Agrees, fill_places, places_of, listed_for, own, task_in, blocks_in, HasBlocks}
 use Rattle.qc_turn.specs.Views.{base_of, words_of, HoldsTurn, written, Apart, AllMet, first_seat, with_holding, spent, after_split, next_seat, after_meet, met_seat, of_seat, content_of, after_release, with_content, with_word_set, with_found, found_word, idle_of, after_stream}
 use Rattle.qc_turn.specs.Words.{task_words_of, bit, StartsWith, region, last_seat}
-use Rattle.qc_turn.proofs.Tasks.{starts_refl, starts_trans, longer_of, longer_one, region_at, region_set, region_set0, length-region, misses_front, spelled_missed, missed, is_in, spelled_agree, filled_front, region_high, zero_set, zero_stays, task_words_low, task_words_set, task_words_at, listed_live, keeps_fills, keeps_none, keeps_listed}
+use Rattle.qc_turn.proofs.Tasks.{starts_refl, starts_trans, longer_of, longer_one, region_at, region_set, region_set0, length-region, misses_front, spelled_missed, missed, is_in, spelled_agree, filled_front, region_high, zero_set, zero_stays, task_words_low, task_words_set, task_words_at, listed_live, keeps_fills, keeps_none, keeps_listed, ended_rests}
 
 module _ {V E : Type 0} where
   -- the seats stay apart where one keeps its number, or is spent
@@ -198,6 +198,7 @@ module _ {V E : Type 0} (K : Ghosts V E) (size : ℕ) where
     listed = f.listed;
     task_word = f.task_word;
     word_set = as_set;
+    goes_on = f.goes_on;
     idle = f.idle;
     none_found = none_found;
     holding = holding_now;
@@ -205,7 +206,7 @@ module _ {V E : Type 0} (K : Ghosts V E) (size : ℕ) where
   }
 
   -- the same view under other task words
-  other_words : (word : ℕ) (ws ms ms' : List ℕ) (base : V) (registry : List (Option (MetSeat E))) (v : View V E) → SeatRule K size word ws ms base registry v → get_or ms' (v.number - 1) 0 ≡ bit v.word_set → ((k : ℕ) → FoundIdle (idle_of v.found) k → (0 < k) × (get_or ms' (k - 1) 0 ≡ 0)) → SeatRule K size word ws ms' base registry v
+  other_words : (word : ℕ) (ws ms ms' : List ℕ) (base : V) (registry : List (Option (MetSeat E))) (v : View V E) → SeatRule K size word ws ms base registry v → get_or ms' (v.number - 1) 0 ≡ bit v.word_set → ((k : ℕ) → k ≢ v.number → FoundIdle (idle_of v.found) k → (0 < k) × (get_or ms' (k - 1) 0 ≡ 0)) → SeatRule K size word ws ms' base registry v
   other_words word ws ms ms' base registry v f task_word idle = record {
     sized = f.sized;
     numbered = f.numbered;
@@ -219,6 +220,7 @@ module _ {V E : Type 0} (K : Ghosts V E) (size : ℕ) where
     listed = f.listed;
     task_word = task_word;
     word_set = f.word_set;
+    goes_on = f.goes_on;
     idle = idle;
     none_found = f.none_found;
     holding = f.holding;
@@ -345,7 +347,7 @@ module _ {V E : Type 0} (K : Ghosts V E) (size : ℕ) where
   spells_follow base x over ws us Free (Fill s) bs content p q j h = (h.0, K.fits_on over us base x s content p q j h.1)
 
   -- the value changes, and what a seat other than n has stays
-  followed : (n word : ℕ) (idle ws ms over : List ℕ) (base x : V) (registry : List (Option (MetSeat E))) (u : View V E) → Follows K n idle base x → ((k : ℕ) → FoundIdle idle k → (0 < k) × (get_or ms (k - 1) 0 ≡ 0)) → K.sound over base → K.sound ws x → u.number ≢ n → word ≡ n → u.number ≢ 0 → SeatRule K size word ws ms base registry u → SeatRule K size 0 ws ms x registry u
+  followed : (n word : ℕ) (idle ws ms over : List ℕ) (base x : V) (registry : List (Option (MetSeat E))) (u : View V E) → Follows K n idle base x → ((k : ℕ) → k ≢ n → FoundIdle idle k → (0 < k) × (get_or ms (k - 1) 0 ≡ 0)) → K.sound over base → K.sound ws x → u.number ≢ n → word ≡ n → u.number ≢ 0 → SeatRule K size word ws ms base registry u → SeatRule K size 0 ws ms x registry u
   followed n word idle ws ms over base x registry u fol found old_sound new_sound other is live f = record {
     sized = f.sized;
     numbered = f.numbered;
@@ -357,9 +359,10 @@ module _ {V E : Type 0} (K : Ghosts V E) (size : ℕ) where
     events = f.events ∙ sym (fol.others u.number other);
     connected = f.connected ∙ sym (fol.connected u.number other);
     listed = keeps_listed idle u.number u.task u.blocks (listed_for u.number (K.tasks base)) (listed_for u.number (K.tasks x)) (fol.tasks u.number other) f.listed
-        (λ h. sym (f.word_set (idle_else word u.number ws base u.holding (λ e. other (e ∙ is)) f.holding)) ∙ bit_zero u.word_set (sym f.task_word ∙ (found u.number h).1));
+        (λ h. sym (f.word_set (idle_else word u.number ws base u.holding (λ e. other (e ∙ is)) f.holding)) ∙ bit_zero u.word_set (sym f.task_word ∙ (found u.number other h).1));
     task_word = f.task_word;
     word_set = f.word_set;
+    goes_on = f.goes_on;
     idle = f.idle;
     none_found = f.none_found;
     holding = holding_else word 0 u.number ws ws base x u.holding (λ e. other (e ∙ is)) (λ e. live (sym e)) f.holding;
@@ -413,14 +416,15 @@ module _ {V E : Type 0} (K : Ghosts V E) (size : ℕ) where
         listed = ends_as.0;
         task_word = mine.task_word;
         word_set = λ _. ends_as.1;
-        idle = λ k h. absurd (not_in_none k h);
+        goes_on = λ e. ends_as.1 ∙ e;
+        idle = λ k ne h. absurd (not_in_none k h);
         none_found = λ _. refl;
         holding = (λ z. absurd (omega arith));
         content = subst (λ (l : List ℕ). TaskRule K x ws Free t bs (content_of K l v.task v.content t bs)) (sym us_is) content;
       } in
       let all : (j : ℕ) (u : View V E) → get_elem? (set s.views id w) j ≡ some u → u.number ≢ 0 → Q 0 ws ms u =
       each_set (Q 0 ws ms) s.views id w (λ _. own_fits)
-      (λ j u other e alive. let apart : u.number ≢ n = λ same. other (r.apart j id u v e at (same ∙ is) alive) in followed n (word s) idle ws ms r.was_sound.0 base x r.registry u fol mine.idle r.was_sound.2 sound apart up alive (r.each j u e alive)) in (
+      (λ j u other e alive. let apart : u.number ≢ n = λ same. other (r.apart j id u v e at (same ∙ is) alive) in followed n (word s) idle ws ms r.was_sound.0 base x r.registry u fol (λ k ne. mine.idle k (λ e. ne (e ∙ sym is))) r.was_sound.2 sound apart up alive (r.each j u e alive)) in (
         w,
         gives,
         tt,
@@ -488,6 +492,21 @@ module _ {V E : Type 0} (K : Ghosts V E) (size : ℕ) where
   spells_on base ws k x n Free (Fill s) bs content ts e m h = (h.0 ∙ ap (λ l. take (length content) (bytes_of l)) (sym (spelled_missed ws k x bs (misses_front k (places bs) [] (subst (λ l. Misses k (places_of l)) (listed_live n (Fill s) bs ts e (rest_or s).1) m)))), h.1)
   spells_on base ws k x n Free (Stream s) bs content ts e m h = h ∙ sym (spelled_missed ws k x bs (misses_front k (places bs) [] (subst (λ l. Misses k (places_of l)) (listed_live n (Stream s) bs ts e (rest_or s).0) m)))
 
+  -- the same where there is no task
+  spells_rest : (base : V) (ws us : List ℕ) (g : Holding V) (t : Task) (bs : List Block) (content : List ℕ) → t ≡ Rest → TaskRule K base ws g t bs content → TaskRule K base us g t bs content
+  spells_rest base ws us (Holds b vs) t bs content e h = h
+  spells_rest base ws us Free Rest bs content e h = tt
+  spells_rest base ws us Free (Stream s) bs content e h = absurd ((rest_or s).0 e)
+  spells_rest base ws us Free (Fill s) bs content e h = absurd ((rest_or s).1 e)
+
+  -- what another seat spells, after a write of a word that is in no task of it, or in a stream of it that was found ended
+  spells_beside : (base : V) (ws : List ℕ) (k x n : ℕ) (idle : List ℕ) (g : Holding V) (t : Task) (bs : List Block) (content : List ℕ) (ts : List _) → IsListed n t bs ts → (FoundIdle idle n → is_stream t ≡ false) → Misses k (places_of ts) ⊎ (FoundIdle idle n × IsEnded n ts)
+      → TaskRule K base ws g t bs content → TaskRule K base (set ws k x) g t bs content
+  spells_beside base ws k x n idle g t bs content ts l q m h = ⊎_elim
+      (λ (miss : Misses k (places_of ts)). spells_on base ws k x n g t bs content ts l miss h)
+      (λ (ended : FoundIdle idle n × IsEnded n ts). spells_rest base ws (set ws k x) g t bs content (ended_rests n t bs ts l (q ended.0) ended.1) h)
+      m
+
   agrees_set : (n : ℕ) (b : V) (us ws : List ℕ) (k x : ℕ) → k < length ws → Agrees n (K.tasks b) us ws → Agrees n (K.tasks b) (set us k x) (set ws k x)
   agrees_set n b us ws k x inside h = let long = h.0 in (
     length-set us k x ∙ (h.0 ∙ sym (length-set ws k x)),
@@ -496,7 +515,7 @@ module _ {V E : Type 0} (K : Ghosts V E) (size : ℕ) where
         (λ ne. get_or-set_other us k j x 0 ne ∙ (h.1 j out ∙ sym (get_or-set_other ws k j x 0 ne))),
   )
 
-  pub writes : (slots id : ℕ) (me : M) (b : V) (us : List ℕ) (k x : ℕ) → 0 < me.0.number → me.0.holding ≡ Holds b us → k < size → ((n : ℕ) → n ≢ me.0.number → Misses k (places_of (listed_for n (K.tasks b))))
+  pub writes : (slots id : ℕ) (me : M) (b : V) (us : List ℕ) (k x : ℕ) → 0 < me.0.number → me.0.holding ≡ Holds b us → k < size → ((n : ℕ) → n ≢ me.0.number → Misses k (places_of (listed_for n (K.tasks b))) ⊎ (FoundIdle (idle_of me.0.found) n × IsEnded n (listed_for n (K.tasks b))))
       → Allows Rule slots id me (k + 1) (λ _. x) (λ _. stores_word K (step slots (k + 1) x 0 none) me x)
   writes slots id me b us k x live holds inside clear s r _ at _ =
       let v : View V E = me.0 in
@@ -515,7 +534,8 @@ module _ {V E : Type 0} (K : Ghosts V E) (size : ℕ) where
       let long : length ws ≡ size = length-region size s.words (omega arith) in
       let holding_now : HoldingRule K (word s) (set ws k x) base v.number (written v.holding ((k + 1) - 1) x) = subst (λ (y : Holding V). HoldingRule K (word s) (set ws k x) base v.number y) (sym held) (is, g.1, agrees_set v.number base us ws k x (omega arith) g.2) in
       let spells : TaskRule K base (set ws k x) (written v.holding ((k + 1) - 1) x) v.task v.blocks v.content = subst (λ (y : Holding V). TaskRule K base (set ws k x) y v.task v.blocks v.content) (sym held) (subst (λ (y : Holding V). TaskRule K base ws y v.task v.blocks v.content) holds mine.content) in
-      let clear' : (n : ℕ) → n ≢ v.number → Misses k (places_of (listed_for n (K.tasks base))) = subst (λ (y : V). (n : ℕ) → n ≢ v.number → Misses k (places_of (listed_for n (K.tasks y)))) g.1 clear in
+      let Clear : V → Type 0 = λ y. (n : ℕ) → n ≢ v.number → Misses k (places_of (listed_for n (K.tasks y))) ⊎ (FoundIdle (idle_of v.found) n × IsEnded n (listed_for n (K.tasks y))) in
+      let clear' : Clear base = subst Clear g.1 clear in
       let ms : List ℕ = task_words s in
       let also : task_words_of size (set s.words (k + 1) x) ≡ ms = task_words_low size (k + 1) x s.words (omega arith) in
       let held_not : written v.holding ((k + 1) - 1) x ≡ Free → ⊥ = λ e. holds_free b (set us k x) (sym held ∙ e) in
@@ -526,7 +546,7 @@ module _ {V E : Type 0} (K : Ghosts V E) (size : ℕ) where
       let apart : u.number ≢ v.number = λ same. other (r.apart j id u v e at same alive) in
       with_new_holding (word s) (word s) ws (set ws k x) ms base r.registry u u.holding f
       (holding_else (word s) (word s) u.number ws (set ws k x) base base u.holding (λ e. apart (e ∙ is)) (λ e. apart (sym e ∙ is)) f.holding)
-      (spells_on base ws k x u.number u.holding u.task u.blocks u.content (listed_for u.number (K.tasks base)) f.listed (clear' u.number apart) f.content) f.word_set f.none_found) in
+      (spells_beside base ws k x u.number (idle_of v.found) u.holding u.task u.blocks u.content (listed_for u.number (K.tasks base)) f.listed (λ h. sym (f.word_set (idle_else (word s) u.number ws base u.holding (λ e. apart (e ∙ is)) f.holding)) ∙ bit_zero u.word_set (sym f.task_word ∙ (mine.idle u.number apart h).1)) (clear' u.number apart) f.content) f.word_set f.none_found) in
       let some_word : word s ≢ 0 = λ z. absurd (omega arith) in
       let out_of_slot = r.out_of_slot some_word in (
         w,
@@ -578,6 +598,7 @@ module _ {V E : Type 0} (K : Ghosts V E) (size : ℕ) where
         listed = mine.listed;
         task_word = mine.task_word;
         word_set = mine.word_set;
+        goes_on = mine.goes_on;
         idle = mine.idle;
         none_found = mine.none_found;
         holding = mine.holding;
@@ -596,7 +617,8 @@ module _ {V E : Type 0} (K : Ghosts V E) (size : ℕ) where
         listed = inl fresh.listed;
         task_word = fresh.task_word;
         word_set = λ _. refl;
-        idle = λ k h. absurd (not_in_none k h);
+        goes_on = λ e. absurd (true≢false (sym e));
+        idle = λ k ne h. absurd (not_in_none k h);
         none_found = λ _. refl;
         holding = (λ e. absurd (omega arith));
         content = tt;
@@ -617,6 +639,7 @@ module _ {V E : Type 0} (K : Ghosts V E) (size : ℕ) where
         listed = f.listed;
         task_word = f.task_word;
         word_set = f.word_set;
+        goes_on = f.goes_on;
         idle = f.idle;
         none_found = f.none_found;
         holding = f.holding;
@@ -693,6 +716,7 @@ module _ {V E : Type 0} (K : Ghosts V E) (size : ℕ) where
         listed = mine.listed;
         task_word = mine.task_word;
         word_set = mine.word_set;
+        goes_on = mine.goes_on;
         idle = mine.idle;
         none_found = mine.none_found;
         holding = mine.holding;
@@ -714,6 +738,7 @@ module _ {V E : Type 0} (K : Ghosts V E) (size : ℕ) where
         listed = f.listed;
         task_word = f.task_word;
         word_set = f.word_set;
+        goes_on = f.goes_on;
         idle = f.idle;
         none_found = f.none_found;
         holding = f.holding;
@@ -777,11 +802,11 @@ module _ {V E : Type 0} (K : Ghosts V E) (size : ℕ) where
       let more : 1 < h.1.number = let e = h.3 in omega arith in
       absurd (none_left v.registry (h.1.number - 2) all (subst (λ l. get_elem? l (h.1.number - 2) ≡ some None) (sym (mine.first one)) (f.unmet more))))
 
-  writes_at : (slots id : ℕ) (me : M) (g : Holding V) (k x : ℕ) → 0 < me.0.number → me.0.holding ≡ g → HeldFreeOfOthers K me.0.number k g → k < size → Allows Rule slots id me (k + 1) (λ _. x) (λ _. stores_word K (step slots (k + 1) x 0 none) me x)
+  writes_at : (slots id : ℕ) (me : M) (g : Holding V) (k x : ℕ) → 0 < me.0.number → me.0.holding ≡ g → HeldFreeOfOthers K me.0.number (idle_of me.0.found) k g → k < size → Allows Rule slots id me (k + 1) (λ _. x) (λ _. stores_word K (step slots (k + 1) x 0 none) me x)
   writes_at slots id me Free k x live e h inside = absurd h
   writes_at slots id me (Holds b us) k x live e h inside = writes slots id me b us k x live e inside h
 
-  pub writes_held : (slots id : ℕ) (me : M) (k x : ℕ) → 0 < me.0.number → HeldFreeOfOthers K me.0.number k me.0.holding → k < size → Allows Rule slots id me (k + 1) (λ _. x) (λ _. stores_word K (step slots (k + 1) x 0 none) me x)
+  pub writes_held : (slots id : ℕ) (me : M) (k x : ℕ) → 0 < me.0.number → HeldFreeOfOthers K me.0.number (idle_of me.0.found) k me.0.holding → k < size → Allows Rule slots id me (k + 1) (λ _. x) (λ _. stores_word K (step slots (k + 1) x 0 none) me x)
   writes_held slots id me k x live h inside = writes_at slots id me me.0.holding k x live refl h inside
 
   releases_at : (slots id : ℕ) (me : M) (g : Holding V) (x : V) → 0 < me.0.number → me.1 ≡ (0, Some x) ∷ [] → me.0.holding ≡ g → HoldsTurn g → K.sound (words_of g) x → Follows K me.0.number (idle_of me.0.found) (base_of x g) x → ListsReleased K me.0 x → SpellsReleased K me.0 x (words_of g)
@@ -824,7 +849,8 @@ module _ {V E : Type 0} (K : Ghosts V E) (size : ℕ) where
         listed = inl (ap (listed_for 1) fresh.tasks);
         task_word = zeros size (size + 65) 0;
         word_set = λ _. refl;
-        idle = λ k h. absurd (not_in_none k h);
+        goes_on = λ e. absurd (true≢false (sym e));
+        idle = λ k ne h. absurd (not_in_none k h);
         none_found = λ _. refl;
         holding = (λ e. absurd (omega arith));
         content = tt;
@@ -913,6 +939,7 @@ module _ {V E : Type 0} (K : Ghosts V E) (size : ℕ) where
         listed = mine.listed;
         task_word = mine.task_word;
         word_set = mine.word_set;
+        goes_on = mine.goes_on;
         idle = mine.idle;
         none_found = mine.none_found;
         holding = subst (λ (g : Holding V). HoldingRule K (word s) ws' base v.number g) (sym free) (subst (λ (g : Holding V). HoldingRule K (word s) ws base v.number g) free mine.holding);
@@ -987,7 +1014,8 @@ module _ {V E : Type 0} (K : Ghosts V E) (size : ℕ) where
         listed = inr (refl, (serial, v.blocks, ts_is));
         task_word = zero_set ms (n - 1);
         word_set = λ _. refl;
-        idle = λ k h. let q = mine.idle k h in (q.0, zero_stays ms (n - 1) (k - 1) q.1);
+        goes_on = λ e. absurd (true≢false (sym e));
+        idle = λ k ne h. let q = mine.idle k ne h in (q.0, zero_stays ms (n - 1) (k - 1) q.1);
         none_found = mine.none_found;
         holding = mine.holding;
         content = subst (λ (g : Holding V). TaskRule K base ws g Rest [] []) (sym free) tt;
@@ -997,7 +1025,7 @@ module _ {V E : Type 0} (K : Ghosts V E) (size : ℕ) where
       (λ j z other e alive. let f = r.each j z e alive in
       let apart : z.number ≢ n = λ same. other (r.apart j id z v e at same alive) in
       let off : z.number - 1 ≢ n - 1 = λ same. apart (omega arith) in
-      other_words (word s) ws ms ms' base r.registry z f (get_or-set_other ms (n - 1) (z.number - 1) 0 0 off ∙ f.task_word) (λ k h. let q = f.idle k h in (q.0, zero_stays ms (n - 1) (k - 1) q.1))) in (
+      other_words (word s) ws ms ms' base r.registry z f (get_or-set_other ms (n - 1) (z.number - 1) 0 0 off ∙ f.task_word) (λ k ne h. let q = f.idle k ne h in (q.0, zero_stays ms (n - 1) (k - 1) q.1))) in (
         w,
         keeps,
         tt,
@@ -1019,8 +1047,8 @@ module _ {V E : Type 0} (K : Ghosts V E) (size : ℕ) where
       )
 
   -- the holder sets its own task word
-  pub sets_step : (slots id : ℕ) (me : M) (b : V) (us : List ℕ) → 0 < me.0.number → me.0.number ≤ 65 → me.0.holding ≡ Holds b us → Misses me.0.number (idle_of me.0.found) → Allows Rule slots id me (size + me.0.number) (λ _. 1) (λ _. sets_task_word K (step slots (size + me.0.number) 1 0 none) me 1)
-  sets_step slots id me b us live few holds unheard_own s r _ at _ =
+  pub sets_step : (slots id : ℕ) (me : M) (b : V) (us : List ℕ) → 0 < me.0.number → me.0.number ≤ 65 → me.0.holding ≡ Holds b us → Allows Rule slots id me (size + me.0.number) (λ _. 1) (λ _. sets_task_word K (step slots (size + me.0.number) 1 0 none) me 1)
+  sets_step slots id me b us live few holds s r _ at _ =
       let v : View V E = me.0 in
       let base : V = r.base in
       let n : ℕ = v.number in
@@ -1051,7 +1079,8 @@ module _ {V E : Type 0} (K : Ghosts V E) (size : ℕ) where
         listed = mine.listed;
         task_word = get_or-set_same ms (n - 1) 1 0 (omega arith);
         word_set = λ e. absurd (not_free e);
-        idle = λ k h. let q = mine.idle k h in let off : k - 1 ≢ n - 1 = λ same. let e : n ≡ k = omega arith in h (subst (λ y. Misses y (idle_of v.found)) e unheard_own) in (q.0, get_or-set_other ms (n - 1) (k - 1) 1 0 off ∙ q.1);
+        goes_on = λ _. refl;
+        idle = λ k ne h. let q = mine.idle k ne h in let up : 0 < k = q.0 in let off : k - 1 ≢ n - 1 = λ same. ne (omega arith) in (up, get_or-set_other ms (n - 1) (k - 1) 1 0 off ∙ q.1);
         none_found = λ e. absurd (not_free e);
         holding = mine.holding;
         content = mine.content;
@@ -1062,7 +1091,7 @@ module _ {V E : Type 0} (K : Ghosts V E) (size : ℕ) where
       let apart : z.number ≢ n = λ same. other (r.apart j id z v e at same alive) in
       let off : z.number - 1 ≢ n - 1 = λ same. apart (omega arith) in
       let no_idle : z.found ≡ [] = f.none_found (idle_else (word s) z.number ws base z.holding (λ e. apart (e ∙ g.0)) f.holding) in
-      other_words (word s) ws ms ms' base r.registry z f (get_or-set_other ms (n - 1) (z.number - 1) 1 0 off ∙ f.task_word) (λ k h. absurd (not_in_none k (subst (λ q. FoundIdle (idle_of q) k) no_idle h)))) in (
+      other_words (word s) ws ms ms' base r.registry z f (get_or-set_other ms (n - 1) (z.number - 1) 1 0 off ∙ f.task_word) (λ k ne h. absurd (not_in_none k (subst (λ q. FoundIdle (idle_of q) k) no_idle h)))) in (
         w,
         keeps,
         tt,
@@ -1091,7 +1120,7 @@ module _ {V E : Type 0} (K : Ghosts V E) (size : ℕ) where
 
   -- the rule after the holder read a task word, which says what it found of the seats that it read so far
   found_on : (s : St) (r : Rule s) (i id : ℕ) (cs : List (ℕ × Option V)) (v : View V E) (f : FoundWord) → get_elem? s.views id ≡ some v → 0 < v.number → (v.holding ≡ Free → ⊥)
-      → ((k : ℕ) → FoundIdle (idle_of (f ∷ v.found)) k → (0 < k) × (get_or (task_words s) (k - 1) 0 ≡ 0)) → Rule (stepped s i (get_or s.words i 0) id cs (with_found v (f ∷ v.found)) keeps)
+      → ((k : ℕ) → k ≢ v.number → FoundIdle (idle_of (f ∷ v.found)) k → (0 < k) × (get_or (task_words s) (k - 1) 0 ≡ 0)) → Rule (stepped s i (get_or s.words i 0) id cs (with_found v (f ∷ v.found)) keeps)
   found_on s r i id cs v f at live not_free idle =
       let mine = r.each id v at (λ z. absurd (omega arith)) in
       let w : View V E = with_found v (f ∷ v.found) in
@@ -1109,6 +1138,7 @@ module _ {V E : Type 0} (K : Ghosts V E) (size : ℕ) where
         listed = mine.listed;
         task_word = mine.task_word;
         word_set = λ e. absurd (not_free e);
+        goes_on = mine.goes_on;
         idle = idle;
         none_found = λ e. absurd (not_free e);
         holding = mine.holding;
@@ -1146,21 +1176,21 @@ module _ {V E : Type 0} (K : Ghosts V E) (size : ℕ) where
         with_found v (f ∷ v.found),
         keeps,
         tt,
-        found_on s r (size + m) id me.1 v f at live not_free (λ k h. dite (ℕ_discrete k n)
+        found_on s r (size + m) id me.1 v f at live not_free (λ k other h. dite (ℕ_discrete k n)
             (λ e. let is : k ≡ m = e ∙ seat in let up : 0 < k = omega arith in (up, ap (λ y. get_or ms (y - 1) 0) is ∙ (task_words_at size m s.words some_seat ∙ zero_there)))
-            (λ ne. mine.idle k (λ miss. h (ne, miss)))),
+            (λ ne. mine.idle k other (λ miss. h (ne, miss)))),
         ((λ _. refl), (λ not. absurd (not zero_there))),
       ))
       (λ not.
       let f : FoundWord = found_word n true in
       (with_found v (f ∷ v.found), keeps, tt, found_on s r (size + m) id me.1 v f at live not_free mine.idle, ((λ z. absurd (not z)), (λ _. refl))))
 
-  sets_at : (slots id : ℕ) (me : M) (g : Holding V) → 0 < me.0.number → me.0.number ≤ 65 → me.0.holding ≡ g → HoldsTurn g → Misses me.0.number (idle_of me.0.found) → Allows Rule slots id me (size + me.0.number) (λ _. 1) (λ _. sets_task_word K (step slots (size + me.0.number) 1 0 none) me 1)
-  sets_at slots id me Free live few e h miss = absurd h
-  sets_at slots id me (Holds b us) live few e h miss = sets_step slots id me b us live few e miss
+  sets_at : (slots id : ℕ) (me : M) (g : Holding V) → 0 < me.0.number → me.0.number ≤ 65 → me.0.holding ≡ g → HoldsTurn g → Allows Rule slots id me (size + me.0.number) (λ _. 1) (λ _. sets_task_word K (step slots (size + me.0.number) 1 0 none) me 1)
+  sets_at slots id me Free live few e h = absurd h
+  sets_at slots id me (Holds b us) live few e h = sets_step slots id me b us live few e
 
-  pub sets_held : (slots id : ℕ) (me : M) → 0 < me.0.number → me.0.number ≤ 65 → HoldsTurn me.0.holding → Misses me.0.number (idle_of me.0.found) → Allows Rule slots id me (size + me.0.number) (λ _. 1) (λ _. sets_task_word K (step slots (size + me.0.number) 1 0 none) me 1)
-  sets_held slots id me live few h miss = sets_at slots id me me.0.holding live few refl h miss
+  pub sets_held : (slots id : ℕ) (me : M) → 0 < me.0.number → me.0.number ≤ 65 → HoldsTurn me.0.holding → Allows Rule slots id me (size + me.0.number) (λ _. 1) (λ _. sets_task_word K (step slots (size + me.0.number) 1 0 none) me 1)
+  sets_held slots id me live few h = sets_at slots id me me.0.holding live few refl h
 
   reads_word_at : (slots id : ℕ) (me : M) (g : Holding V) (m : ℕ) → 0 < me.0.number → 0 < m → me.0.holding ≡ g → HoldsTurn g → Allows Rule slots id me (size + m) (λ x. x) (reads_task_word K (step slots (size + m) 0 0 none) me)
   reads_word_at slots id me Free m live up e h = absurd h

@@ -244,6 +244,12 @@ keeps_listed idle k t bs old new h l q = ⊎_elim
     l)
     h
 
+-- a seat without a stream, for which an ended one is listed, rests
+pub ended_rests : (k : ℕ) (t : Task) (bs : List Block) (ts : List ListedTask) → IsListed k t bs ts → is_stream t ≡ false → IsEnded k ts → t ≡ Rest
+ended_rests k Rest bs ts l q ended = refl
+ended_rests k (Stream s) bs ts l q ended = absurd (true≢false q)
+ended_rests k (Fill s) bs ts l q ended = ⊎_elim (λ (i : ts ≡ own k (Fill s) bs). let c : Fill s ≡ Stream ended.0 = sym (ap task_in i) ∙ ap task_in ended.2 in absurd (cc)) (λ (r : (Fill s ≡ Rest) × IsEnded k ts). r.0) l
+
 take_high : (n : ℕ) (l : List ℕ) (j x : ℕ) → n ≤ j → take n (set l j x) ≡ take n l
 take_high zero l j x h = refl
 take_high (suc n) [] j x h = refl

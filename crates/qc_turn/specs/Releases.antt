@@ -1,5 +1,5 @@
 -- What a value has to be at the start, at a release and at the end.
-use Rattle.std.specs.Prelude.{◌≡◌, ◌≢◌, ℕ, ◌+◌, ◌*◌, ◌<◌, ◌≤◌, false, Some, List, [], length, replicate}
+use Rattle.std.specs.Prelude.{◌≡◌, ◌≢◌, ◌⊎◌, ℕ, ◌+◌, ◌*◌, ◌<◌, ◌≤◌, false, Some, List, [], length, replicate}
 use mathlib.Core.Option.{some}
 use lib.ListN.{get_elem?}
 use Rattle.qc_turn.specs.declared.kept.Kept.{Ghosts}
@@ -11,7 +11,7 @@ use Rattle.qc_turn.specs.declared.task.Task.TheVariants.{Fill}
 use Rattle.qc_turn.specs.Blocks.{places, Misses}
 use Rattle.qc_turn.specs.Bytes.{filled}
 use Rattle.qc_turn.specs.Rules.{ContentRule}
-use Rattle.qc_turn.specs.Tasks.{listed_for, places_of, task_in, blocks_in, is_stream, IsListed, KeepsListed, released_task, released_blocks}
+use Rattle.qc_turn.specs.Tasks.{listed_for, places_of, FoundIdle, IsEnded, task_in, blocks_in, is_stream, IsListed, KeepsListed, released_task, released_blocks}
 use Rattle.qc_turn.specs.Views.{of_seat, after_release}
 use Rattle.qc_turn.specs.Words.{StartsWith}
 
@@ -31,13 +31,13 @@ module _ {V E : Type 0} (K : Ghosts V E) where
     pub connected : (k : ℕ) → k ≢ n → K.connected x k ≡ K.connected taken k
     pub tasks : (k : ℕ) → k ≢ n → KeepsListed idle k (listed_for k (K.tasks taken)) (listed_for k (K.tasks x))
 
-  -- the word k is in no task of a seat other than n
-  abbrev pub IsFreeOfOthers : ℕ → ℕ → V → Type 0
-  IsFreeOfOthers n k b = (m : ℕ) → m ≢ n → Misses k (places_of (listed_for m (K.tasks b)))
+  -- the word k is in no task of a seat other than n; a stream that was found ended is none
+  abbrev pub IsFreeOfOthers : ℕ → List ℕ → ℕ → V → Type 0
+  IsFreeOfOthers n idle k b = (m : ℕ) → m ≢ n → Misses k (places_of (listed_for m (K.tasks b))) ⊎ (FoundIdle idle m × IsEnded m (listed_for m (K.tasks b)))
 
-  abbrev pub HeldFreeOfOthers : ℕ → ℕ → Holding V → Type 0
-  HeldFreeOfOthers n k Free = ⊥
-  HeldFreeOfOthers n k (Holds b ws) = IsFreeOfOthers n k b
+  abbrev pub HeldFreeOfOthers : ℕ → List ℕ → ℕ → Holding V → Type 0
+  HeldFreeOfOthers n idle k Free = ⊥
+  HeldFreeOfOthers n idle k (Holds b ws) = IsFreeOfOthers n idle k b
 
   -- what the task spells that the seat has after the release
   abbrev pub SpellsReleased : View V E → V → List ℕ → Type 0

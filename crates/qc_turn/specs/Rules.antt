@@ -1,5 +1,5 @@
 -- What is true of the lock between any two steps of any threads.
-use Rattle.std.specs.Prelude.{◌≡◌, ◌≢◌, ℕ, ◌+◌, ◌-◌, ◌<◌, ◌≤◌, false, Option, Some, None, List, [], length, take, slice_index}
+use Rattle.std.specs.Prelude.{◌≡◌, ◌≢◌, ℕ, ◌+◌, ◌-◌, ◌<◌, ◌≤◌, true, false, Option, Some, None, List, [], length, take, slice_index}
 use mathlib.Core.Option.{some, none}
 use lib.ListN.{get_elem?}
 use Rattle.atomic_table.specs.Table.{State}
@@ -14,7 +14,7 @@ use Rattle.qc_turn.specs.declared.task.Task.TheVariants.{Rest, Stream, Fill}
 use Rattle.qc_turn.specs.Blocks.{spelled}
 use Rattle.qc_turn.specs.Bytes.{bytes_of}
 use Rattle.qc_turn.specs.Tasks.{listed_for, is_stream, IsListed, FoundIdle, Agrees}
-use Rattle.qc_turn.specs.Views.{Apart, of_seat, idle_of}
+use Rattle.qc_turn.specs.Views.{Apart, of_seat, idle_of, IsSoundJournal}
 use Rattle.qc_turn.specs.Words.{StartsWith, region, task_words_of, bit, extra_words, last_seat}
 
 module _ {V E : Type 0} (K : Ghosts V E) where
@@ -41,14 +41,16 @@ module _ {V E : Type 0} (K : Ghosts V E) where
     pub first : v.number ≡ 1 → v.registry ≡ registry
     pub unmet : 1 < v.number → get_elem? registry (v.number - 2) ≡ some None
     pub seen : StartsWith (K.journal base) v.seen
-    pub was_sound : (x : V) × (over : List ℕ) × K.sound over x × (K.journal x ≡ v.seen)
+    pub was_sound : IsSoundJournal K v.seen
     pub fixed : v.fixed ≡ K.fixed base
     pub events : v.events ≡ of_seat K v.number (K.journal base)
     pub connected : v.connected ≡ K.connected base v.number
     pub listed : IsListed v.number v.task v.blocks (listed_for v.number (K.tasks base))
     pub task_word : slice_index task_words (v.number - 1) ≡ bit v.word_set
     pub word_set : v.holding ≡ Free → v.word_set ≡ is_stream v.task
-    pub idle : (k : ℕ) → FoundIdle (idle_of v.found) k → (0 < k) × (slice_index task_words (k - 1) ≡ 0)
+    -- the stream of a seat that holds the turn goes on
+    pub goes_on : is_stream v.task ≡ true → v.word_set ≡ true
+    pub idle : (k : ℕ) → k ≢ v.number → FoundIdle (idle_of v.found) k → (0 < k) × (slice_index task_words (k - 1) ≡ 0)
     pub none_found : v.holding ≡ Free → v.found ≡ []
     pub holding : HoldingRule turn_word words base v.number v.holding
     pub content : TaskRule base words v.holding v.task v.blocks v.content

@@ -11,10 +11,14 @@ use Rattle.qc_turn.specs.declared.view.View.{View}
 use Rattle.qc_turn.specs.declared.view.Holding.TheVariants.{Free, Holds}
 use Rattle.qc_turn.specs.Releases.{Follows}
 use Rattle.qc_turn.specs.Tasks.{HasBlocks, words_in}
-use Rattle.qc_turn.specs.Views.{words_of, base_of, idle_of, with_holding}
+use Rattle.qc_turn.specs.Views.{IsSoundJournal, words_of, base_of, idle_of, with_holding}
 
 abbrev pub Held : (V E : Type 0) → Ghosts V E → Type 0
 Held V E K = TurnGuard V Ranged E K
+
+-- no blocks, and room for none
+abbrev pub no_ranges : Ranged
+no_ranges = record { blocks = []; bytes = 0; room = 0 }
 
 module _ {V E : Type 0} where
   abbrev pub turn_id : Turn V E → TableId
@@ -29,12 +33,13 @@ module _ {V E : Type 0} {K : Ghosts V E} where
   abbrev pub view : Seat V E K → View V E
   view s = s.pass.me.0
 
-  -- The seat is one of this turn's and doesn't hold it.
+  -- The seat is one of this turn's and doesn't hold it. What it has seen was the journal of a value that was sound.
   pub record IsSeatOf (t : Turn V E) (s : Seat V E K) : Type 0 where
     pub table : s.pass.table_id ≡ turn_id t
     pub out : s.pass.me.1 ≡ []
     pub free : (view s).holding ≡ Free
     pub ranges : HasBlocks (view s).task (view s).blocks s.ranges.blocks
+    pub was_sound : IsSoundJournal K (view s).seen
 
   -- of whichever turn the one is a seat, the other is too
   abbrev pub StaysSeat : Seat V E K → Seat V E K → Type 0

@@ -10,7 +10,7 @@ use Rattle.qc_turn.specs.Blocks.{places}
 use Rattle.qc_turn.specs.Bytes.{filled}
 use Rattle.qc_turn.specs.Rules.{ContentRule}
 use Rattle.qc_turn.specs.Tasks.{listed_for, is_stream, IsListed, OutsideOtherFills}
-use Rattle.qc_turn.specs.Views.{of_seat, words_of, written, with_holding, with_content, with_word_set, with_found, found_word, after_stream, after_release}
+use Rattle.qc_turn.specs.Views.{of_seat, IsSoundJournal, words_of, written, with_holding, with_content, with_word_set, with_found, found_word, after_stream, after_release}
 use Rattle.qc_turn.specs.Words.{StartsWith, last_seat}
 
 module _ {V E : Type 0} (K : Ghosts V E) where
@@ -28,7 +28,7 @@ module _ {V E : Type 0} (K : Ghosts V E) where
     pub listed : IsListed v.number v.task v.blocks (listed_for v.number (K.tasks value))
     pub word_set : v.word_set ≡ is_stream v.task
     pub none_found : v.found ≡ []
-    pub was_sound : (x : V) × (over : List ℕ) × K.sound over x × (K.journal x ≡ v.seen)
+    pub was_sound : IsSoundJournal K v.seen
     pub content : ContentRule K value words v.task v.blocks v.content
     pub zero_number : (K.connected value 0 ≡ false) × (listed_for 0 (K.tasks value) ≡ [])
 

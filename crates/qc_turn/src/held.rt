@@ -22,7 +22,6 @@ pub struct TurnGuard<'a, V: Kept, G> {
 pub type Held<'a, V> = TurnGuard<'a, V, Ranges>;
 
 impl<'a, V: Kept> Held<'a, V> {
-    ghost use Rattle.qc_turn.specs.Blocks.{Misses};
     ghost use Rattle.qc_turn.specs.Tasks.{OutsideOtherFills, listed_for, is_stream, IsListed};
     ghost use Rattle.qc_turn.specs.Views.{with_word_set, with_found, found_word, idle_of, after_release};
     ghost use Rattle.qc_turn.specs.Releases.{Follows, IsFreeOfOthers, SpellsReleased};
@@ -66,11 +65,12 @@ impl<'a, V: Kept> Held<'a, V> {
         self.turn.read(self.seat, word)
     }
 
-    /// Stores a word of the region, below the number of words, that is in no task of another seat. One store.
+    /// Stores a word of the region, below the number of words, that is in no task of another seat. A stream that `streams` found ended in this holding is
+    /// none. One store.
     pub fn store(&mut self, word: u32, value: u64)
         requires held { IsHeld self.old }
         requires inside { word < length (words self.old) }
-        requires free { IsFreeOfOthers V.Kept (holder self.old).number word (taken self.old) }
+        requires free { IsFreeOfOthers V.Kept (holder self.old).number (idle_of (holder self.old).found) word (taken self.old) }
         ensures held { IsHeld self.new × SameHolder self.old self.new }
         ensures same { (self.new.value ≡ self.old.value) × (self.new.ranges ≡ self.old.ranges) }
         ensures words { words self.new ≡ slice_set (words self.old) word value }
@@ -99,10 +99,11 @@ impl<'a, V: Kept> Held<'a, V> {
         requires follows { Follows V.Kept (holder self).number (idle_of (holder self).found) (taken self) self.value }
         requires task { IsListed (holder self).number task (held_blocks self) (listed_for (holder self).number (V.tasks self.value)) }
         requires goes_on { (holder self).word_set ≡ true → is_stream task ≡ true }
-        requires few { is_stream task ≡ true → ((holder self).number ≤ word_seats) × Misses (holder self).number (idle_of (holder self).found) }
+        requires few { is_stream task ≡ true → (holder self).number ≤ word_seats }
         requires content { SpellsReleased V.Kept (with_word_set (holder self) (is_stream task)) self.value (words self) }
         ensures seated { IsSeatOf self.entry.turn.now self.exit.1.0.now }
         ensures view { view self.exit.1.0.now ≡ after_release V.Kept (with_word_set (holder self.entry) (is_stream task)) self.entry.value (words self.entry) }
+        ensures ranges { self.exit.1.0.now.ranges ≡ self.entry.ranges }
     {
         let Held {
             turn,

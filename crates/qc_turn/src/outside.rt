@@ -2,7 +2,6 @@
 
 ghost use Rattle.std.specs.Prelude.{◌≡◌, ℕ, ◌+◌, ◌<◌, ◌≤◌, ◌^◌, length, slice_index};
 ghost use Rattle.qc_turn.specs.Blocks.{places};
-ghost use Rattle.qc_turn.specs.Words.{word_seats};
 
 use crate::kept::Kept;
 use crate::seat::Seat;
@@ -40,7 +39,7 @@ impl<V: Kept> Seat<V> {
         requires seated { IsSeatOf turn.now self.old }
         requires streaming { (serial : ℕ) × ((view self.old).task ≡ Stream serial) }
         requires inside { index < length (places (view self.old).blocks) }
-        ensures seated { IsSeatOf turn.now self.new × (view self.new ≡ view self.old) }
+        ensures seated { IsSeatOf turn.now self.new × (view self.new ≡ view self.old) × (self.new.ranges ≡ self.old.ranges) }
         ensures word { result ≡ slice_index (view self.old).content index }
     {
         let word = self.ranges.word(index);
@@ -53,11 +52,12 @@ impl<V: Kept> Seat<V> {
         requires seated { IsSeatOf turn.now self.old }
         requires streaming { (serial : ℕ) × ((view self.old).task ≡ Stream serial) }
         requires inside { index + length out.old ≤ length (places (view self.old).blocks) }
-        requires small { index + length out.old < 2 ^ 32 }
-        ensures seated { IsSeatOf turn.now self.new × (view self.new ≡ view self.old) }
+        ensures seated { IsSeatOf turn.now self.new × (view self.new ≡ view self.old) × (self.new.ranges ≡ self.old.ranges) }
         ensures len { length out.new ≡ length out.old }
         ensures words { (k : ℕ) → k < length out.old → slice_index out.new k ≡ slice_index (view self.old).content (index + k) }
     {
+        let words = self.ranges.words();
+        prove!(index as usize + out.len() <= words as usize);
         let mut run = Run { first: 0, words: 0 };
         for at in 0..out.len() {
             run = next_run(&self.ranges, run, index + at as u32);
@@ -84,9 +84,9 @@ impl<V: Kept> Seat<V> {
     pub fn clear_stream(&mut self, turn: &Turn<V>)
         requires seated { IsSeatOf turn.now self.old }
         requires streaming { (serial : ℕ) × ((view self.old).task ≡ Stream serial) }
-        requires few { (view self.old).number ≤ word_seats }
         ensures seated { IsSeatOf turn.now self.new }
         ensures view { view self.new ≡ after_stream (view self.old) }
+        ensures ranges { self.new.ranges ≡ self.old.ranges }
     {
         let word = turn.words + self.number;
         turn.table
@@ -104,6 +104,7 @@ impl<V: Kept> Seat<V> {
         requires filling { MayFill V.Kept (view self.old) index value bytes }
         ensures seated { IsSeatOf turn.now self.new }
         ensures view { view self.new ≡ with_content (view self.old) (filled (view self.old).content index value bytes) }
+        ensures ranges { self.new.ranges ≡ self.old.ranges }
     {
         self.store_word_filled::<Brand>(turn, index, value, bytes);
     }
@@ -114,6 +115,7 @@ impl<V: Kept> Seat<V> {
         requires picks { (N.index ≡ index) × (N.count ≡ bytes) }
         ensures seated { IsSeatOf turn.now self.new }
         ensures view { view self.new ≡ with_content (view self.old) (filled (view self.old).content index value bytes) }
+        ensures ranges { self.new.ranges ≡ self.old.ranges }
     {
         let word = self.ranges.word(index);
         turn.table

@@ -1,8 +1,9 @@
 //! A thread takes the turn with a seat, and streams and fills with it.
 
-ghost use Rattle.std.specs.Prelude.{◌≡◌, ℕ, ◌+◌, ◌<◌, [], length, slice_index, OnOk, OnErr, IfOk};
+ghost use Rattle.std.specs.Prelude.{◌≡◌, ℕ, ◌+◌, ◌<◌, ◌≤◌, [], true, length, slice_index, OnOk, OnErr, IfOk};
 ghost use Rattle.qc_turn.specs.Blocks.{places};
-ghost use Rattle.qc_turn.specs.Words.{extra_words, last_seat};
+ghost use Rattle.qc_turn.specs.Tasks.{is_stream};
+ghost use Rattle.qc_turn.specs.Words.{extra_words, last_seat, word_seats};
 
 use crate::kept::Kept;
 use crate::steps::Seating;
@@ -30,6 +31,7 @@ pub struct Seat<V: Kept> {
     ghost counted: { made ≡ length pass.me.0.registry + 1 },
     ghost sized: { pass.me.0.size + extra_words ≡ pass.table_id.words },
     ghost tasked: { (task ≡ pass.me.0.task) × (word_set ≡ pass.me.0.word_set) },
+    ghost few: { (is_stream pass.me.0.task ≡ true → word_set ≡ true) × (word_set ≡ true → number ≤ word_seats) },
     ghost within: { (k : ℕ) → k < length (places pass.me.0.blocks) → slice_index (places pass.me.0.blocks) k < pass.me.0.size },
 }
 
@@ -37,7 +39,7 @@ impl<V: Kept> Seat<V> {
     ghost use Rattle.qc_turn.specs.declared.task.Task.TheVariants.{Rest};
     ghost use Rattle.qc_turn.specs.declared.turn.Turn.{Turn};
     ghost use Rattle.qc_turn.specs.Views.{after_split, next_seat, after_meet};
-    ghost use Rattle.qc_turn.specs.Seats.{view, task_words, IsSeatOf, StaysSeat};
+    ghost use Rattle.qc_turn.specs.Seats.{view, task_words, no_ranges, IsSeatOf, StaysSeat};
 
     /// Its number. Seats are numbered from 1 in the order in which they are made.
     pub fn number(&self) -> u32
@@ -81,8 +83,8 @@ impl<V: Kept> Seat<V> {
         requires first { (view self.old).number ≡ 1 }
         requires few { self.old.made < last_seat }
         ensures seated { IsSeatOf turn.now self.new }
-        ensures next { IfOk result (λ next. IsSeatOf turn.now next × (view next ≡ next_seat (view self.old))) }
-        ensures ok { OnOk result ((view self.new ≡ after_split (view self.old)) × (self.new.made ≡ self.old.made + 1)) }
+        ensures next { IfOk result (λ next. IsSeatOf turn.now next × (view next ≡ next_seat (view self.old)) × (next.ranges ≡ no_ranges)) }
+        ensures ok { OnOk result ((view self.new ≡ after_split (view self.old)) × (self.new.made ≡ self.old.made + 1) × (self.new.ranges ≡ self.old.ranges)) }
         ensures err { OnErr result (self.new ≡ self.old) }
     {
         let ranges = Ranges::new(alloc, 0)?;
@@ -106,7 +108,7 @@ impl<V: Kept> Seat<V> {
         requires first { ((view self.old).number ≡ 1) × (1 < (view other).number) }
         requires rests { (view other).task ≡ Rest }
         ensures seated { IsSeatOf turn.now self.new }
-        ensures made { self.new.made ≡ self.old.made }
+        ensures same { (self.new.made ≡ self.old.made) × (self.new.ranges ≡ self.old.ranges) }
         ensures view { view self.new ≡ after_meet (view self.old) (view other) }
     {
         let Seat {

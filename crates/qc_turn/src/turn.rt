@@ -57,12 +57,11 @@ pub struct Busy<'a, V: Kept> {
 }
 
 impl<V: Kept> Turn<V> {
-    ghost use Rattle.qc_turn.specs.Blocks.{Misses};
     ghost use Rattle.qc_turn.specs.Tasks.{listed_for, IsListed, is_stream};
     ghost use Rattle.qc_turn.specs.Views.{with_holding, words_of, base_of, HoldsTurn, written, after_release, with_word_set, with_found, found_word, idle_of, AllMet, first_seat};
     ghost use Rattle.qc_turn.specs.Steps.{takes_turn, Taken, TookTurn, LoadedWord};
     ghost use Rattle.qc_turn.specs.Releases.{Follows, IsFresh, ClosesWith, SpellsReleased, HeldFreeOfOthers};
-    ghost use Rattle.qc_turn.specs.Seats.{view, turn_id, IsSeatOf, words, holder, IsHeld};
+    ghost use Rattle.qc_turn.specs.Seats.{view, turn_id, no_ranges, IsSeatOf, words, holder, IsHeld};
     ghost use Rattle.atomic_table.specs.Table.{step};
     ghost use mathlib.Core.Option.{none};
 
@@ -73,7 +72,7 @@ impl<V: Kept> Turn<V> {
         V: Drop,
         requires words { words ≤ most_words }
         requires fresh { IsFresh V.Kept words value }
-        ensures { IfOk result (λ made. IsSeatOf made.0 made.1 × (view made.1 ≡ first_seat words (V.fixed value)) × (made.1.made ≡ 1) × (made.0.words ≡ words)) }
+        ensures { IfOk result (λ made. IsSeatOf made.0 made.1 × (view made.1 ≡ first_seat words (V.fixed value)) × (made.1.made ≡ 1) × (made.0.words ≡ words) × (made.1.ranges ≡ no_ranges)) }
     {
         let row = Vec::from_elem(alloc, 0, (words + EXTRA_WORDS) as usize)?;
         let mut slots = Vec::with_capacity(alloc, 1)?;
@@ -132,7 +131,7 @@ impl<V: Kept> Turn<V> {
         ensures taken { IfOk result (λ held. Taken V.Kept (view seat.old) held.value (words held)) }
         ensures ranges { IfOk result (λ held. held.ranges ≡ seat.old.ranges) }
         ensures holds { IfOk result (λ held. holder held ≡ with_holding (view seat.old) (Holds held.value (words held))) }
-        ensures handed_back { IfErr result (λ busy. (busy.seat.ghost_name ≡ seat.entry.ghost_name) × IsSeatOf self.now busy.seat.now × (view busy.seat.now ≡ view seat.old)) }
+        ensures handed_back { IfErr result (λ busy. (busy.seat.ghost_name ≡ seat.entry.ghost_name) × IsSeatOf self.now busy.seat.now × (view busy.seat.now ≡ view seat.old) × (busy.seat.now.ranges ≡ seat.old.ranges)) }
         ensures other { IfErr result (λ busy. (busy.holder ≢ 0) × (busy.holder ≢ (view seat.old).number)) }
     {
         match self.try_seize(seat) {
@@ -255,7 +254,7 @@ impl<V: Kept> Turn<V> {
     pub(crate) fn write(&self, seat: &mut Seat<V>, word: u32, value: u64)
         requires turn { seat.old.pass.table_id ≡ turn_id self.now }
         requires inside { word < self.now.words }
-        requires free { HeldFreeOfOthers V.Kept (view seat.old).number word (view seat.old).holding }
+        requires free { HeldFreeOfOthers V.Kept (view seat.old).number (idle_of (view seat.old).found) word (view seat.old).holding }
         ensures same { (seat.new.pass.me.1 ≡ seat.old.pass.me.1) × (seat.new.pass.table_id ≡ seat.old.pass.table_id) }
         ensures view { view seat.new ≡ with_holding (view seat.old) (written (view seat.old).holding word value) }
     {
@@ -274,6 +273,7 @@ impl<V: Kept> Turn<V> {
         requires content { SpellsReleased V.Kept (view seat.old) value (words_of (view seat.old).holding) }
         ensures seated { IsSeatOf self.now seat.new }
         ensures view { view seat.new ≡ after_release V.Kept (view seat.old) value (words_of (view seat.old).holding) }
+        ensures ranges { seat.new.ranges ≡ ranges }
     {
         let out = self
             .table
@@ -291,7 +291,6 @@ impl<V: Kept> Turn<V> {
     pub(crate) fn set_task_word(&self, seat: &mut Seat<V>)
         requires turn { (seat.old.pass.table_id ≡ turn_id self.now) × HoldsTurn (view seat.old).holding }
         requires few { (view seat.old).number ≤ word_seats }
-        requires not_found { Misses (view seat.old).number (idle_of (view seat.old).found) }
         ensures same { (seat.new.pass.me.1 ≡ seat.old.pass.me.1) × (seat.new.pass.table_id ≡ seat.old.pass.table_id) }
         ensures view { view seat.new ≡ with_word_set (view seat.old) true }
     {

@@ -1,6 +1,8 @@
 use Rattle.std.proofs.Common.{◌^◌, ◌≡◌, ◌<◌, ◌≤◌, ◌+◌, ℕ, length, get_or, set, sym, ap, subst, ◌∙◌, arith, List, length-set, get_or-set_same, get_or-set_other}
 use mathlib.Core.Logic.{dite}
 use native.Mathlib.Decide.{ℕ_discrete}
+use Rattle.qc_chain.specs.Words.{words_of}
+use Rattle.qc_turn.proofs.Tasks.{length_words}
 use Rattle.qc_turn.specs.Blocks.{places}
 use Rattle.qc_turn.specs.Tasks.{HasBlocks}
 use Rattle.qc_turn.specs.Seats.{view}
@@ -30,6 +32,7 @@ loop-at-preserved g c =
     record {
       seated = e.seated.0;
       same = e.seated.1 ∙ i.same;
+      ranges = e.seated.2 ∙ i.ranges;
       long = length-set c.loop-at.out at c.load_place.result ∙ long;
       inside = λ h. omega (arith, within, h);
       places = λ k h.
@@ -52,3 +55,14 @@ next_run-run-requires-clause-small g c =
     let width = c.args.turn.now.sized.0 in
     let most = c.args.turn.now.small in
     subst (λ (l : List Block). (k : ℕ) → k < length (places l) → get_or (places l) k 0 < 2 ^ 32) (sym hand) (λ k h. let low = c.args.self.now.within k h in omega (arith, low, sized, place, width, most))
+
+pub prove-unreachable-requires : goal.prove-unreachable-requires
+prove-unreachable-requires g c =
+    let blocks = (view c.args.self.now).blocks in
+    let hand : c.args.self.now.ranges.blocks ≡ blocks = subst (λ t. HasBlocks t blocks c.args.self.now.ranges.blocks) c.requires.streaming.1 c.requires.seated.ranges in
+    let same = ap words_of hand in
+    let long = length_words blocks in
+    let words = c.words-words.ensures in
+    let less = c.if-prove.true in
+    let inside = c.requires.inside in
+    omega (arith, same, long, words, less, inside)

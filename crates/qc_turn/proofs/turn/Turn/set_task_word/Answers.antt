@@ -16,4 +16,4 @@ store-requires g c =
     let live : 0 < me.0.number = omega (arith, c.args.seat.now.numbered.0, c.args.seat.now.numbered.1) in
     let at : size + me.0.number ≡ t.words + c.args.seat.now.number = omega (arith, t.sized.2, c.args.seat.now.numbered.0) in
     let fits : t.words + c.args.seat.now.number < t.table.shared.table_id.words = omega (arith, t.sized.0, c.args.seat.now.numbered.0, c.requires.few) in
-    (c.requires.turn.0, fits, subst (λ (w : ℕ). Allows (TurnRule g.V.Kept size) slots id me w (λ _. 1) (λ _. sets_task_word g.V.Kept (step slots w 1 0 none) me 1)) at (sets_held g.V.Kept size slots id me live c.requires.few c.requires.turn.1 c.requires.not_found))
+    (c.requires.turn.0, fits, subst (λ (w : ℕ). Allows (TurnRule g.V.Kept size) slots id me w (λ _. 1) (λ _. sets_task_word g.V.Kept (step slots w 1 0 none) me 1)) at (sets_held g.V.Kept size slots id me live c.requires.few c.requires.turn.1))

@@ -3,7 +3,7 @@ use Rattle.atomic_table.specs.Table.{rest}
 use Rattle.qc_turn.specs.Seats.{view}
 use Rattle.qc_turn.specs.Steps.{Taken}
 use Rattle.qc_turn.specs.Tasks.{HasBlocks}
-use Rattle.qc_turn.specs.Views.{with_holding}
+use Rattle.qc_turn.specs.Views.{IsSoundJournal, with_holding}
 use Rattle.qc_turn.specs.declared.view.Holding.TheVariants.{Holds}
 use Rattle.qc_chain.specs.Chains.{Ranged}
 use Rattle.qc_turn.proofs.RuleKept.{came_out}
@@ -26,6 +26,7 @@ returns-then-found-ne0 g c = let t = c.ask-found.ensures.tells.1 c.if-found-ne0.
     out = ap (λ m. m.1) t.0 ∙ c.requires.out;
     free = ap (λ m. m.0.holding) t.0 ∙ c.requires.free;
     ranges = subst (λ (p : _ × Ranged). HasBlocks p.0.0.task p.0.0.blocks p.1.blocks) (λ i. (sym t.0 i, sym c.ask-found.ensures.table.1 i)) c.requires.ranges;
+    was_sound = subst (λ (m : _). IsSoundJournal g.V.Kept m.0.seen) (sym t.0) c.requires.was_sound;
   },
   ap (λ m. m.0) t.0,
   c.ask-found.ensures.table.1,
