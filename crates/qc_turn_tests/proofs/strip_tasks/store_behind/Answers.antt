@@ -1,4 +1,4 @@
-use Rattle.std.proofs.Common.{◌≤◌, ◌≡◌, ◌∙◌, ℕ, ap, sym, subst}
+use Rattle.std.proofs.Common.{◌≤◌, ◌≡◌, ◌∙◌, ℕ, inl, ap, sym, subst}
 use Rattle.qc_turn.specs.Seats.{taken, with_value}
 use Rattle.qc_turn.specs.Views.{base_of}
 use Rattle.qc_turn_tests.specs.declared.strip.Strip.{Strip}
@@ -14,4 +14,4 @@ store-requires-clause-free g c = λ m ne.
     let unit : v.unit ≡ c.args.unit = ap (λ (s : Strip). s.unit) same ∙ has.0 in
     let count : v.count ≡ c.args.count = ap (λ (s : Strip). s.count) same ∙ has.1 in
     let behind : span v.unit v.count ≤ c.args.word = subst (λ (p : ℕ × ℕ). span p.0 p.1 ≤ c.args.word) (λ i. (sym unit i, sym count i)) c.requires.behind.0 in
-    behind_clear m c.args.word v.seat v.unit v.count v.task behind
+    inl (behind_clear m c.args.word v.seat v.unit v.count v.task behind)
