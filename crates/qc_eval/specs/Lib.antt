@@ -16,3 +16,4 @@ pub mod SortKeys
 pub mod Stages
 pub mod Buffers
 pub mod Plans
+pub mod Truths

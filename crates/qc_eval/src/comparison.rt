@@ -3,6 +3,7 @@
 ghost use Rattle.std.specs.Prelude.{◌≡◌, true};
 ghost use Rattle.qc_types.specs.declared.names.Value.TheVariants as value;
 ghost use Rattle.qc_sql.specs.Rows as meant;
+ghost use Rattle.qc_eval.specs.Truths.{combine, is_known};
 ghost use Rattle.qc_eval.specs.Values.{cell_value};
 
 use qc_sql::cells::Cell;
@@ -104,6 +105,13 @@ pub fn either(a: Option<bool>, b: Option<bool>) -> Option<bool>
     negated(both(negated(a), negated(b)))
 }
 
+/// OR where true is decisive, and AND where false is.
+pub fn combine(decisive: bool, a: Option<bool>, b: Option<bool>) -> Option<bool>
+    ensures { result ≡ combine decisive a b }
+{
+    if decisive { either(a, b) } else { both(a, b) }
+}
+
 /// Whether a truth is known to hold.
 pub fn is_true(a: Option<bool>) -> bool
     ensures { result ≡ meant.is_true a }
@@ -111,9 +119,12 @@ pub fn is_true(a: Option<bool>) -> bool
     matches!(a, Some(true))
 }
 
-/// Whether a truth is known not to hold.
-pub fn is_false(a: Option<bool>) -> bool
-    ensures { result ≡ meant.is_true (meant.negated a) }
+/// Whether a truth is known to be this one.
+pub fn is_known(a: Option<bool>, value: bool) -> bool
+    ensures { result ≡ is_known a value }
 {
-    matches!(a, Some(false))
+    match a {
+        Some(known) => known == value,
+        None => false,
+    }
 }

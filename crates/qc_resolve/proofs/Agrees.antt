@@ -32,6 +32,7 @@ use Rattle.qc_resolve.proofs.Fits.{combinations_fit, all_filter, all_sorted}
 use Rattle.qc_resolve.proofs.GroupAgrees.{worth}
 use Rattle.qc_resolve.proofs.ItemAgrees.{IsShown, SameShown, shown_same}
 use Rattle.qc_resolve.proofs.OrderAgrees.{SameOrder, order_same}
+use Rattle.qc_resolve.proofs.Parts.{parts_are}
 use Rattle.qc_resolve.proofs.TestAgrees.{SameCondition, condition_same, kept_same}
 
 -- what a validated SELECT gives
@@ -194,10 +195,11 @@ module _ (flags : Flags) (scope : Scope) (sound : AllByRecursion IsSoundBound sc
   both_refusals (Some n) f b e r w h = refl
 
   pub over_same : (select : Select) → rows_over select scope.db flags scope.session bounds ≡ given (validated_over select flags scope)
-  unfolding rows_over validated_over parts_validated ordered_aggregate
+  unfolding rows_over validated_over ordered_aggregate
   over_same select =
       both_refusals (first_repeated [] (map (λ b. b.called) bounds)) name_not_unique (nat_lt (2 ^ 40) (combination_count bounds)) too_many_combinations _ _
-      (shown_case (has_aggregate select) select (shown_items flags scope select) (shown_validated flags scope select) (shown_same flags scope select))
+      (shown_case (has_aggregate select) select (shown_items flags scope select) (shown_validated flags scope select) (shown_same flags scope select)
+      ∙ ap given (sym (parts_are select flags scope)))
 
 -- ---- the whole
 

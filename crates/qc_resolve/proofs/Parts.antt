@@ -1,64 +1,67 @@
 -- The last steps of a SELECT that is validated.
-use Rattle.std.proofs.Common.{◌≡◌, ℕ, ◌≤◌, Bool, true, false, List, subst, length, map, ap, ◌∙◌, Result, Ok, Err, arith}
+use Rattle.std.proofs.Common.{◌≡◌, ℕ, Bool, true, false, List, subst, length, map, refl, ap, sym, ◌∙◌, Result, Ok, Err, arith}
 use Rattle.std.proofs.lemmas.Bool.Decides.{nat_tests}
-use Rattle.std.specs.Prelude.{Option, ◌&&◌, ◌==◌, nat_lt, codes}
+use Rattle.std.specs.Prelude.{◌&&◌, ◌==◌, not, nat_lt, codes}
+use Rattle.qc_types.specs.Answers.{Gives}
+use Rattle.qc_types.specs.declared.memory.Or.{Or}
 use Rattle.qc_types.specs.declared.sql_error.SqlError.{SqlError}
 use Rattle.qc_sql.specs.declared.session.Flags.{Flags}
+use Rattle.qc_sql.specs.declared.statements.Order.{Order}
 use Rattle.qc_sql.specs.declared.statements.Select.{Select}
 use Rattle.qc_sql.specs.Errors.{not_supported, too_many_columns}
 use Rattle.qc_sql.specs.Rows.{Scope, has_aggregate, refuse_if, ◌>>=◌}
 use Rattle.qc_resolve.specs.declared.items.Shown.{Shown}
-use Rattle.qc_resolve.specs.declared.test.Test.{Test}
+use Rattle.qc_resolve.specs.declared.resolved.OrderKey.{OrderKey}
 use Rattle.qc_resolve.specs.declared.resolved.Resolved.{Resolved}
-use Rattle.qc_resolve.specs.Validated.{shown_validated, condition_validated, order_validated, output_validated, offset_of, count_of, parts_validated}
+use Rattle.qc_resolve.specs.declared.select.Selection.{Selection}
+use Rattle.qc_resolve.specs.Validated.{shown_validated, condition_validated, order_allowed, order_validated, selection_validated, resolved_of, parts_validated}
 
-module _ (select : Select) (flags : Flags) (scope : Scope) (s : Shown) (t : Option Test)
-    (shown : shown_validated flags scope select ≡ Ok s) (few : nat_lt 64 (length s.columns) ≡ false) (kept : condition_validated scope select.cond ≡ Ok t) where
-  abbrev ordered : Bool → Option Test → Shown → Result Resolved SqlError
-  ordered b t s = refuse_if b (not_supported (codes "ordered aggregate")) >>= λ _. order_validated scope select.order >>= λ order.
-      Ok (record {
-        columns = s.columns;
-        tables = map (λ b. b.table) scope.bounds;
-        test = t;
-        output = output_validated (has_aggregate select) s order;
-        offset = offset_of select.limit;
-        count = count_of select.limit flags.row_limit;
-      })
+then_then : {A B C : Type 0} (r : Result A SqlError) (f : A → Result B SqlError) (g : B → Result C SqlError) → ((r >>= f) >>= g) ≡ (r >>= λ x. f x >>= g)
+then_then (Ok x) f g = refl
+then_then (Err e) f g = refl
 
-  abbrev is_ordered : Bool
-  is_ordered = has_aggregate select && nat_lt 0 (length select.order)
+then_same : {A B : Type 0} (r : Result A SqlError) (f g : A → Result B SqlError) → ((x : A) → f x ≡ g x) → (r >>= f) ≡ (r >>= g)
+then_same (Ok x) f g h = h x
+then_same (Err e) f g h = refl
 
-  parts_are : parts_validated select flags scope ≡ ordered is_ordered t s
+-- whether an order stands beside an aggregate
+abbrev is_ordered : Select → Bool
+is_ordered select = has_aggregate select && nat_lt 0 (length select.order)
+
+some_are : (n : ℕ) → not (n == 0) ≡ nat_lt 0 n
+some_are n = grind (arith, nat_tests)
+
+module _ (select : Select) (scope : Scope) (b : Bool) (tested : b ≡ (has_aggregate select && not (length select.order == 0))) where
+  abbrev ordered : Bool → Result (List OrderKey) SqlError
+  ordered b = refuse_if b (not_supported (codes "ordered aggregate")) >>= λ _. order_validated scope select.order
+
+  is_so : is_ordered select ≡ b
+  is_so = sym (tested ∙ ap (λ some. has_aggregate select && some) (some_are (length select.order)))
+
+  pub order_refused : b ≡ true → order_allowed scope select ≡ Err (not_supported (codes "ordered aggregate"))
+  order_refused h = ap ordered (is_so ∙ h)
+
+  pub order_given : (r : Result (List OrderKey) (Or SqlError)) (orders : List Order) → b ≡ false → orders ≡ select.order
+      → Gives (λ ks. ks) (λ e. e) r (order_validated scope orders) → Gives (λ ks. ks) (λ e. e) r (order_allowed scope select)
+  order_given r orders h same g = subst (Gives (λ ks. ks) (λ e. e) r) (ap (order_validated scope) same ∙ sym (ap ordered (is_so ∙ h))) g
+
+module _ (select : Select) (flags : Flags) (scope : Scope) where
+  abbrev whole : Shown → Selection → Result Resolved SqlError
+  whole s kept = Ok (resolved_of select flags (map (λ b. b.table) scope.bounds) s kept)
+
+  selected_by_steps : (s : Shown) → (selection_validated scope select >>= whole s)
+      ≡ (condition_validated scope select.cond >>= λ t. refuse_if (is_ordered select) (not_supported (codes "ordered aggregate")) >>= λ _. order_validated scope select.order >>= λ order. whole s (record { test = t; order = order }))
+  selected_by_steps s =
+      then_then (condition_validated scope select.cond) _ (whole s)
+      ∙ then_same (condition_validated scope select.cond) _ _
+      (λ t. then_then (order_allowed scope select) _ (whole s) ∙ then_then (refuse_if (is_ordered select) (not_supported (codes "ordered aggregate"))) (λ _. order_validated scope select.order) _)
+
+  -- one step after another
+  pub parts_are : parts_validated select flags scope
+      ≡ (shown_validated flags scope select >>= λ s. refuse_if (nat_lt 64 (length s.columns)) too_many_columns >>= λ _. condition_validated scope select.cond >>= λ t. refuse_if (is_ordered select) (not_supported (codes "ordered aggregate")) >>= λ _. order_validated scope select.order >>= λ order. whole s (record { test = t; order = order }))
   unfolding parts_validated
   parts_are =
-      ap (λ r. r >>= λ s. refuse_if (nat_lt 64 (length s.columns)) too_many_columns >>= λ _. condition_validated scope select.cond >>= λ t. ordered is_ordered t s) shown
-      ∙ ap (λ b. refuse_if b too_many_columns >>= λ _. condition_validated scope select.cond >>= λ t. ordered is_ordered t s) few
-      ∙ ap (λ r. r >>= λ t. ordered is_ordered t s) kept
-
-  pub ordered_refused : has_aggregate select ≡ true → nat_lt 0 (length select.order) ≡ true → parts_validated select flags scope ≡ Err (not_supported (codes "ordered aggregate"))
-  ordered_refused h k = parts_are ∙ (λ i. ordered (h i && k i) t s)
-
-  pub order_refused : (e : SqlError) → is_ordered ≡ false → order_validated scope select.order ≡ Err e → parts_validated select flags scope ≡ Err e
-  order_refused e free h = parts_are ∙ ap (λ b. ordered b t s) free ∙ ap (λ r. r >>= λ order. Ok (record {
-    columns = s.columns;
-    tables = map (λ b. b.table) scope.bounds;
-    test = t;
-    output = output_validated (has_aggregate select) s order;
-    offset = offset_of select.limit;
-    count = count_of select.limit flags.row_limit;
-  })) h
-
-pub not_above : (m n : ℕ) → n ≤ m → nat_lt m n ≡ false
-not_above m n h = grind (arith, nat_tests)
-
-pub above_none : {A : Type 0} (xs ys : List A) → xs ≡ ys → false ≡ (length xs == 0) → nat_lt 0 (length ys) ≡ true
-above_none xs ys e h = subst (λ (zs : List _). nat_lt 0 (length zs) ≡ true) e (some (length xs) h)
-  where
-    some : (n : ℕ) → false ≡ (n == 0) → nat_lt 0 n ≡ true
-    some n h = grind (arith, nat_tests)
-
-pub none_above : {A : Type 0} (xs ys : List A) → xs ≡ ys → true ≡ (length xs == 0) → nat_lt 0 (length ys) ≡ false
-none_above xs ys e h = subst (λ (zs : List _). nat_lt 0 (length zs) ≡ false) e (none (length xs) h)
-  where
-    none : (n : ℕ) → true ≡ (n == 0) → nat_lt 0 n ≡ false
-    none n h = grind (arith, nat_tests)
+      then_then (shown_validated flags scope select) _ (λ s. selection_validated scope select >>= whole s)
+      ∙ then_same (shown_validated flags scope select) _ _
+      (λ s. then_then (refuse_if (nat_lt 64 (length s.columns)) too_many_columns) (λ _. Ok s) (λ s. selection_validated scope select >>= whole s)
+      ∙ ap (λ r. refuse_if (nat_lt 64 (length s.columns)) too_many_columns >>= λ _. r) (selected_by_steps s))

@@ -21,7 +21,7 @@ use Rattle.qc_resolve.specs.declared.resolved.OrderKey.{OrderKey}
 use Rattle.qc_resolve.specs.declared.resolved.Output.{Output}
 use Rattle.qc_resolve.specs.declared.resolved.Resolved.{Resolved}
 use Rattle.qc_resolve.specs.Columns.{Spot, all_spots}
-use Rattle.qc_resolve.specs.Validated.{none_shown, item_step, spot_step, with_spots, shown_validated, condition_validated, order_validated, output_validated, bounds_validated, parts_validated, validated_over}
+use Rattle.qc_resolve.specs.Validated.{none_shown, item_step, spot_step, with_spots, shown_validated, few_shown, selection_validated, output_validated, bounds_validated, parts_validated, validated_over}
 use Rattle.qc_resolve.specs.Meaning.{all_combinations, items_of}
 use Rattle.qc_resolve.specs.Steps.{run}
 use Rattle.qc_resolve.specs.Values.{Beside, value_validated}
@@ -73,13 +73,13 @@ Even s = length s.columns ≡ length s.formulas
 both_longer : (ds : List ColumnDef) (fs : List Formula) (d : ColumnDef) (f : Formula) → length ds ≡ length fs → length (ds ++ d ∷ []) ≡ length (fs ++ f ∷ [])
 both_longer ds fs d f h = length-append ds (d ∷ []) ∙ ap (λ (n : ℕ). n + 1) h ∙ sym (length-append fs (f ∷ []))
 
+ok_same : (s t : Shown) → ◌≡◌ {A = Result Shown SqlError} (Ok s) (Ok t) → s ≡ t
+ok_same s t e = cc
+
 item_even : (flags : Flags) (scope : Scope) (aggregated : Bool) (item : Item) (s t : Shown) → Even s → item_step flags scope aggregated item s ≡ Ok t → Even t
 item_even flags scope aggregated item s t h e =
     let w = went_on (value_validated aggregated scope item.value s.folds) _ t e in
     subst Even (ok_same _ t w.then) (both_longer s.columns s.formulas _ _ h)
-  where
-    ok_same : (s t : Shown) → ◌≡◌ {A = Result Shown SqlError} (Ok s) (Ok t) → s ≡ t
-    ok_same s t e = cc
 
 run_even : (flags : Flags) (scope : Scope) (aggregated : Bool) (items : List Item) (s t : Shown) → Even s → run (item_step flags scope aggregated) items s ≡ Ok t → Even t
 run_even flags scope aggregated [] s t h e = let k : s ≡ t = cc in subst Even k h
@@ -97,11 +97,8 @@ shown_even : (flags : Flags) (scope : Scope) (select : Select) (star : Bool) (t 
     → Even t
 shown_even flags scope select true t e =
     let w = went_on (refuse_if (length select.from == 0) (not_supported (codes "star"))) (λ _. Ok (with_spots flags (has_aggregate select) none_shown (all_spots 0 scope.bounds))) t e in
-    let k : with_spots flags (has_aggregate select) none_shown (all_spots 0 scope.bounds) ≡ t = ok_is _ t w.then in
+    let k : with_spots flags (has_aggregate select) none_shown (all_spots 0 scope.bounds) ≡ t = ok_same _ t w.then in
     subst Even k (spots_even flags (has_aggregate select) (all_spots 0 scope.bounds) none_shown refl)
-  where
-    ok_is : (s t : Shown) → ◌≡◌ {A = Result Shown SqlError} (Ok s) (Ok t) → s ≡ t
-    ok_is s t e = cc
 shown_even flags scope select false t e = run_even flags scope (has_aggregate select) select.items none_shown t refl e
 
 items_are : (aggregated : Bool) (s : Shown) (order : List OrderKey) → items_of (output_validated aggregated s order) ≡ s.formulas
@@ -117,13 +114,12 @@ record IsSized (scope : Scope) (x : Resolved) : Type 0 where
 parts_sized : (select : Select) (flags : Flags) (scope : Scope) (x : Resolved) → parts_validated select flags scope ≡ Ok x → IsSized scope x
 unfolding parts_validated
 parts_sized select flags scope x e =
-    let a = went_on (shown_validated flags scope select) _ x e in
-    let b = went_on (refuse_if (nat_lt 64 (length a.at.columns)) too_many_columns) _ x a.then in
-    let c = went_on (condition_validated scope select.cond) _ x b.then in
-    let d = went_on (refuse_if (has_aggregate select && nat_lt 0 (length select.order)) (not_supported (codes "ordered aggregate"))) _ x c.then in
-    let f = went_on (order_validated scope select.order) _ x d.then in
-    let even = shown_even flags scope select select.star a.at a.first in
-    subst (IsSized scope) (ok_is _ x f.then) (record { tables = refl; full = ap length (items_are (has_aggregate select) a.at f.at) ∙ sym even })
+    let a = went_on (few_shown flags scope select) _ x e in
+    let b = went_on (selection_validated scope select) _ x a.then in
+    let c = went_on (shown_validated flags scope select) _ a.at a.first in
+    let d = went_on (refuse_if (nat_lt 64 (length c.at.columns)) too_many_columns) _ a.at c.then in
+    let even = subst Even (ok_same c.at a.at d.then) (shown_even flags scope select select.star c.at c.first) in
+    subst (IsSized scope) (ok_is _ x b.then) (record { tables = refl; full = ap length (items_are (has_aggregate select) a.at b.at.order) ∙ sym even })
   where
     ok_is : (s t : Resolved) → ◌≡◌ {A = Result Resolved SqlError} (Ok s) (Ok t) → s ≡ t
     ok_is s t e = cc

@@ -93,11 +93,15 @@ row_at scope (Expr-F.Length w) = w.in_row >>= λ x. Ok (computed Number (form.Le
 row_at scope (Expr-F.Concat ws) = each_in_row ws >>= λ fs. Ok (computed Words (form.Concat fs))
 row_at scope (Expr-F.Call word ws) = call_validated scope (in_capitals word) (length ws)
 
+-- COUNT of a value, beside aggregates
+abbrev pub counted : Result Validated SqlError → List Fold → Result Beside SqlError
+counted of folds = of >>= λ x. Ok (computed Number (folded folds), with_fold folds (aggregate.Count x.formula))
+
 abbrev pub group_at : Scope → Expr-F Ways → List Fold → Result Beside SqlError
 group_at scope (Expr-F.Column c) folds = find_spot scope.bounds c >>= λ s. Err (not_supported (codes "mixed aggregate"))
 group_at scope (Expr-F.Literal v) folds = Ok (computed (sort_of_value v) (form.Literal v), folds)
 group_at scope Expr-F.CountAll folds = Ok (computed Number (folded folds), with_fold folds aggregate.CountAll)
-group_at scope (Expr-F.Count w) folds = w.in_row >>= λ x. Ok (computed Number (folded folds), with_fold folds (aggregate.Count x.formula))
+group_at scope (Expr-F.Count w) folds = counted w.in_row folds
 group_at scope (Expr-F.Sum c) folds = find_spot scope.bounds c >>= λ s. sum_validated s (folded folds) >>= λ x. Ok (x, with_fold folds (aggregate.Sum s.place))
 group_at scope (Expr-F.Min c) folds = find_spot scope.bounds c >>= λ s. Ok (best_validated s (folded folds), with_fold folds (aggregate.Least s.place))
 group_at scope (Expr-F.Max c) folds = find_spot scope.bounds c >>= λ s. Ok (best_validated s (folded folds), with_fold folds (aggregate.Greatest s.place))
@@ -113,6 +117,9 @@ ways scope e = fold_expr (ways_at scope) e
 
 abbrev pub row_validated : Scope → Expr → Result Validated SqlError
 row_validated scope e = (ways scope e).in_row
+
+abbrev pub count_validated : Scope → Expr → List Fold → Result Beside SqlError
+count_validated scope e folds = counted (row_validated scope e) folds
 
 abbrev pub group_validated : Scope → Expr → List Fold → Result Beside SqlError
 group_validated scope e folds = (ways scope e).in_group folds

@@ -4,6 +4,7 @@ ghost use Rattle.std.specs.Prelude.{◌≡◌, ◌*◌, ◌^◌, ◌+◌, min, [
 ghost use Rattle.std.specs.List.{AllByRecursion, list_any};
 ghost use Rattle.qc_types.specs.Answers.{Gives};
 ghost use Rattle.qc_sql.specs.Rows as meant;
+ghost use Rattle.qc_sql.specs.Effects.{known_database};
 ghost use Rattle.qc_sql.specs.Rows.{each};
 ghost use Rattle.qc_resolve.specs.Validated.{bounds_validated};
 ghost use Rattle.qc_resolve.specs.Fit.{IsSoundBound};
@@ -15,7 +16,7 @@ use qc_sql::errors::{
 use qc_sql::names::full_name;
 use qc_sql::statements::Source;
 use qc_table::Database;
-use qc_types::{NoMemory, Or, SqlError, Text};
+use qc_types::{NoMemory, Or, SqlError, TableName, Text};
 use std::alloc::Global;
 
 /// The most row combinations of a SELECT.
@@ -48,12 +49,7 @@ fn bind(
     ensures sound { IfOk result IsSoundBound }
 {
     let name = full_name(alloc, db, &source.table)?;
-    if name.db.bytes().is_empty() {
-        return Err(Or::Other(no_database_selected(alloc)?));
-    }
-    if !database.has_db(name.db.bytes()) {
-        return Err(Or::Other(unknown_database(alloc, name.db.bytes())?));
-    }
+    check_database(alloc, database, &name)?;
     let Some(version) = database.table(&name) else {
         return Err(Or::Other(no_such_table(alloc, &name)?));
     };
@@ -62,6 +58,24 @@ fn bind(
         version: version.share()?,
         name,
     })
+}
+
+/// Refuses a table where no database is named or current (1046), and where the database isn't there (1049). Costs the logarithm of how many databases
+/// there are.
+pub fn check_database(
+    alloc: Global,
+    database: &Database,
+    name: &TableName,
+) -> Result<(), Or<SqlError>>
+    ensures { Gives (λ _. tt) (λ e. e) result (known_database database.now name.now) }
+{
+    if name.db.bytes().is_empty() {
+        return Err(Or::Other(no_database_selected(alloc)?));
+    }
+    if !database.has_db(name.db.bytes()) {
+        return Err(Or::Other(unknown_database(alloc, name.db.bytes())?));
+    }
+    Ok(())
 }
 
 /// Refuses two tables under one name, and too many row combinations. Quadratic in the number of tables, of which a text has at most 8.

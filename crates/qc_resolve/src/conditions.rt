@@ -1,18 +1,19 @@
 //! Conditions.
 
-ghost use Rattle.std.specs.Prelude.{◌≡◌};
+ghost use Rattle.std.specs.Prelude.{◌≡◌, IfOk};
 ghost use Rattle.std.specs.List.{list_any};
 ghost use Rattle.qc_types.specs.Answers.{Gives};
 ghost use Rattle.qc_sql.specs.Rows.{each, mixes, sort_of_value};
-ghost use Rattle.qc_resolve.specs.Validated.{comparable, compare_validated, in_validated, between_validated, test_validated, condition_validated};
-ghost use Rattle.qc_resolve.specs.Views.{sort_of};
+ghost use Rattle.qc_resolve.specs.declared.test.Test.TheVariants as made;
+ghost use Rattle.qc_resolve.specs.Validated.{comparable, compare_validated, in_validated, between_validated, between_values, null_validated, test_validated, condition_validated};
+ghost use Rattle.qc_resolve.specs.Views.{sort_of, validated_of};
 
 use crate::scope::Scope;
 use crate::test::{Test, Tests};
-use crate::values::{Sort, row_value, sort_of_literal};
+use crate::values::{Sort, Valued, row_value, sort_of_literal};
 use qc_sql::errors::not_supported;
 use qc_sql::statements::{Cond, Expr, Op, Values};
-use qc_types::{Boxed, Or, SqlError, Value};
+use qc_types::{Boxed, NoMemory, Or, SqlError, Value};
 use std::alloc::Global;
 
 /// The test of a condition, where there is one; or the first refusal, from left to right.
@@ -37,15 +38,9 @@ fn test(alloc: Global, scope: &Scope, cond: &Cond) -> Result<Test, Or<SqlError>>
     match cond {
         Cond::Or(all) => Ok(Test::Any(tests(alloc, scope, all.items())?)),
         Cond::And(all) => Ok(Test::All(tests(alloc, scope, all.items())?)),
-        Cond::Not(of) => {
-            let of = test(alloc, scope, of.get())?;
-            Ok(Test::Not(Boxed::new(alloc, of)?))
-        }
+        Cond::Not(of) => Ok(negated(alloc, test(alloc, scope, of.get())?)?),
         Cond::Compare(a, op, b) => compare(alloc, scope, a, *op, b),
-        Cond::IsNull(of) => {
-            let of = row_value(alloc, scope, of)?;
-            Ok(Test::IsNull(of.formula))
-        }
+        Cond::IsNull(of) => is_null(alloc, scope, of),
         Cond::In(of, values) => is_in(alloc, scope, of, values),
         Cond::Between(of, low, high) => between(alloc, scope, of, low, high),
     }
@@ -60,6 +55,19 @@ fn tests(alloc: Global, scope: &Scope, conds: &[Cond]) -> Result<Tests, Or<SqlEr
         tests.push(test(alloc, scope, cond)?)?;
     }
     Ok(tests)
+}
+
+fn negated(alloc: Global, test: Test) -> Result<Test, NoMemory>
+    ensures { IfOk result (λ t. t ≡ made.Not test) }
+{
+    Ok(Test::Not(Boxed::new(alloc, test)?))
+}
+
+fn is_null(alloc: Global, scope: &Scope, of: &Expr) -> Result<Test, Or<SqlError>>
+    ensures { Gives (λ t. t) (λ e. e) result (null_validated scope.now of.now) }
+{
+    let of = row_value(alloc, scope, of)?;
+    Ok(Test::IsNull(of.formula))
 }
 
 fn compare(alloc: Global, scope: &Scope, a: &Expr, op: Op, b: &Expr) -> Result<Test, Or<SqlError>>
@@ -93,8 +101,21 @@ fn between(
     let of = row_value(alloc, scope, of)?;
     let low = row_value(alloc, scope, low)?;
     let high = row_value(alloc, scope, high)?;
-    comparable(alloc, of.sort, low.sort)?;
-    comparable(alloc, of.sort, high.sort)?;
+    between_values(alloc, of, low, high)
+}
+
+/// Refuses a number beside a text.
+fn between_values(
+    alloc: Global,
+    of: Valued<'_>,
+    low: Valued<'_>,
+    high: Valued<'_>,
+) -> Result<Test, Or<SqlError>>
+    ensures { Gives (λ t. t) (λ e. e) result (between_values (validated_of of.entry) (validated_of low.entry) (validated_of high.entry)) }
+{
+    if mixes(of.sort, low.sort) || mixes(of.sort, high.sort) {
+        return Err(Or::Other(not_supported(alloc, b"mixed comparison")?));
+    }
     Ok(Test::Between(of.formula, low.formula, high.formula))
 }
 

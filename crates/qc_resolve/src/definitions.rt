@@ -3,7 +3,7 @@
 ghost use Rattle.std.specs.Prelude.{◌≡◌, IfOk, unwrap_or};
 ghost use Rattle.qc_sql.specs.Rows as meant;
 ghost use Rattle.qc_resolve.specs.Columns.{found_at};
-ghost use Rattle.qc_resolve.specs.Validated.{definition_for, plain_def};
+ghost use Rattle.qc_resolve.specs.Validated.{definition_for, in_table, names_of, plain_def};
 ghost use Rattle.qc_resolve.specs.Views.{spot_of, sort_of, validated_of};
 
 use crate::columns::Found;
@@ -31,6 +31,15 @@ const INT_BYTES: u32 = 20;
 const SUM_BYTES: u32 = 41;
 
 const TEXT_BYTES: u32 = 65535;
+
+/// The names of a column in its table, and of the table.
+#[derive(Drop)]
+pub struct ColumnNames {
+    pub schema: Text,
+    pub table: Text,
+    pub org_table: Text,
+    pub org_name: Text,
+}
 
 /// How the result tells the column of an item. A column that has no name given goes by its own, and another value by its words.
 pub fn definition(
@@ -64,16 +73,36 @@ pub fn of_column(
 ) -> Result<ColumnDef, NoMemory>
     ensures { IfOk result (λ d. d ≡ meant.of_column flags.now (found_at (spot_of found.now)) name.now) }
 {
+    let names = names_of(alloc, found)?;
+    let column = found.column;
+    let base = kind_def(alloc, flags, column.kind, column_flags(column), name)?;
+    Ok(in_table(names, base))
+}
+
+fn names_of(alloc: Global, found: &Found<'_>) -> Result<ColumnNames, NoMemory>
+    ensures { IfOk result (λ names. names ≡ names_of (found_at (spot_of found.now))) }
+{
     let column = found.column;
     let bound = found.bound;
-    let base = kind_def(alloc, flags, column.kind, column_flags(column), name)?;
-    Ok(ColumnDef {
+    Ok(ColumnNames {
         schema: bound.name.db.copy(alloc)?,
         table: bound.called.copy(alloc)?,
         org_table: bound.name.name.copy(alloc)?,
         org_name: column.name.copy(alloc)?,
-        ..base
     })
+}
+
+/// A column of no table, as one that is called so in its table.
+fn in_table(names: ColumnNames, base: ColumnDef) -> ColumnDef
+    ensures { result ≡ in_table names base }
+{
+    ColumnDef {
+        schema: names.schema,
+        table: names.table,
+        org_table: names.org_table,
+        org_name: names.org_name,
+        ..base
+    }
 }
 
 fn of_sort(alloc: Global, flags: &Flags, sort: Sort, name: &[u8]) -> Result<ColumnDef, NoMemory>

@@ -4,7 +4,7 @@ ghost use Rattle.std.specs.Prelude.{◌≡◌, [], ◌∷◌, ◌++◌, IfOk, On
 ghost use Rattle.qc_types.specs.Answers.{Gives};
 ghost use Rattle.qc_sql.specs.Rows as meant;
 ghost use Rattle.qc_resolve.specs.Steps.{run};
-ghost use Rattle.qc_resolve.specs.Values.{folded, with_fold, group_validated, group_step, ways};
+ghost use Rattle.qc_resolve.specs.Values.{count_validated, folded, with_fold, group_validated, group_step, ways};
 ghost use Rattle.qc_resolve.specs.Views.{validated_of};
 
 use crate::columns::find_column;
@@ -12,11 +12,12 @@ use crate::formula::{Formula, Formulas};
 use crate::resolved::{Fold, Folds};
 use crate::scope::Scope;
 use crate::values::{
-    Sort, Valued, best_value, call_value, computed, literal_value, row_value, sum_value,
+    Sort, Valued, best_value, call_value, computed, length_value, literal_value, row_value,
+    sum_value,
 };
 use qc_sql::errors::not_supported;
 use qc_sql::statements::Expr;
-use qc_types::{Boxed, NoMemory, Or, SqlError};
+use qc_types::{NoMemory, Or, SqlError};
 use std::alloc::Global;
 
 /// The formula of a value over a group of rows, whose aggregates are put behind these; or the first refusal, from left to right. A column alone is
@@ -41,11 +42,7 @@ pub fn group_value<'a>(
             let formula = folded(folds, Fold::CountAll)?;
             Ok(computed(Sort::Number, formula))
         }
-        Expr::Count(of) => {
-            let of = row_value(alloc, scope, of.get())?;
-            let formula = folded(folds, Fold::Count(of.formula))?;
-            Ok(computed(Sort::Number, formula))
-        }
+        Expr::Count(of) => count(alloc, scope, folds, of.get()),
         Expr::Sum(name) => {
             let found = find_column(alloc, scope, name)?;
             let formula = folded(folds, Fold::Sum(found.place))?;
@@ -63,8 +60,7 @@ pub fn group_value<'a>(
         }
         Expr::Length(of) => {
             let of = group_value(alloc, scope, folds, of.get())?;
-            let formula = Formula::Length(Boxed::new(alloc, of.formula)?);
-            Ok(computed(Sort::Number, formula))
+            Ok(length_value(alloc, of)?)
         }
         Expr::Concat(parts) => {
             let parts = group_values(alloc, scope, folds, parts.items())?;
@@ -74,6 +70,20 @@ pub fn group_value<'a>(
             call_value(alloc, scope, word.bytes(), arguments.items().len())
         }
     }
+}
+
+/// COUNT of a value.
+fn count<'a>(
+    alloc: Global,
+    scope: &Scope,
+    folds: &mut Folds,
+    of: &Expr,
+) -> Result<Valued<'a>, Or<SqlError>>
+    ensures { Gives (λ v. (validated_of v, folds.new)) (λ e. e) result (count_validated scope.now of.now folds.old) }
+{
+    let of = row_value(alloc, scope, of)?;
+    let formula = folded(folds, Fold::Count(of.formula))?;
+    Ok(computed(Sort::Number, formula))
 }
 
 #[cycle(group)]

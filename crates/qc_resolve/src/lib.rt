@@ -16,6 +16,7 @@ mod select;
 mod test;
 mod values;
 
+pub use bind::check_database;
 pub use formula::{Formula, Formulas, Place};
 pub use matching::resolve_condition;
 pub use resolved::{Fold, Folds, OrderKey, OrderKeys, Output, Resolved, Versions};

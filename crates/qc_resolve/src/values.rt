@@ -64,11 +64,7 @@ pub fn row_value<'a>(
         Expr::Column(name) => Ok(column_value(find_column(alloc, scope, name)?)),
         Expr::Literal(value) => Ok(literal_value(alloc, value)?),
         Expr::CountAll => Ok(computed(Sort::Number, Formula::Literal(Value::Int(1)))),
-        Expr::Count(of) => {
-            let of = row_value(alloc, scope, of.get())?;
-            let formula = Formula::Present(Boxed::new(alloc, of.formula)?);
-            Ok(computed(Sort::Number, formula))
-        }
+        Expr::Count(of) => Ok(present_value(alloc, row_value(alloc, scope, of.get())?)?),
         Expr::Sum(name) => {
             let found = find_column(alloc, scope, name)?;
             sum_value(alloc, &found, Formula::Column(found.place))
@@ -77,11 +73,7 @@ pub fn row_value<'a>(
             let found = find_column(alloc, scope, name)?;
             Ok(best_value(found, Formula::Column(found.place)))
         }
-        Expr::Length(of) => {
-            let of = row_value(alloc, scope, of.get())?;
-            let formula = Formula::Length(Boxed::new(alloc, of.formula)?);
-            Ok(computed(Sort::Number, formula))
-        }
+        Expr::Length(of) => Ok(length_value(alloc, row_value(alloc, scope, of.get())?)?),
         Expr::Concat(parts) => {
             let parts = row_values(alloc, scope, parts.items())?;
             Ok(computed(Sort::Words, Formula::Concat(parts)))
@@ -112,6 +104,21 @@ pub fn computed<'a>(sort: Sort, formula: Formula) -> Valued<'a>
         origin: Origin::Computed,
         formula,
     }
+}
+
+/// COUNT of one row.
+fn present_value<'a>(alloc: Global, of: Valued<'_>) -> Result<Valued<'a>, NoMemory>
+    ensures { IfOk result (λ v. validated_of v ≡ computed meant.Number (form.Present of.entry.formula)) }
+{
+    let formula = Formula::Present(Boxed::new(alloc, of.formula)?);
+    Ok(computed(Sort::Number, formula))
+}
+
+pub fn length_value<'a>(alloc: Global, of: Valued<'_>) -> Result<Valued<'a>, NoMemory>
+    ensures { IfOk result (λ v. validated_of v ≡ computed meant.Number (form.Length of.entry.formula)) }
+{
+    let formula = Formula::Length(Boxed::new(alloc, of.formula)?);
+    Ok(computed(Sort::Number, formula))
 }
 
 fn column_value(found: Found<'_>) -> Valued<'_>
