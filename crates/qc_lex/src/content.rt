@@ -22,17 +22,7 @@ pub fn token_bytes(text: &[u8], token: Token) -> &[u8]
 pub fn quoted_name(alloc: Global, token: &[u8]) -> Result<Option<Text>, NoMemory>
     ensures { IfOk result (λ name. name ≡ inside false token.now) }
 {
-    match token {
-        [] => Ok(None),
-        [quote, behind @ ..] => unquoted(
-            alloc,
-            Quotes {
-                quote: *quote,
-                escapes: false,
-            },
-            behind,
-        ),
-    }
+    between_quotes(alloc, token, false)
 }
 
 /// The bytes that a text between quotes means: a doubled quote means one, and a backslash escapes the byte behind it. None where no quote closes.
@@ -40,13 +30,20 @@ pub fn quoted_name(alloc: Global, token: &[u8]) -> Result<Option<Text>, NoMemory
 pub fn quoted_text(alloc: Global, token: &[u8]) -> Result<Option<Text>, NoMemory>
     ensures { IfOk result (λ text. text ≡ inside true token.now) }
 {
+    between_quotes(alloc, token, true)
+}
+
+/// What the bytes between a token's quotes mean, with escapes or without. None where no quote closes.
+fn between_quotes(alloc: Global, token: &[u8], escapes: bool) -> Result<Option<Text>, NoMemory>
+    ensures { IfOk result (λ meant. meant ≡ inside escapes token.now) }
+{
     match token {
         [] => Ok(None),
         [quote, behind @ ..] => unquoted(
             alloc,
             Quotes {
                 quote: *quote,
-                escapes: true,
+                escapes,
             },
             behind,
         ),

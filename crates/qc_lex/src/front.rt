@@ -141,22 +141,16 @@ fn word(text: &[u8]) -> Front
 fn quoted_name(quote: u8, text: &[u8]) -> Front
     ensures { view result ≡ shown (name_token (quoted quote text.now)) }
 {
-    let Some((bytes, meant)) = measure(
-        Quotes {
-            quote,
-            escapes: false,
-        },
-        text,
-    ) else {
-        return Front::Faults(Fault::OpenQuote);
+    let quotes = Quotes {
+        quote,
+        escapes: false,
     };
-    if meant == 0 {
-        return Front::Faults(Fault::BadByte);
+    match measure(quotes, text) {
+        None => Front::Faults(Fault::OpenQuote),
+        Some((_, 0)) => Front::Faults(Fault::BadByte),
+        Some((_, meant)) if meant > LONGEST_NAME => Front::Faults(Fault::LongName),
+        Some((bytes, _)) => Front::Gives(bytes + 1, TokenKind::QuotedName),
     }
-    if meant > LONGEST_NAME {
-        return Front::Faults(Fault::LongName);
-    }
-    Front::Gives(bytes + 1, TokenKind::QuotedName)
 }
 
 /// A text between quotes, without the quote in front.
@@ -164,19 +158,15 @@ fn quoted_name(quote: u8, text: &[u8]) -> Front
 fn quoted_text(quote: u8, text: &[u8]) -> Front
     ensures { view result ≡ shown (text_token (quoted_text quote text.now)) }
 {
-    let Some((bytes, meant)) = measure(
-        Quotes {
-            quote,
-            escapes: true,
-        },
-        text,
-    ) else {
-        return Front::Faults(Fault::OpenQuote);
+    let quotes = Quotes {
+        quote,
+        escapes: true,
     };
-    if meant > LONGEST_TEXT {
-        return Front::Faults(Fault::TextTooLong);
+    match measure(quotes, text) {
+        None => Front::Faults(Fault::OpenQuote),
+        Some((_, meant)) if meant > LONGEST_TEXT => Front::Faults(Fault::TextTooLong),
+        Some((bytes, _)) => Front::Gives(bytes + 1, TokenKind::Text),
     }
-    Front::Gives(bytes + 1, TokenKind::Text)
 }
 
 /// A number, whose first byte is a digit.
