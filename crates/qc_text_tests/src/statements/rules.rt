@@ -1,6 +1,7 @@
 //! Texts, each with the verdict on it, and heads with what is asked.
 
-use crate::told::must;
+use crate::told::{is_empty, must};
+use qc_cases::{Differences, cases};
 use qc_lex::head;
 use qc_parse::parse;
 use qc_rules::{Asked, Verdict, asks, verdict};
@@ -184,42 +185,33 @@ fn reason(alloc: Global, why: &Why) -> Result<String, NoMemory> {
     }
 }
 
-/// Three lines for a text whose verdict is another one.
-fn difference(alloc: Global, text: &[u8], found: &str, shown: &str) -> Result<String, NoMemory> {
-    let text = String::from_utf8_lossy(alloc, text)?;
-    Ok(format!(in alloc; "{text}\n    is  {found}\n    not {shown}\n")?)
-}
-
-/// These lines for each text of a table whose verdict is another one.
+/// Three lines for each text of a table whose verdict is another one.
 fn mistaken_verdicts(alloc: Global, db: &str, table: &str) -> Result<String, NoMemory> {
-    let mut lines = String::new(alloc);
-    let mut text: &[u8] = b"";
-    for line in table.lines() {
-        match line.strip_prefix("    ") {
-            Some(shown) => {
-                let found = validated(alloc, db, text)?;
-                if found.as_str() != shown {
-                    lines.push_str(&difference(alloc, text, &found, shown)?)?;
-                }
-            }
-            None => text = line.as_bytes(),
-        }
+    let mut differences = Differences::new(alloc);
+    let rows = cases(alloc, table)?;
+    for case in &rows {
+        let text = case.text.as_bytes();
+        let found = validated(alloc, db, text)?;
+        differences.compare(text, found.as_bytes(), case.wanted.as_bytes())?;
     }
-    Ok(lines)
+    Ok(differences.into_lines())
 }
 
 #[test]
 fn verdicts(rt: HostRuntime) {
-    let lines = must(&rt, mistaken_verdicts(rt.alloc(), "d", TEXTS));
-    assert!(rt; lines.is_empty(), "{lines}");
+    is_empty(&rt, &must(&rt, mistaken_verdicts(rt.alloc(), "d", TEXTS)));
 }
 
 #[test]
 fn current_databases(rt: HostRuntime) {
-    let lines = must(&rt, mistaken_verdicts(rt.alloc(), "mysql", TEXTS_IN_MYSQL));
-    assert!(rt; lines.is_empty(), "{lines}");
-    let lines = must(&rt, mistaken_verdicts(rt.alloc(), "", TEXTS_IN_NONE));
-    assert!(rt; lines.is_empty(), "{lines}");
+    is_empty(
+        &rt,
+        &must(&rt, mistaken_verdicts(rt.alloc(), "mysql", TEXTS_IN_MYSQL)),
+    );
+    is_empty(
+        &rt,
+        &must(&rt, mistaken_verdicts(rt.alloc(), "", TEXTS_IN_NONE)),
+    );
 }
 
 #[test]

@@ -1,6 +1,6 @@
 use Rattle.qc_sql.specs.declared.replies.ColumnDef.{ColumnDef}
 use Rattle.qc_wire.proofs.Lengths.{column_bound}
-use Rattle.qc_wire_tests.proofs.packets.named.Goals as goal
+use Rattle.qc_text_tests.proofs.wire.packets.named.Goals as goal
 
 pub returns : goal.returns
 returns c =

@@ -3,7 +3,7 @@ use Rattle.std.specs.Fmt.{decimal}
 use Rattle.std.proofs.lemmas.List.{length-append}
 use Rattle.std.proofs.lemmas.Fmt.{length-decimal-le_wide}
 use Rattle.qc_wire.proofs.Lengths.{string_bound}
-use Rattle.qc_wire_tests.proofs.packets.numbers.Goals as goal
+use Rattle.qc_text_tests.proofs.wire.packets.numbers.Goals as goal
 
 pub returns : goal.returns
 returns c =

@@ -1,6 +1,6 @@
 use Rattle.std.proofs.Common.{arith}
 use Rattle.qc_sql.specs.Packets.{encoded_string, encoded_integer}
-use Rattle.qc_wire_tests.proofs.packets.null_and_empty.Goals as goal
+use Rattle.qc_text_tests.proofs.wire.packets.null_and_empty.Goals as goal
 
 pub returns : goal.returns
 unfolding encoded_string encoded_integer

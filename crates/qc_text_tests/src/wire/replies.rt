@@ -4,8 +4,8 @@ ghost use Rattle.std.specs.Prelude.{◌≤◌, length};
 ghost use Rattle.qc_sql.specs.Packets.{most_payload, row_payload};
 ghost use Rattle.qc_wire.specs.Cells.{cell_texts};
 
-use crate::packets::{key_column, text_cells};
 use crate::told::{must, same};
+use crate::wire::packets::{key_column, text_cells};
 use qc_sql::replies::{ColumnDef, Reply, TextRow};
 use qc_types::{NoMemory, Or, Text};
 use qc_wire::WireRefusal::{BadByte, BadSequence, NotMinimal, Trailing, Truncated};
