@@ -1,5 +1,5 @@
 use Rattle.std.proofs.Common.{◌≤◌}
-use Rattle.qc_app.proofs.standard.StdSinkSink.put.Given as goal
+use Rattle.qc_app.proofs.standard.StdStreamSource.read.Given as goal
 
 -- the count of faults has not fallen
 abbrev pub invariant-loop : goal.invariant-loop
