@@ -14,5 +14,5 @@ pub use qc_model::reports::{
     Ending, Report, ReportLine, ReportLines, Script, ScriptRefusal, SessionReport, SessionReports,
     Word,
 };
-pub use standard::{StdSink, StdSource};
+pub use standard::{StdSink, StdSource, StdStream};
 pub use top::{Ended, qcache_main};

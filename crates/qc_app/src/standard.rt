@@ -5,17 +5,23 @@ ghost use Rattle.std.specs.declared.option.Option.{Option};
 ghost use Rattle.qc_types.specs.Streams.{Rose, FillsWithin, ReadGives, PutGives};
 
 use qc_types::{PutStep, ReadStep, Sink, Source};
-use std::io::{ErrorKind, Read, Write};
+use std::io::{self, ErrorKind, Read, Write};
 use std::marker::Model;
 
-/// A source that reads from a reader, and counts the errors of its reads. The count stays at 2^64 - 1 once it is there. Contracts see the count.
+/// A reader or a writer, and a count of the calls that failed. The count stays at 2^64 - 1 once it is there. Contracts see the count.
 #[derive(Drop)]
-pub struct StdSource<R> {
-    reader: R,
+pub struct StdStream<S> {
+    stream: S,
     faults: u64,
 }
 
-impl<R> Model for StdSource<R> {
+/// A source that reads from a reader, and counts the errors of its reads.
+pub type StdSource<R> = StdStream<R>;
+
+/// A sink that writes to a writer, and counts the errors of its writes and the writes that take nothing.
+pub type StdSink<W> = StdStream<W>;
+
+impl<S> Model for StdStream<S> {
     ghost use Rattle.std.specs.Prelude.{ℕ};
 
     ghost Value = { ℕ };
@@ -23,16 +29,16 @@ impl<R> Model for StdSource<R> {
     ghost view = { λ s. s.faults };
 }
 
-impl<R: Read> StdSource<R> {
-    /// A source without faults so far.
-    pub fn new(reader: R) -> StdSource<R>
+impl<S> StdStream<S> {
+    /// A source or a sink without faults so far.
+    pub fn new(stream: S) -> StdStream<S>
         ensures { result ≡ 0 }
     {
-        StdSource { reader, faults: 0 }
+        StdStream { stream, faults: 0 }
     }
 }
 
-impl<R: Read> Source for StdSource<R> {
+impl<R: Read> Source for StdStream<R> {
     ghost left = { λ _. Option.None };
 
     ghost faults = { λ s. s };
@@ -40,48 +46,22 @@ impl<R: Read> Source for StdSource<R> {
     /// One read, again where a signal interrupts it. Each error counts.
     fn read(&mut self, out: &mut [u8]) -> ReadStep {
         for _ in 0..u64::MAX {
-            match self.reader.read(out) {
+            match self.stream.read(out) {
                 Ok(0) => return ReadStep::End,
                 Ok(count) => return ReadStep::Got(count),
                 Err(error) => {
-                    self.faults = self.faults.saturating_add(1);
-                    if error.kind() != ErrorKind::Interrupted {
+                    if !is_interrupted(&mut self.faults, &error) {
                         return ReadStep::Failed;
                     }
                 }
             }
         }
-        self.faults = self.faults.saturating_add(1);
+        count_fault(&mut self.faults);
         ReadStep::Failed
     }
 }
 
-/// A sink that writes to a writer, and counts the errors of its writes and the writes that take nothing. The count stays at 2^64 - 1 once it
-/// is there.
-#[derive(Drop)]
-pub struct StdSink<W> {
-    writer: W,
-    faults: u64,
-}
-
-impl<W> Model for StdSink<W> {
-    ghost use Rattle.std.specs.Prelude.{ℕ};
-
-    ghost Value = { ℕ };
-
-    ghost view = { λ s. s.faults };
-}
-
-impl<W: Write> StdSink<W> {
-    /// A sink without faults so far.
-    pub fn new(writer: W) -> StdSink<W>
-        ensures { result ≡ 0 }
-    {
-        StdSink { writer, faults: 0 }
-    }
-}
-
-impl<W: Write> Sink for StdSink<W> {
+impl<W: Write> Sink for StdStream<W> {
     ghost held = { λ _. Option.None };
 
     ghost faults = { λ s. s };
@@ -93,18 +73,33 @@ impl<W: Write> Sink for StdSink<W> {
             if rest.is_empty() {
                 return PutStep::Done;
             }
-            match self.writer.write(rest) {
+            match self.stream.write(rest) {
                 Ok(0) => break,
                 Ok(count) => rest = &rest[count..],
                 Err(error) => {
-                    self.faults = self.faults.saturating_add(1);
-                    if error.kind() != ErrorKind::Interrupted {
+                    if !is_interrupted(&mut self.faults, &error) {
                         return PutStep::Failed;
                     }
                 }
             }
         }
-        self.faults = self.faults.saturating_add(1);
+        count_fault(&mut self.faults);
         PutStep::Failed
     }
+}
+
+/// Counts an error, and tells whether a signal interrupted the call, which is then to be made again.
+fn is_interrupted(faults: &mut u64, error: &io::Error) -> bool
+    ensures later { faults.old ≤ faults.new }
+    ensures rises { Rose faults.old faults.new }
+{
+    count_fault(faults);
+    error.kind() == ErrorKind::Interrupted
+}
+
+fn count_fault(faults: &mut u64)
+    ensures later { faults.old ≤ faults.new }
+    ensures rises { Rose faults.old faults.new }
+{
+    *faults = faults.saturating_add(1);
 }

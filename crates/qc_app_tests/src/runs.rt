@@ -1,12 +1,15 @@
 //! The top call on sources and sinks in memory. The expected replies are written out by hand.
 
 mod cached;
+mod plain;
+mod setup;
 
 ghost use Rattle.std.specs.Prelude.{◌<◌, ◌≤◌, IfOk, vec_len};
 
 use crate::told::{must, same};
 use qc_app::{Ended, Ending, ScriptRefusal, StdSink, StdSource, Word, qcache_main};
 use qc_types::{BytesSink, BytesSource, Options, PutStep, ReadStep, Sink, Source};
+use setup::Run;
 use std::alloc::{AllocError, Global};
 use std::io::{self, ErrorKind, Read, Write};
 use std::process::Abort;
@@ -43,113 +46,6 @@ options 0 1048576 4096 1
 sessions 0
 journal 0
 counters 0 0 0 0 0 0
-end
-";
-
-/// The first report, with a query more that is refused.
-const REFUSED_REPORT: &str = "qcache report 1
-options 0 1048576 4096 1
-sessions 1
-session 1 commands 6 end input
-1 other 0700000100010002000000
-2 other 0700000100000002000000
-3 other 0700000100000002000000
-4 other 0700000100010002000000
-5 plain 01000001011d000002036465660164017401740269640269640c3f001400000008030000000005000003fe0000020002000004013705000005fe00000200
-6 plain 1b000001ff7a042334325330324e6f2073756368207461626c653a20642e78
-journal 6
-1 commit 1 1 1 createdb:64
-2 run 1 2 other
-3 commit 1 3 1 create:64.74:02696400000003
-4 commit 1 4 1 put:64.74:0137
-5 run 1 5 plain off
-6 run 1 6 plain error 1146
-counters 2 0 0 1 0 0
-end
-";
-
-const NO_ROWS: &str = "session 1
-query CREATE DATABASE d
-init d
-query CREATE TABLE t (id BIGINT PRIMARY KEY)
-query SELECT id FROM t
-";
-
-const NO_ROWS_REPORT: &str = "qcache report 1
-options 0 1048576 4096 1
-sessions 1
-session 1 commands 4 end input
-1 other 0700000100010002000000
-2 other 0700000100000002000000
-3 other 0700000100000002000000
-4 plain 01000001011d000002036465660164017401740269640269640c3f001400000008030000000005000003fe0000020005000004fe00000200
-journal 4
-1 commit 1 1 1 createdb:64
-2 run 1 2 other
-3 commit 1 3 1 create:64.74:02696400000003
-4 run 1 4 plain off
-counters 1 0 0 1 0 0
-end
-";
-
-/// Queries of each part of SELECT, two of which are refused.
-const SELECTS: &str = "session 1
-query CREATE DATABASE d
-init d
-query CREATE TABLE t (id BIGINT PRIMARY KEY)
-query INSERT INTO t VALUES (7)
-query INSERT INTO t VALUES (3)
-query INSERT INTO t VALUES (5)
-query SELECT COUNT(*), SUM(id) FROM t
-query SELECT id FROM t WHERE id > 3 ORDER BY id DESC LIMIT 1
-query SELECT 1
-query SELECT CONNECTION_ID()
-query SELECT *
-query SELECT a.id FROM t a, t b WHERE a.id = b.id
-query SELECT id k FROM t WHERE id = 4
-query SELECT MAX(id) FROM t WHERE NOT id IN (3, 5, 7)
-query SELECT DATABASE() AS n
-query SELECT id FROM t WHERE x = 1
-";
-
-const SELECTS_REPORT: &str = "qcache report 1
-options 0 1048576 4096 1
-sessions 1
-session 1 commands 16 end input
-1 other 0700000100010002000000
-2 other 0700000100000002000000
-3 other 0700000100000002000000
-4 other 0700000100010002000000
-5 other 0700000100010002000000
-6 other 0700000100010002000000
-7 plain 01000001021e0000020364656600000008434f554e54282a29000c3f00140000000800000000001d000003036465660000000753554d28696429000c3f0029000000f6000000000005000004fe0000020005000005013302313505000006fe00000200
-8 plain 01000001011d000002036465660164017401740269640269640c3f001400000008030000000005000003fe0000020002000004013705000005fe00000200
-9 plain 010000010117000002036465660000000131000c3f001400000008000000000005000003fe0000020002000004013105000005fe00000200
-10 plain 010000010125000002036465660000000f434f4e4e454354494f4e5f49442829000c3f001400000008000000000005000003fe0000020002000004013105000005fe00000200
-11 plain 1c000001ffd3042334323030304e6f7420737570706f727465643a2073746172
-12 plain 01000001011d000002036465660164016101740269640269640c3f001400000008030000000005000003fe0000020002000004013302000005013502000006013705000007fe00000200
-13 plain 01000001011c00000203646566016401740174016b0269640c3f001400000008030000000005000003fe0000020005000004fe00000200
-14 plain 01000001011d00000203646566000000074d415828696429000c3f001400000008000000000005000003fe0000020001000004fb05000005fe00000200
-15 plain 01000001011700000203646566000000016e000c2100ffff0000fd000000000005000003fe0000020002000004016405000005fe00000200
-16 plain 1a000001ff1e04233432533232556e6b6e6f776e20636f6c756d6e3a2078
-journal 16
-1 commit 1 1 1 createdb:64
-2 run 1 2 other
-3 commit 1 3 1 create:64.74:02696400000003
-4 commit 1 4 1 put:64.74:0137
-5 commit 1 5 1 put:64.74:0133
-6 commit 1 6 1 put:64.74:0135
-7 run 1 7 plain off
-8 run 1 8 plain off
-9 run 1 9 plain off
-10 run 1 10 plain off
-11 run 1 11 plain error 1235
-12 run 1 12 plain off
-13 run 1 13 plain off
-14 run 1 14 plain off
-15 run 1 15 plain off
-16 run 1 16 plain error 1054
-counters 10 0 0 8 0 0
 end
 ";
 
@@ -287,39 +183,41 @@ fn run_with(rt: &HostRuntime, line: &str, script: &[u8]) -> Result<(Ended, Bytes
     Ok((ended, out))
 }
 
+/// The same behind a setup.
+fn run_behind(rt: &HostRuntime, run: &Run) -> Result<(Ended, BytesSink), AllocError> {
+    let script = run.script(rt.alloc())?;
+    run_with(rt, run.words, script.as_bytes())
+}
+
+/// Asserts that a run succeeded with this report.
+fn has_report(rt: &impl Abort, run: Result<(Ended, BytesSink), AllocError>, report: &str) {
+    let (ended, out) = must(rt, run);
+    same(rt, ended.status, 0u8);
+    same(rt, out.bytes(), report.as_bytes());
+}
+
 #[test]
 fn whole_reports(rt: HostRuntime) {
-    let rows: [(&str, &str); 5] = [
-        (FIRST_ROW, FIRST_REPORT),
-        ("", EMPTY_REPORT),
-        (NO_ROWS, NO_ROWS_REPORT),
-        (SELECTS, SELECTS_REPORT),
-        (CHANGES, CHANGES_REPORT),
-    ];
-    for (script, report) in rows {
-        let (ended, out) = must(&rt, run(&rt, script.as_bytes()));
-        assert_eq!(rt; ended.status, 0u8);
-        assert_eq!(rt; out.bytes(), report.as_bytes());
+    has_report(&rt, run(&rt, FIRST_ROW.as_bytes()), FIRST_REPORT);
+    has_report(&rt, run(&rt, b""), EMPTY_REPORT);
+    has_report(&rt, run(&rt, CHANGES.as_bytes()), CHANGES_REPORT);
+    for each in plain::RUNS {
+        let report = must(&rt, each.report(rt.alloc()));
+        has_report(&rt, run_behind(&rt, each), &report);
     }
 }
 
 #[test]
 fn whole_reports_with_a_cache(rt: HostRuntime) {
-    let rows: [(&str, &str, &str); 9] = [
-        ("run", FIRST_ROW, cached::KEPT_REPORT),
-        ("run --limit 62", FIRST_ROW, cached::JUST_KEPT_REPORT),
-        ("run --limit 61", FIRST_ROW, cached::TOO_LARGE_REPORT),
-        ("run", "", cached::EMPTY_REPORT),
-        ("run", cached::SPELLINGS, cached::SPELLINGS_REPORT),
-        ("run", cached::NO_ROWS, cached::NO_ROWS_REPORT),
-        ("run", cached::WRITTEN, cached::WRITTEN_REPORT),
-        ("run", cached::REASONS, cached::REASONS_REPORT),
-        ("run", cached::ORDERS, cached::ORDERS_REPORT),
-    ];
-    for (line, script, report) in rows {
-        let (ended, out) = must(&rt, run_with(&rt, line, script.as_bytes()));
-        assert_eq!(rt; ended.status, 0u8);
-        assert_eq!(rt; out.bytes(), report.as_bytes());
+    has_report(&rt, run_with(&rt, "run", b""), cached::EMPTY_REPORT);
+    has_report(
+        &rt,
+        run_with(&rt, "run", cached::ORDERS.as_bytes()),
+        cached::ORDERS_REPORT,
+    );
+    for each in cached::RUNS {
+        let report = must(&rt, each.report(rt.alloc()));
+        has_report(&rt, run_behind(&rt, each), &report);
     }
 }
 
@@ -338,13 +236,9 @@ fn a_source_that_gives_few_bytes(rt: HostRuntime) {
 
 #[test]
 fn a_query_of_an_unknown_table(rt: HostRuntime) {
-    let script = must(
-        &rt,
-        format!(in rt.alloc(); "{FIRST_ROW}query SELECT id FROM x\n"),
-    );
-    let (ended, out) = must(&rt, run(&rt, script.as_bytes()));
-    same(&rt, ended.status, 0u8);
-    same(&rt, out.bytes(), REFUSED_REPORT.as_bytes());
+    let unknown = plain::UNKNOWN_TABLE;
+    let report = must(&rt, unknown.report(rt.alloc()));
+    has_report(&rt, run_behind(&rt, &unknown), &report);
 }
 
 /// Words, each with the size, limit, unit and type that they ask for.

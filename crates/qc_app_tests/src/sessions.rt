@@ -1,5 +1,6 @@
 //! Scripts of one session, each statement with its answer and the event that it leaves, worked out by hand.
 //!
+//! A script is a table of cases: a text on a line of its own, and below it, indented, its answer and its event with ` | ` between them.
 //! A text is a statement, but for three:
 //!
 //! ```text
@@ -50,22 +51,18 @@ ghost use Rattle.qc_sql.specs.Commands.{command_payload};
 ghost use Rattle.qc_sql.specs.Packets.{most_payload};
 ghost use Rattle.qc_single.specs.Stage.{HasWords};
 
+use crate::told::is_empty;
 use qc_app::{Event, ReportLine};
+use qc_cases::{Case, Differences, cases};
 use qc_single::{Finished, SingleSession};
 use qc_sql::commands::Command;
 use qc_types::{NoMemory, Options, Steps, Text};
 use show::{Left, put_answer, put_event};
 use std::alloc::Global;
 use std::marker::Brand;
+use std::process::Abort;
 use std::sync::ledger::{Blank, Ledger};
 use std::test::Fail;
-
-/// A text, its answer and the event that it leaves.
-pub struct Step {
-    pub text: &'static str,
-    pub answer: &'static str,
-    pub event: &'static str,
-}
 
 /// The command that a text means.
 fn command_of(alloc: Global, text: &str) -> Result<Command, Fail>
@@ -104,51 +101,26 @@ fn found_in(alloc: Global, line: &ReportLine, left: &mut Left) -> Result<Vec<u8>
     Ok(found)
 }
 
-/// What it should have.
-fn wanted_by(alloc: Global, step: &Step) -> Result<Vec<u8>, NoMemory> {
-    let mut wanted = Vec::from_slice(alloc, step.answer.as_bytes())?;
-    wanted.extend_from_slice(b" | ")?;
-    wanted.extend_from_slice(step.event.as_bytes())?;
-    Ok(wanted)
-}
-
-fn difference(alloc: Global, text: &str, found: &[u8], wanted: &[u8]) -> Result<String, NoMemory> {
-    let text = prefix(alloc, text.as_bytes())?;
-    let found = prefix(alloc, found)?;
-    let wanted = prefix(alloc, wanted)?;
-    Ok(format!(in alloc; "{text}\n    is  {found}\n    not {wanted}\n")?)
-}
-
-/// The first bytes of a text, to be printed.
-fn prefix(alloc: Global, text: &[u8]) -> Result<String, NoMemory> {
-    let prefix = text.get(..400).unwrap_or(text);
-    Ok(String::from_utf8_lossy(alloc, prefix)?)
-}
-
 /// Three lines for each text that was answered otherwise than it should, and one more where lines or events are left.
 fn differences_in(
     alloc: Global,
-    script: &[Step],
+    script: &[Case<'_>],
     lines: &[ReportLine],
     events: &[Event],
 ) -> Result<String, NoMemory> {
-    let mut differences = String::new(alloc);
+    let mut differences = Differences::new(alloc);
     let mut left = Left::of(events);
-    for (step, line) in script.iter().zip(lines) {
+    for (case, line) in script.iter().zip(lines) {
         let found = found_in(alloc, line, &mut left)?;
-        let wanted = wanted_by(alloc, step)?;
-        if found.as_slice() != wanted.as_slice() {
-            let more = difference(alloc, step.text, found.as_slice(), wanted.as_slice())?;
-            differences.push_str(&more)?;
-        }
+        differences.compare(case.text.as_bytes(), &found, case.wanted.as_bytes())?;
     }
     if lines.len() != script.len() {
-        differences.push_str("another number of lines\n")?;
+        differences.note("another number of lines")?;
     }
     if !left.is_empty() {
-        differences.push_str("events of no line\n")?;
+        differences.note("events of no line")?;
     }
-    Ok(differences)
+    Ok(differences.into_lines())
 }
 
 /// The options with which a cache of this size keeps replies of so many bytes.
@@ -164,17 +136,18 @@ fn options(size: u32, limit: u32) -> Options
 }
 
 /// What a session on an empty database answers and leaves otherwise than a script says.
-fn differences_with(alloc: Global, options: Options, script: &[Step]) -> Result<String, Fail>
+fn differences_with(alloc: Global, options: Options, script: &str) -> Result<String, Fail>
     requires words { HasWords options }
 {
-    differences_by::<Brand>(alloc, options, script, Blank::new(1))
+    let script = cases(alloc, script)?;
+    differences_by::<Brand>(alloc, options, &script, Blank::new(1))
 }
 
 /// The same, with the steps counted on this ledger.
 fn differences_by<L: Ledger>(
     alloc: Global,
     options: Options,
-    script: &[Step],
+    script: &[Case<'_>],
     blank: Blank,
 ) -> Result<String, Fail>
     requires words { HasWords options }
@@ -184,8 +157,8 @@ fn differences_by<L: Ledger>(
 {
     let mut steps = Steps::<L>::new(blank);
     let mut session = SingleSession::new(alloc, options)?;
-    for step in script {
-        let command = command_of(alloc, step.text)?;
+    for case in script {
+        let command = command_of(alloc, case.text)?;
         session = session.execute(alloc, &command, &mut steps)?;
     }
     let Finished { journal, lines, .. } = session.finish();
@@ -193,24 +166,29 @@ fn differences_by<L: Ledger>(
     Ok(differences_in(alloc, script, lines.items(), events.items())?)
 }
 
-/// What one without a cache answers and leaves otherwise.
-fn differences(alloc: Global, script: &[Step]) -> Result<String, Fail> {
-    differences_with(alloc, options(0, 1_048_576), script)
-}
-
-/// What one with a cache does, where it keeps replies of so many bytes.
-fn cached_differences(alloc: Global, limit: u32, script: &[Step]) -> Result<String, Fail> {
-    differences_with(alloc, options(1_048_576, limit), script)
-}
-
-/// The differences of several scripts, each on a session of its own.
-fn differences_of_all(alloc: Global, scripts: &[&[Step]]) -> Result<String, Fail> {
-    let mut lines = String::new(alloc);
+/// Asserts that sessions without a cache answer and leave what scripts say, each on a session of its own.
+fn agree(rt: &impl Abort, alloc: Global, scripts: &[&str]) -> Result<(), Fail> {
     for script in scripts {
-        let more = differences(alloc, script)?;
-        lines.push_str(&more)?;
+        let lines = differences_with(alloc, options(0, 1_048_576), script)?;
+        is_empty(rt, &lines);
     }
-    Ok(lines)
+    Ok(())
+}
+
+/// The same with a cache that keeps replies of so many bytes, behind the setup.
+fn agree_cached(rt: &impl Abort, alloc: Global, limit: u32, scripts: &[&str]) -> Result<(), Fail> {
+    for script in scripts {
+        let lines = cached_differences(alloc, limit, script)?;
+        is_empty(rt, &lines);
+    }
+    Ok(())
+}
+
+/// What a session with such a cache answers and leaves otherwise than a script says.
+fn cached_differences(alloc: Global, limit: u32, script: &str) -> Result<String, Fail> {
+    let mut whole = String::from_str(alloc, cached::SETUP)?;
+    whole.push_str(script)?;
+    differences_with(alloc, options(1_048_576, limit), &whole)
 }
 
 #[test]
@@ -221,9 +199,7 @@ fn rows_are_inserted(rt: HostRuntime) -> Result<(), Fail> {
         inserts::REFUSED_VALUES,
         inserts::FIRST_REFUSALS,
     ];
-    let lines = differences_of_all(rt.alloc(), &scripts)?;
-    assert!(rt; lines.is_empty(), "{lines}");
-    Ok(())
+    agree(&rt, rt.alloc(), &scripts)
 }
 
 #[test]
@@ -233,17 +209,13 @@ fn rows_are_updated(rt: HostRuntime) -> Result<(), Fail> {
         updates::UNKNOWN_CONDITIONS,
         updates::FIRST_REFUSALS,
     ];
-    let lines = differences_of_all(rt.alloc(), &scripts)?;
-    assert!(rt; lines.is_empty(), "{lines}");
-    Ok(())
+    agree(&rt, rt.alloc(), &scripts)
 }
 
 #[test]
 fn rows_are_deleted(rt: HostRuntime) -> Result<(), Fail> {
     let scripts = [deletes::SOME_AND_ALL, deletes::REFUSALS_AND_TRUNCATE];
-    let lines = differences_of_all(rt.alloc(), &scripts)?;
-    assert!(rt; lines.is_empty(), "{lines}");
-    Ok(())
+    agree(&rt, rt.alloc(), &scripts)
 }
 
 #[test]
@@ -253,9 +225,7 @@ fn tables_and_databases(rt: HostRuntime) -> Result<(), Fail> {
         definitions::TABLES,
         definitions::REFUSED_TABLES,
     ];
-    let lines = differences_of_all(rt.alloc(), &scripts)?;
-    assert!(rt; lines.is_empty(), "{lines}");
-    Ok(())
+    agree(&rt, rt.alloc(), &scripts)
 }
 
 #[test]
@@ -268,17 +238,13 @@ fn begun_and_ended(rt: HostRuntime) -> Result<(), Fail> {
         transactions::REFUSED_DEFINITIONS_INSIDE,
         transactions::TWO_DATABASES,
     ];
-    let lines = differences_of_all(rt.alloc(), &scripts)?;
-    assert!(rt; lines.is_empty(), "{lines}");
-    Ok(())
+    agree(&rt, rt.alloc(), &scripts)
 }
 
 #[test]
 fn without_autocommit(rt: HostRuntime) -> Result<(), Fail> {
     let scripts = [autocommit::OPENING, autocommit::SWITCHES];
-    let lines = differences_of_all(rt.alloc(), &scripts)?;
-    assert!(rt; lines.is_empty(), "{lines}");
-    Ok(())
+    agree(&rt, rt.alloc(), &scripts)
 }
 
 #[test]
@@ -288,9 +254,7 @@ fn variables_are_set(rt: HostRuntime) -> Result<(), Fail> {
         settings::ANSI_QUOTES,
         settings::ROW_LIMIT,
     ];
-    let lines = differences_of_all(rt.alloc(), &scripts)?;
-    assert!(rt; lines.is_empty(), "{lines}");
-    Ok(())
+    agree(&rt, rt.alloc(), &scripts)
 }
 
 #[test]
@@ -300,35 +264,24 @@ fn refused_texts_and_the_cache(rt: HostRuntime) -> Result<(), Fail> {
         texts::STATEMENTS_ON_THE_CACHE,
         texts::WITHOUT_A_CACHE,
     ];
-    let lines = differences_of_all(rt.alloc(), &scripts)?;
-    assert!(rt; lines.is_empty(), "{lines}");
-    Ok(())
+    agree(&rt, rt.alloc(), &scripts)
 }
 
 #[test]
 fn the_cache_answers(rt: HostRuntime) -> Result<(), Fail> {
-    let mut lines = String::new(rt.alloc());
-    for script in [
+    let scripts = [
         cached::HITS,
         cached::WRITES,
         cached::KEYS,
         cached::REASONS,
         cached::TRANSACTIONS,
-    ] {
-        let more = cached_differences(rt.alloc(), 1_048_576, script)?;
-        lines.push_str(&more)?;
-    }
-    assert!(rt; lines.is_empty(), "{lines}");
-    Ok(())
+    ];
+    agree_cached(&rt, rt.alloc(), 1_048_576, &scripts)
 }
 
 #[test]
 fn replies_that_are_too_large(rt: HostRuntime) -> Result<(), Fail> {
-    let mut lines = cached_differences(rt.alloc(), 62, cached::OF_62_BYTES)?;
-    let of_61 = cached_differences(rt.alloc(), 61, cached::TOO_LARGE)?;
-    let of_46 = cached_differences(rt.alloc(), 46, cached::PREFIX_TOO_LARGE)?;
-    lines.push_str(&of_61)?;
-    lines.push_str(&of_46)?;
-    assert!(rt; lines.is_empty(), "{lines}");
-    Ok(())
+    agree_cached(&rt, rt.alloc(), 62, &[cached::OF_62_BYTES])?;
+    agree_cached(&rt, rt.alloc(), 61, &[cached::TOO_LARGE])?;
+    agree_cached(&rt, rt.alloc(), 46, &[cached::PREFIX_TOO_LARGE])
 }

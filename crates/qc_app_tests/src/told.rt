@@ -19,3 +19,8 @@ pub fn must<T, E: Debug + Drop>(rt: &impl Abort, answer: Result<T, E>) -> T
 pub fn same<T: PartialEq + Debug + Drop>(rt: &impl Abort, got: T, wanted: T) {
     assert_eq!(rt; got, wanted);
 }
+
+/// Asserts that a report has no lines.
+pub fn is_empty(rt: &impl Abort, report: &str) {
+    assert!(rt; report.is_empty(), "{report}");
+}

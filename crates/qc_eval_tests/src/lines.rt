@@ -10,9 +10,3 @@ pub fn error_line(alloc: Global, error: &SqlError) -> Result<Vec<u8>, NoMemory> 
     line.extend_from_slice(error.message.bytes())?;
     Ok(line)
 }
-
-/// The first 400 bytes of a line, to be printed.
-pub fn prefix(alloc: Global, line: &[u8]) -> Result<String, NoMemory> {
-    let first = line.get(..400).unwrap_or(line);
-    Ok(String::from_utf8_lossy(alloc, first)?)
-}

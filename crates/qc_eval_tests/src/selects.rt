@@ -7,8 +7,8 @@ mod tables;
 mod versions;
 
 use crate::flags::FLAGS;
-use crate::lines::prefix;
 use crate::told::{is_empty, must};
+use qc_cases::{Differences, built, cases};
 use qc_sql::session::Flags;
 use qc_table::Database;
 use qc_types::NoMemory;
@@ -32,122 +32,90 @@ enum Shown {
     Columns,
 }
 
-/// Three lines for each text that gives something else than it should.
+/// Who asks a database, and what of the answers is compared.
 #[derive(Drop)]
-struct Report<'a> {
-    alloc: Global,
+struct Asker<'a> {
     database: &'a Database,
     session: Session<'a>,
     shown: Shown,
-    lines: String,
 }
 
-impl<'a> Report<'a> {
-    fn new(
-        alloc: Global,
-        database: &'a Database,
-        session: Session<'a>,
-        shown: Shown,
-    ) -> Report<'a> {
-        Report {
-            alloc,
-            database,
-            session,
-            shown,
-            lines: String::new(alloc),
+impl Asker<'_> {
+    /// What a text gives.
+    fn given(&self, alloc: Global, text: &[u8]) -> Result<Vec<u8>, NoMemory> {
+        match self.shown {
+            Shown::Rows => rows_given(alloc, self.database, self.session, text),
+            Shown::Columns => columns_given(alloc, self.database, self.session, text),
         }
     }
 
-    /// Asks a text, and puts down what it gives where that isn't what is wanted.
-    fn compare(&mut self, text: &[u8], wanted: &[u8]) -> Result<(), NoMemory> {
-        let found = match self.shown {
-            Shown::Rows => rows_given(self.alloc, self.database, self.session, text)?,
-            Shown::Columns => columns_given(self.alloc, self.database, self.session, text)?,
-        };
-        if found.as_slice() == wanted {
-            return Ok(());
+    /// What the texts of a table give otherwise than it says.
+    fn differences(&self, alloc: Global, table: &str) -> Result<String, NoMemory> {
+        let mut differences = Differences::new(alloc);
+        let rows = cases(alloc, table)?;
+        for case in &rows {
+            let text = case.text.as_bytes();
+            let found = self.given(alloc, text)?;
+            differences.compare(text, &found, case.wanted.as_bytes())?;
         }
-        let text = prefix(self.alloc, text)?;
-        let found = prefix(self.alloc, found.as_slice())?;
-        let wanted = prefix(self.alloc, wanted)?;
-        let lines = format!(in self.alloc; "{text}\n    is  {found}\n    not {wanted}\n")?;
-        self.lines.push_str(&lines)?;
-        Ok(())
+        Ok(differences.into_lines())
     }
 
-    /// Compares all of a table.
-    fn compare_all(&mut self, table: &str) -> Result<(), NoMemory> {
-        let mut text: &[u8] = b"";
-        for line in table.lines() {
-            match line.strip_prefix("    ") {
-                Some(wanted) => self.compare(text, wanted.as_bytes())?,
-                None => text = line.as_bytes(),
-            }
+    /// The same for a table whose lines are made of pieces.
+    fn large_differences(&self, alloc: Global, table: &str) -> Result<String, NoMemory> {
+        let mut differences = Differences::new(alloc);
+        let rows = cases(alloc, table)?;
+        for case in &rows {
+            let text = built(alloc, case.text, '~')?;
+            let wanted = built(alloc, case.wanted, '~')?;
+            let found = self.given(alloc, &text)?;
+            differences.compare(&text, &found, &wanted)?;
         }
-        Ok(())
-    }
-
-    /// Compares all of a table whose lines are made of pieces.
-    fn compare_large(&mut self, table: &str) -> Result<(), NoMemory> {
-        let mut text = Vec::new(self.alloc);
-        for line in table.lines() {
-            match line.strip_prefix("    ") {
-                Some(wanted) => {
-                    let wanted = built(self.alloc, wanted)?;
-                    self.compare(text.as_slice(), wanted.as_slice())?;
-                }
-                None => text = built(self.alloc, line)?,
-            }
-        }
-        Ok(())
+        Ok(differences.into_lines())
     }
 }
 
-/// The text that a line of pieces means.
-fn built(alloc: Global, line: &str) -> Result<Vec<u8>, NoMemory> {
-    let mut text = Vec::new(alloc);
-    for part in line.split('~') {
-        let (count, piece) = counted(part);
-        for _ in 0..count {
-            text.extend_from_slice(piece.as_bytes())?;
-        }
-    }
-    Ok(text)
-}
-
-/// How often a piece stands there, and the piece.
-fn counted(part: &str) -> (usize, &str) {
-    let Some((count, piece)) = part.split_once('*') else {
-        return (1, part);
+/// What a table of texts says otherwise than a session is given by a database.
+fn differences_on(
+    rt: &impl Abort,
+    alloc: Global,
+    database: &Database,
+    session: Session<'_>,
+    table: &str,
+) -> String {
+    let asker = Asker {
+        database,
+        session,
+        shown: Shown::Rows,
     };
-    match count.parse::<usize>() {
-        Ok(count) => (count, piece),
-        Err(_) => (1, part),
-    }
+    must(rt, asker.differences(alloc, table))
 }
 
-/// What the report says of a table of texts over the small tables.
+/// The same over the small tables.
 fn differences(rt: &impl Abort, alloc: Global, session: Session<'_>, table: &str) -> String {
-    let database = small(rt, alloc);
-    let mut report = Report::new(alloc, &database, session, Shown::Rows);
-    must(rt, report.compare_all(table));
-    report.lines
+    differences_on(rt, alloc, &small(rt, alloc), session, table)
 }
 
 /// The same for what their columns are.
 fn column_differences(rt: &impl Abort, alloc: Global, session: Session<'_>, table: &str) -> String {
     let database = small(rt, alloc);
-    let mut report = Report::new(alloc, &database, session, Shown::Columns);
-    must(rt, report.compare_all(table));
-    report.lines
+    let asker = Asker {
+        database: &database,
+        session,
+        shown: Shown::Columns,
+    };
+    must(rt, asker.differences(alloc, table))
 }
 
-/// What the report says of a table of large texts.
+/// The same for a table of large texts.
 fn large_differences(rt: &impl Abort, alloc: Global, shown: Shown, table: &str) -> String {
     let database = large(rt, alloc);
-    let mut report = Report::new(alloc, &database, PLAIN, shown);
-    must(rt, report.compare_large(table));
-    report.lines
+    let asker = Asker {
+        database: &database,
+        session: PLAIN,
+        shown,
+    };
+    must(rt, asker.large_differences(alloc, table))
 }
 
 /// A session that is like most but for its flags.
@@ -286,18 +254,20 @@ fn columns_of_another_character_set(rt: HostRuntime) {
 fn a_table_of_three_rows(rt: HostRuntime) {
     let alloc = rt.alloc();
     let database = three_rows(&rt, alloc);
-    let mut report = Report::new(alloc, &database, PLAIN, Shown::Rows);
-    must(&rt, report.compare_all(table::THREE_ROWS));
-    is_empty(&rt, &report.lines);
+    is_empty(
+        &rt,
+        &differences_on(&rt, alloc, &database, PLAIN, table::THREE_ROWS),
+    );
 }
 
 #[test]
 fn the_tables_of_a_shop(rt: HostRuntime) {
     let alloc = rt.alloc();
     let database = shop(&rt, alloc);
-    let mut report = Report::new(alloc, &database, PLAIN, Shown::Rows);
-    must(&rt, report.compare_all(table::SHOP));
-    is_empty(&rt, &report.lines);
+    is_empty(
+        &rt,
+        &differences_on(&rt, alloc, &database, PLAIN, table::SHOP),
+    );
 }
 
 #[test]

@@ -22,9 +22,9 @@ mod tables;
 
 ghost use Rattle.std.specs.Prelude.{◌≡◌, Ok};
 
-use crate::lines::prefix;
 use crate::told::{is_empty, must};
 use asked::{Asked, create_table, insert_count, statement_of};
+use qc_cases::prefix;
 use qc_sql::statements::Statement;
 use qc_table::Database;
 use qc_types::NoMemory;

@@ -1,193 +1,135 @@
-//! Words and scripts of runs with a cache, and their reports.
+//! Runs with a cache, and the whole scripts and reports of some.
 
-/// A reply of 62 bytes is kept.
-pub const KEPT_REPORT: &str = "qcache report 1
-options 1048576 1048576 4096 1
-sessions 1
-session 1 commands 5 end input
-1 other 0700000100010002000000
-2 other 0700000100000002000000
-3 other 0700000100000002000000
-4 other 0700000100010002000000
-5 start 01000001011d000002036465660164017401740269640269640c3f001400000008030000000005000003fe0000020002000004013705000005fe00000200
-journal 6
-1 commit 1 1 1 createdb:64
-2 run 1 2 other
-3 commit 1 3 1 create:64.74:02696400000003
-4 commit 1 4 1 put:64.74:0137
-5 run 1 5 start 1 01640001210000ffffffffffffffff000053454c4543542069642046524f4d2074 64.74
+use super::setup::{Run, TABLE, TABLE_OF_7};
+
+pub const RUNS: &[Run] = &[
+    // a reply of 62 bytes is kept
+    Run {
+        words: "run",
+        setup: TABLE_OF_7,
+        commands: "query SELECT id FROM t
+",
+        options: "1048576 1048576 4096 1",
+        sent: 5,
+        lines: "5 start 01000001011d000002036465660164017401740269640269640c3f001400000008030000000005000003fe0000020002000004013705000005fe00000200
+",
+        logged: 6,
+        events: "5 run 1 5 start 1 01640001210000ffffffffffffffff000053454c4543542069642046524f4d2074 64.74
 6 done 1
-counters 1 0 1 0 0 1
-end
-";
-
-/// The same where 62 bytes are the most that is kept.
-pub const JUST_KEPT_REPORT: &str = "qcache report 1
-options 1048576 62 4096 1
-sessions 1
-session 1 commands 5 end input
-1 other 0700000100010002000000
-2 other 0700000100000002000000
-3 other 0700000100000002000000
-4 other 0700000100010002000000
-5 start 01000001011d000002036465660164017401740269640269640c3f001400000008030000000005000003fe0000020002000004013705000005fe00000200
-journal 6
-1 commit 1 1 1 createdb:64
-2 run 1 2 other
-3 commit 1 3 1 create:64.74:02696400000003
-4 commit 1 4 1 put:64.74:0137
-5 run 1 5 start 1 01640001210000ffffffffffffffff000053454c4543542069642046524f4d2074 64.74
+",
+        counters: "1 0 1 0 0 1",
+    },
+    // the same where 62 bytes are the most that is kept
+    Run {
+        words: "run --limit 62",
+        setup: TABLE_OF_7,
+        commands: "query SELECT id FROM t
+",
+        options: "1048576 62 4096 1",
+        sent: 5,
+        lines: "5 start 01000001011d000002036465660164017401740269640269640c3f001400000008030000000005000003fe0000020002000004013705000005fe00000200
+",
+        logged: 6,
+        events: "5 run 1 5 start 1 01640001210000ffffffffffffffff000053454c4543542069642046524f4d2074 64.74
 6 done 1
-counters 1 0 1 0 0 1
-end
-";
-
-/// And where they are one too many.
-pub const TOO_LARGE_REPORT: &str = "qcache report 1
-options 1048576 61 4096 1
-sessions 1
-session 1 commands 5 end input
-1 other 0700000100010002000000
-2 other 0700000100000002000000
-3 other 0700000100000002000000
-4 other 0700000100010002000000
-5 start 01000001011d000002036465660164017401740269640269640c3f001400000008030000000005000003fe0000020002000004013705000005fe00000200
-journal 6
-1 commit 1 1 1 createdb:64
-2 run 1 2 other
-3 commit 1 3 1 create:64.74:02696400000003
-4 commit 1 4 1 put:64.74:0137
-5 run 1 5 start 1 01640001210000ffffffffffffffff000053454c4543542069642046524f4d2074 64.74
+",
+        counters: "1 0 1 0 0 1",
+    },
+    // and where they are one too many
+    Run {
+        words: "run --limit 61",
+        setup: TABLE_OF_7,
+        commands: "query SELECT id FROM t
+",
+        options: "1048576 61 4096 1",
+        sent: 5,
+        lines: "5 start 01000001011d000002036465660164017401740269640269640c3f001400000008030000000005000003fe0000020002000004013705000005fe00000200
+",
+        logged: 6,
+        events: "5 run 1 5 start 1 01640001210000ffffffffffffffff000053454c4543542069642046524f4d2074 64.74
 6 gone 1 toolarge 62 61
-counters 1 0 1 0 0 0
-end
-";
-
-pub const EMPTY_REPORT: &str = "qcache report 1
-options 1048576 1048576 4096 1
-sessions 0
-journal 0
-counters 0 0 0 0 0 0
-end
-";
-
-/// One text in other letters, with another space inside, and with white space and a semicolon at its ends: the last alone is a hit.
-pub const SPELLINGS: &str = "session 1
-query CREATE DATABASE d
-init d
-query CREATE TABLE t (id BIGINT PRIMARY KEY)
-query INSERT INTO t VALUES (7)
-query SELECT id FROM t
+",
+        counters: "1 0 1 0 0 0",
+    },
+    // one text in other letters, with another space inside, and with white space and a semicolon at its ends: the last alone is a hit
+    Run {
+        words: "run",
+        setup: TABLE_OF_7,
+        commands: "query SELECT id FROM t
 query select id FROM t
 query SELECT  id FROM t
 query  SELECT id FROM t ;\x20
-";
-
-pub const SPELLINGS_REPORT: &str = "qcache report 1
-options 1048576 1048576 4096 1
-sessions 1
-session 1 commands 8 end input
-1 other 0700000100010002000000
-2 other 0700000100000002000000
-3 other 0700000100000002000000
-4 other 0700000100010002000000
-5 start 01000001011d000002036465660164017401740269640269640c3f001400000008030000000005000003fe0000020002000004013705000005fe00000200
+",
+        options: "1048576 1048576 4096 1",
+        sent: 8,
+        lines: "5 start 01000001011d000002036465660164017401740269640269640c3f001400000008030000000005000003fe0000020002000004013705000005fe00000200
 7 start 01000001011d000002036465660164017401740269640269640c3f001400000008030000000005000003fe0000020002000004013705000005fe00000200
 9 start 01000001011d000002036465660164017401740269640269640c3f001400000008030000000005000003fe0000020002000004013705000005fe00000200
 11 hit 01000001011d000002036465660164017401740269640269640c3f001400000008030000000005000003fe0000020002000004013705000005fe00000200
-journal 11
-1 commit 1 1 1 createdb:64
-2 run 1 2 other
-3 commit 1 3 1 create:64.74:02696400000003
-4 commit 1 4 1 put:64.74:0137
-5 run 1 5 start 1 01640001210000ffffffffffffffff000053454c4543542069642046524f4d2074 64.74
+",
+        logged: 11,
+        events: "5 run 1 5 start 1 01640001210000ffffffffffffffff000053454c4543542069642046524f4d2074 64.74
 6 done 1
 7 run 1 6 start 2 01640001210000ffffffffffffffff000073656c6563742069642046524f4d2074 64.74
 8 done 2
 9 run 1 7 start 3 01640001210000ffffffffffffffff000053454c454354202069642046524f4d2074 64.74
 10 done 3
 11 run 1 8 hit 1
-counters 3 1 3 0 0 3
-end
-";
-
-/// A reply without rows is kept too.
-pub const NO_ROWS: &str = "session 1
-query CREATE DATABASE d
-init d
-query CREATE TABLE t (id BIGINT PRIMARY KEY)
+",
+        counters: "3 1 3 0 0 3",
+    },
+    // a reply without rows is kept too
+    Run {
+        words: "run",
+        setup: TABLE,
+        commands: "query SELECT id FROM t
 query SELECT id FROM t
-query SELECT id FROM t
-";
-
-pub const NO_ROWS_REPORT: &str = "qcache report 1
-options 1048576 1048576 4096 1
-sessions 1
-session 1 commands 5 end input
-1 other 0700000100010002000000
-2 other 0700000100000002000000
-3 other 0700000100000002000000
-4 start 01000001011d000002036465660164017401740269640269640c3f001400000008030000000005000003fe0000020005000004fe00000200
+",
+        options: "1048576 1048576 4096 1",
+        sent: 5,
+        lines: "4 start 01000001011d000002036465660164017401740269640269640c3f001400000008030000000005000003fe0000020005000004fe00000200
 6 hit 01000001011d000002036465660164017401740269640269640c3f001400000008030000000005000003fe0000020005000004fe00000200
-journal 6
-1 commit 1 1 1 createdb:64
-2 run 1 2 other
-3 commit 1 3 1 create:64.74:02696400000003
-4 run 1 4 start 1 01640001210000ffffffffffffffff000053454c4543542069642046524f4d2074 64.74
+",
+        logged: 6,
+        events: "4 run 1 4 start 1 01640001210000ffffffffffffffff000053454c4543542069642046524f4d2074 64.74
 5 done 1
 6 run 1 5 hit 1
-counters 1 1 1 0 0 1
-end
-";
-
-/// A transaction that has written a table reads it outside the cache.
-pub const WRITTEN: &str = "session 1
-query CREATE DATABASE d
-init d
-query CREATE TABLE t (id BIGINT PRIMARY KEY)
-query INSERT INTO t VALUES (7)
-query BEGIN
+",
+        counters: "1 1 1 0 0 1",
+    },
+    // a transaction that has written a table reads it outside the cache
+    Run {
+        words: "run",
+        setup: TABLE_OF_7,
+        commands: "query BEGIN
 query INSERT INTO t VALUES (9)
 query SELECT id FROM t
 query COMMIT
 query SELECT id FROM t
-";
-
-pub const WRITTEN_REPORT: &str = "qcache report 1
-options 1048576 1048576 4096 1
-sessions 1
-session 1 commands 9 end input
-1 other 0700000100010002000000
-2 other 0700000100000002000000
-3 other 0700000100000002000000
-4 other 0700000100010002000000
-5 other 0700000100000003000000
+",
+        options: "1048576 1048576 4096 1",
+        sent: 9,
+        lines: "5 other 0700000100000003000000
 6 other 0700000100010003000000
 7 plain 01000001011d000002036465660164017401740269640269640c3f001400000008030000000005000003fe0000030002000004013702000005013905000006fe00000300
 8 other 0700000100000002000000
 9 start 01000001011d000002036465660164017401740269640269640c3f001400000008030000000005000003fe0000020002000004013702000005013905000006fe00000200
-journal 10
-1 commit 1 1 1 createdb:64
-2 run 1 2 other
-3 commit 1 3 1 create:64.74:02696400000003
-4 commit 1 4 1 put:64.74:0137
-5 run 1 5 other
+",
+        logged: 10,
+        events: "5 run 1 5 other
 6 run 1 6 other
 7 run 1 7 plain written 64.74
 8 commit 1 8 1 put:64.74:0139
 9 run 1 9 start 1 01640001210000ffffffffffffffff000053454c4543542069642046524f4d2074 64.74
 10 done 1
-counters 2 0 1 1 0 1
-end
-";
-
-/// Why a SELECT runs outside the cache.
-pub const REASONS: &str = "session 1
-query CREATE DATABASE d
-init d
-query CREATE TABLE t (id BIGINT PRIMARY KEY)
-query INSERT INTO t VALUES (7)
-query SELECT SQL_NO_CACHE id FROM t
+",
+        counters: "2 0 1 1 0 1",
+    },
+    // why a SELECT runs outside the cache
+    Run {
+        words: "run",
+        setup: TABLE_OF_7,
+        commands: "query SELECT SQL_NO_CACHE id FROM t
 query SET query_cache_type = 2
 query SELECT id FROM t
 query SELECT SQL_CACHE id FROM t
@@ -202,17 +144,10 @@ query SELECT NOW() FROM t
 query CREATE DATABASE mysql
 query CREATE TABLE mysql.t (id BIGINT PRIMARY KEY)
 query SELECT id FROM mysql.t
-";
-
-pub const REASONS_REPORT: &str = "qcache report 1
-options 1048576 1048576 4096 1
-sessions 1
-session 1 commands 19 end input
-1 other 0700000100010002000000
-2 other 0700000100000002000000
-3 other 0700000100000002000000
-4 other 0700000100010002000000
-5 plain 01000001011d000002036465660164017401740269640269640c3f001400000008030000000005000003fe0000020002000004013705000005fe00000200
+",
+        options: "1048576 1048576 4096 1",
+        sent: 19,
+        lines: "5 plain 01000001011d000002036465660164017401740269640269640c3f001400000008030000000005000003fe0000020002000004013705000005fe00000200
 5 local 0700000100000002000000
 6 plain 01000001011d000002036465660164017401740269640269640c3f001400000008030000000005000003fe0000020002000004013705000005fe00000200
 7 start 01000001011d000002036465660164017401740269640269640c3f001400000008030000000005000003fe0000020002000004013705000005fe00000200
@@ -227,12 +162,9 @@ session 1 commands 19 end input
 15 other 0700000100010002000000
 16 other 0700000100000002000000
 17 plain 01000001012100000203646566056d7973716c017401740269640269640c3f001400000008030000000005000003fe0000020005000004fe00000200
-journal 17
-1 commit 1 1 1 createdb:64
-2 run 1 2 other
-3 commit 1 3 1 create:64.74:02696400000003
-4 commit 1 4 1 put:64.74:0137
-5 run 1 5 plain notasked
+",
+        logged: 17,
+        events: "5 run 1 5 plain notasked
 6 run 1 6 plain notasked
 7 run 1 7 start 1 01640001210000ffffffffffffffff000053454c4543542053514c5f43414348452069642046524f4d2074 64.74
 8 done 1
@@ -245,7 +177,16 @@ journal 17
 15 commit 1 14 1 createdb:6d7973716c
 16 commit 1 15 1 create:6d7973716c.74:02696400000003
 17 run 1 16 plain systemtable 6d7973716c.74
-counters 10 0 1 7 0 1
+",
+        counters: "10 0 1 7 0 1",
+    },
+];
+
+pub const EMPTY_REPORT: &str = "qcache report 1
+options 1048576 1048576 4096 1
+sessions 0
+journal 0
+counters 0 0 0 0 0 0
 end
 ";
 

@@ -3,7 +3,7 @@
 ghost use Rattle.std.specs.Prelude.{◌≡◌, ◌<◌};
 
 use super::tables::small;
-use super::{PLAIN, Report, Shown, table};
+use super::{PLAIN, differences_on, table};
 use crate::told::{is_empty, must};
 use crate::words::table_name;
 use qc_sql::tables::Kind;
@@ -19,9 +19,10 @@ fn a_shared_database_stays(rt: HostRuntime) {
     let database = small(&rt, alloc);
     let shared = must(&rt, database.share());
     drop(database);
-    let mut report = Report::new(alloc, &shared, PLAIN, Shown::Rows);
-    must(&rt, report.compare_all(table::SOURCES));
-    is_empty(&rt, &report.lines);
+    is_empty(
+        &rt,
+        &differences_on(&rt, alloc, &shared, PLAIN, table::SOURCES),
+    );
 }
 
 #[test]

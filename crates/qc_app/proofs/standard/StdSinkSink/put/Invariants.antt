@@ -1,6 +1,0 @@
-use Rattle.std.proofs.Common.{◌≤◌}
-use Rattle.qc_app.proofs.standard.StdSinkSink.put.Given as goal
-
--- the count of faults has not fallen
-abbrev pub invariant-loop : goal.invariant-loop
-invariant-loop g l = l.fn.self ≤ l.self-inside.faults

@@ -1,0 +1,4 @@
+//! Scripts and reports.
+
+mod reports;
+mod scripts;

@@ -1,0 +1,4 @@
+//! Packets, written and read.
+
+mod packets;
+mod replies;
