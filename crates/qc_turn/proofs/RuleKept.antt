@@ -25,7 +25,7 @@ use Rattle.qc_turn.specs.Releases.{HeldFreeOfOthers, IsFresh, ClosesWith, Spells
 use Rattle.qc_turn.specs.Rules.{HoldingRule, ContentRule, TaskRule, SeatRule, MetRule, UnmadeRule, TurnRule}
 use Rattle.qc_turn.specs.Steps.{Taken, TookTurn, LoadedWord, takes_turn, releases_turn, loads_word, loads_streamed, stores_filled, sets_task_word, clears_task_word, reads_task_word, stores_word}
 use Rattle.qc_turn.specs.Tasks.{is_stream, IsListed, IsEnded, FoundIdle, released_task, released_blocks, OutsideOtherFills, Agrees, fill_places, places_of, listed_for, own, task_in, blocks_in, HasBlocks}
-use Rattle.qc_turn.specs.Views.{base_of, words_of, HoldsTurn, written, Apart, AllMet, first_seat, with_holding, spent, after_split, next_seat, after_meet, met_seat, of_seat, content_of, after_release, with_content, with_word_set, with_found, found_word, idle_of, after_stream}
+use Rattle.qc_turn.specs.Views.{base_of, words_of, HoldsTurn, written, Apart, AllMet, first_seat, with_holding, spent, after_split, next_seat, after_meet, met_seat, of_seat, content_of, after_release, with_content, with_word_set, with_found, found_word, idle_of, after_stream, IsSoundJournal}
 use Rattle.qc_turn.specs.Words.{task_words_of, bit, StartsWith, region, last_seat}
 use Rattle.qc_turn.proofs.Tasks.{starts_refl, starts_trans, longer_of, longer_one, region_at, region_set, region_set0, length-region, misses_front, spelled_missed, missed, is_in, spelled_agree, filled_front, region_high, zero_set, zero_stays, task_words_low, task_words_set, task_words_at, listed_live, keeps_fills, keeps_none, keeps_listed, ended_rests}
 
@@ -409,7 +409,7 @@ module _ {V E : Type 0} (K : Ghosts V E) (size : ℕ) where
         first = mine.first;
         unmet = mine.unmet;
         seen = starts_refl (K.journal x);
-        was_sound = (x, ws, sound, refl);
+        was_sound = record { value = x; words = ws; sound = sound; journal = refl };
         fixed = mine.fixed ∙ sym fol.fixed;
         events = refl;
         connected = refl;
@@ -701,7 +701,6 @@ module _ {V E : Type 0} (K : Ghosts V E) (size : ℕ) where
       let long : length next ≡ length registry = length-set registry m (Some (met_seat w)) in
       let made = r.few in
       let merged = longer_of (K.journal base) v.seen w.seen mine.seen theirs.seen in
-      let Stood : List E → Type 0 = λ es. (x : V) × (over : List ℕ) × K.sound over x × (K.journal x ≡ es) in
       let Q : View V E → Type 0 = λ u. SeatRule K size (word s) ws (task_words s) base next u in
       let first_one : Q both = record {
         sized = mine.sized;
@@ -709,7 +708,7 @@ module _ {V E : Type 0} (K : Ghosts V E) (size : ℕ) where
         first = λ _. ap (λ l. set l m (Some (met_seat w))) registry_is;
         unmet = λ up. absurd (omega arith);
         seen = merged.0;
-        was_sound = longer_one Stood v.seen w.seen mine.was_sound theirs.was_sound;
+        was_sound = longer_one (IsSoundJournal K) v.seen w.seen mine.was_sound theirs.was_sound;
         fixed = mine.fixed;
         events = mine.events;
         connected = mine.connected;
@@ -842,7 +841,7 @@ module _ {V E : Type 0} (K : Ghosts V E) (size : ℕ) where
         first = λ _. refl;
         unmet = λ more. absurd (omega arith);
         seen = (K.journal x, refl);
-        was_sound = (x, replicate size 0, fresh.sound, fresh.journal);
+        was_sound = record { value = x; words = replicate size 0; sound = fresh.sound; journal = fresh.journal };
         fixed = refl;
         events = sym (ap (of_seat K 1) fresh.journal);
         connected = sym (fresh.connected 1);
@@ -921,7 +920,7 @@ module _ {V E : Type 0} (K : Ghosts V E) (size : ℕ) where
       let old_text : (v.content ≡ take (length v.content) (bytes_of (spelled ws v.blocks))) × K.fits (K.journal base) serial v.content = subst (λ (p : Holding V × Task). TaskRule K base ws p.0 p.1 v.blocks v.content) (λ j. (free j, task j)) mine.content in
       let front : bytes ≡ take (length bytes) (bytes_of (spelled ws' v.blocks)) = filled_front ws v.blocks v.content i k x count once inside here_k (omega arith) low high old_text.0 long in
       let u = mine.was_sound in
-      let fits : K.fits (K.journal base) serial bytes = K.fits_on u.1 r.was_sound.0 u.0 base serial bytes u.2 r.was_sound.2 (subst (λ l. StartsWith (K.journal base) l) (sym u.3) mine.seen) (subst (λ l. K.fits l serial bytes) (sym u.3) may) in
+      let fits : K.fits (K.journal base) serial bytes = K.fits_on u.words r.was_sound.0 u.value base serial bytes u.sound r.was_sound.2 (subst (λ l. StartsWith (K.journal base) l) (sym u.journal) mine.seen) (subst (λ l. K.fits l serial bytes) (sym u.journal) may) in
       let content : TaskRule K base ws' v.holding v.task v.blocks bytes = subst (λ (p : Holding V × Task). TaskRule K base ws' p.0 p.1 v.blocks bytes) (λ j. (sym free j, sym task j)) (front, fits) in
       let ms : List ℕ = task_words s in
       let also : task_words_of size (set s.words (k + 1) x) ≡ ms = task_words_low size (k + 1) x s.words (omega arith) in

@@ -108,9 +108,12 @@ module _ {V E : Type 0} (K : Ghosts V E) where
   abbrev pub of_seat : ℕ → List E → List E
   of_seat n es = filter (λ e. names (K.session e) n) es
 
-  -- the events are the journal of a value that is sound over some words
-  abbrev pub IsSoundJournal : List E → Type 0
-  IsSoundJournal es = (x : V) × (over : List ℕ) × K.sound over x × (K.journal x ≡ es)
+  -- The events are the journal of a value that is sound over some words.
+  pub record IsSoundJournal (es : List E) : Type 0 where
+    pub value : V
+    pub words : List ℕ
+    pub sound : K.sound words value
+    pub journal : K.journal value ≡ es
 
   -- a fill that the seat had when it took the turn goes on with its bytes, and a new one has none
   abbrev pub bytes_on : Task → ℕ → List ℕ → List ℕ

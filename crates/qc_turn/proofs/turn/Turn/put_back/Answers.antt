@@ -37,7 +37,7 @@ returns g c =
     let t : c.store.new.seat.me ≡ (after_release g.V.Kept v x (words_of v.holding), []) = c.store.ensures.2 x (ap (λ m. m.1) e) ∙ ap (λ (m : Me (Option g.row.V.Denot) (View g.row.V.Denot g.row.V-Event.Denot)). (after_release g.V.Kept m.0 x (words_of m.0.holding), [])) e in
     let listed = listed_for v.number (g.V.Kept.tasks x) in
     let same : released_task v.word_set (task_in listed) ≡ c.args.task = end_is v.number v.word_set c.args.task c.args.ranges.blocks listed c.requires.task.0 c.requires.task.1 in
-    record { seated = record { table = c.store.ensures.0 ∙ (c.exchange-out.ensures.0 ∙ c.requires.turn.0); out = ap (λ m. m.1) t; free = ap (λ m. m.0.holding) t; ranges = subst (λ (p : Task × List Block). HasBlocks p.0 p.1 c.args.ranges.blocks) (λ i. (sym (ap (λ m. m.0.task) t ∙ same) i, sym (ap (λ m. m.0.blocks) t ∙ ap (λ u. released_blocks u (blocks_in listed)) same) i)) (hand_is v.number c.args.task c.args.ranges.blocks listed c.requires.task.0); was_sound = (x, words_of v.holding, c.requires.sound, sym (ap (λ m. m.0.seen) t)) }; view = ap (λ m. m.0) t; ranges = refl }
+    record { seated = record { table = c.store.ensures.0 ∙ (c.exchange-out.ensures.0 ∙ c.requires.turn.0); out = ap (λ m. m.1) t; free = ap (λ m. m.0.holding) t; ranges = subst (λ (p : Task × List Block). HasBlocks p.0 p.1 c.args.ranges.blocks) (λ i. (sym (ap (λ m. m.0.task) t ∙ same) i, sym (ap (λ m. m.0.blocks) t ∙ ap (λ u. released_blocks u (blocks_in listed)) same) i)) (hand_is v.number c.args.task c.args.ranges.blocks listed c.requires.task.0); was_sound = record { value = x; words = words_of v.holding; sound = c.requires.sound; journal = sym (ap (λ m. m.0.seen) t) } }; view = ap (λ m. m.0) t; ranges = refl }
 
 pub invariant_of-seat : goal.invariant_of-seat
 invariant_of-seat g c =
