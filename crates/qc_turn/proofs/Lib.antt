@@ -1,3 +1,4 @@
 pub mod Tasks
 pub mod RuleKept
 pub mod Holders
+pub mod Pieces

@@ -155,16 +155,16 @@ pub misses_back : (k : ℕ) (xs ys : List ℕ) → Misses k (xs ++ ys) → Misse
 misses_back k [] ys m = m
 misses_back k (x ∷ xs) ys m = misses_back k xs ys m.1
 
-length-low : (n w : ℕ) → length (low_bytes n w) ≡ n
+pub length-low : (n w : ℕ) → length (low_bytes n w) ≡ n
 length-low zero w = refl
 length-low (suc n) w = ap suc (length-low n (w / 256))
 
-take_past : (n : ℕ) (a b : List ℕ) → n ≤ length a → take n (a ++ b) ≡ take n a
+pub take_past : (n : ℕ) (a b : List ℕ) → n ≤ length a → take n (a ++ b) ≡ take n a
 take_past zero a b h = refl
 take_past (suc n) [] b h = absurd (omega arith)
 take_past (suc n) (x ∷ a) b h = ap (λ l. x ∷ l) (take_past n a b (omega arith))
 
-take_over : (a b : List ℕ) (n : ℕ) → take (length a + n) (a ++ b) ≡ a ++ take n b
+pub take_over : (a b : List ℕ) (n : ℕ) → take (length a + n) (a ++ b) ≡ a ++ take n b
 take_over [] b n = let e : 0 + n ≡ n = omega arith in ap (λ k. take k b) e
 take_over (x ∷ a) b n = let e : suc (length a) + n ≡ suc (length a + n) = omega arith in ap (λ k. take k (x ∷ (a ++ b))) e ∙ ap (λ l. x ∷ l) (take_over a b n)
 
@@ -190,7 +190,7 @@ stored_bytes ws (j ∷ is) (suc i) k x count d h at inside low high =
     let ih = stored_bytes ws is i k x (count - 8) d.1 (omega arith) at inside (omega arith) (omega arith) in
     ap (λ y. take count (low_bytes 8 y ++ new)) stays ∙ (ap (λ n. take n (first ++ new)) more ∙ (take_over first new (count - 8) ∙ (ap (λ l. first ++ l) ih ∙ (sym (append_assoc first (take (8 * i) old) (take (count - 8 - 8 * i) (low_bytes 8 x))) ∙ (λ z. (sym (take_over first old (8 * i)) ∙ ap (λ n. take n (first ++ old)) less) z ++ take (rest z) (low_bytes 8 x))))))
 
-take_again : (n : ℕ) (l : List ℕ) → take (length (take n l)) l ≡ take n l
+pub take_again : (n : ℕ) (l : List ℕ) → take (length (take n l)) l ≡ take n l
 take_again zero l = refl
 take_again (suc n) [] = refl
 take_again (suc n) (x ∷ l) = ap (λ y. x ∷ y) (take_again n l)
@@ -198,7 +198,7 @@ take_again (suc n) (x ∷ l) = ap (λ y. x ∷ y) (take_again n l)
 pub is_front : (n : ℕ) (y l : List ℕ) → y ≡ take n l → y ≡ take (length y) l
 is_front n y l e = e ∙ (sym (take_again n l) ∙ ap (λ z. take (length z) l) (sym e))
 
-take_less : (n m : ℕ) (l : List ℕ) → n ≤ m → take n (take m l) ≡ take n l
+pub take_less : (n m : ℕ) (l : List ℕ) → n ≤ m → take n (take m l) ≡ take n l
 take_less zero m l h = refl
 take_less (suc n) zero l h = absurd (omega arith)
 take_less (suc n) (suc m) [] h = refl

@@ -13,3 +13,7 @@ bytes_of (w ∷ ws) = low_bytes 8 w ++ bytes_of ws
 -- the bytes of a fill after its word at this index was stored: those in front of the word stay, and there are count in all
 abbrev pub filled : List ℕ → ℕ → ℕ → ℕ → List ℕ
 filled bytes index value count = take (8 * index) bytes ++ take (count - 8 * index) (low_bytes 8 value)
+
+-- the bytes of a fill after words from this index on were stored: those in front of them stay, and there are count in all
+abbrev pub filled_piece : List ℕ → ℕ → List ℕ → ℕ → List ℕ
+filled_piece bytes index values count = take (8 * index) bytes ++ take (count - 8 * index) (bytes_of values)

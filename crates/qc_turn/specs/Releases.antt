@@ -1,5 +1,5 @@
 -- What a value has to be at the start, at a release and at the end.
-use Rattle.std.specs.Prelude.{◌≡◌, ◌≢◌, ◌⊎◌, ℕ, ◌+◌, ◌*◌, ◌<◌, ◌≤◌, false, Some, List, [], length, replicate}
+use Rattle.std.specs.Prelude.{◌≡◌, ◌≢◌, ◌⊎◌, ℕ, ◌+◌, ◌*◌, ◌<◌, ◌≤◌, false, Some, List, [], length, replicate, take}
 use mathlib.Core.Option.{some}
 use lib.ListN.{get_elem?}
 use Rattle.qc_turn.specs.declared.kept.Kept.{Ghosts}
@@ -9,7 +9,7 @@ use Rattle.qc_turn.specs.declared.view.Holding.{Holding}
 use Rattle.qc_turn.specs.declared.view.Holding.TheVariants.{Free, Holds}
 use Rattle.qc_turn.specs.declared.task.Task.TheVariants.{Fill}
 use Rattle.qc_turn.specs.Blocks.{places, Misses}
-use Rattle.qc_turn.specs.Bytes.{filled}
+use Rattle.qc_turn.specs.Bytes.{filled, filled_piece}
 use Rattle.qc_turn.specs.Rules.{ContentRule}
 use Rattle.qc_turn.specs.Tasks.{listed_for, places_of, FoundIdle, IsEnded, task_in, blocks_in, is_stream, IsListed, KeepsListed, released_task, released_blocks}
 use Rattle.qc_turn.specs.Views.{of_seat, after_release}
@@ -56,6 +56,21 @@ module _ {V E : Type 0} (K : Ghosts V E) where
     pub low : 8 * i ≤ count
     pub high : count ≤ 8 * i + 8
     pub fits : K.fits v.seen serial (filled v.content i x count)
+
+  -- The seat may store these values one after another from the index i of its fill on, which then has count bytes.
+  pub record MayFillPiece (v : View V E) (i : ℕ) (values : List ℕ) (count : ℕ) : Type 0 where
+    pub serial : ℕ
+    pub task : v.task ≡ Fill serial
+    pub some : 0 < length values
+    -- each value has a word of the fill
+    pub inside : i + length values ≤ length (places v.blocks)
+    -- the bytes so far reach the first of these words
+    pub reached : 8 * i ≤ length v.content
+    -- the bytes end in the last of these words
+    pub low : 8 * (i + length values) ≤ count + 8
+    pub high : count ≤ 8 * (i + length values)
+    -- so do those that are there after each store
+    pub fits : (n : ℕ) → 8 * i ≤ n → K.fits v.seen serial (take n (filled_piece v.content i values count))
 
   -- What the first seat, whose view is v, knows of the last value.
   pub record ClosesWith (v : View V E) (x : V) : Type 0 where

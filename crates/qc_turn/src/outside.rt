@@ -1,6 +1,6 @@
 //! What a seat does outside the turn: it streams or fills the words of its blocks.
 
-ghost use Rattle.std.specs.Prelude.{◌≡◌, ℕ, ◌+◌, ◌<◌, ◌≤◌, ◌^◌, length, slice_index};
+ghost use Rattle.std.specs.Prelude.{◌≡◌, ℕ, ◌+◌, ◌*◌, ◌<◌, ◌≤◌, ◌^◌, length, min, slice_index};
 ghost use Rattle.qc_turn.specs.Blocks.{places};
 
 use crate::kept::Kept;
@@ -29,8 +29,8 @@ fn next_run(ranges: &Ranges, run: Run, index: u32) -> Run
 
 impl<V: Kept> Seat<V> {
     ghost use Rattle.qc_turn.specs.declared.task.Task.TheVariants.{Stream};
-    ghost use Rattle.qc_turn.specs.Bytes.{filled};
-    ghost use Rattle.qc_turn.specs.Releases.{MayFill};
+    ghost use Rattle.qc_turn.specs.Bytes.{filled, filled_piece};
+    ghost use Rattle.qc_turn.specs.Releases.{MayFill, MayFillPiece};
     ghost use Rattle.qc_turn.specs.Seats.{view, IsSeatOf};
     ghost use Rattle.qc_turn.specs.Views.{with_content, after_stream};
 
@@ -106,20 +106,51 @@ impl<V: Kept> Seat<V> {
         ensures view { view self.new ≡ with_content (view self.old) (filled (view self.old).content index value bytes) }
         ensures ranges { self.new.ranges ≡ self.old.ranges }
     {
-        self.store_word_filled::<Brand>(turn, index, value, bytes);
+        let word = self.ranges.word(index);
+        self.store_place::<Brand>(turn, word, index, value, bytes);
     }
 
-    fn store_word_filled<N: Filling>(&mut self, turn: &Turn<V>, index: u32, value: u64, bytes: u32)
+    /// Stores these values into the words of the fill from this index on, the first one first. The fill then has so many bytes: those in front of these
+    /// words, and then the first ones of the values. It reaches the first of these words already, and each beginning of its bytes that reaches so far
+    /// has to fit by the journal that the seat has seen. Each word is a store of its own, and each run of words that stand together is found once.
+    pub fn store_piece(&mut self, turn: &Turn<V>, index: u32, values: &[u64], bytes: u32)
         requires seated { IsSeatOf turn.now self.old }
-        requires filling { MayFill V.Kept (view self.old) index value bytes }
-        requires picks { (N.index ≡ index) × (N.count ≡ bytes) }
+        requires filling { MayFillPiece V.Kept (view self.old) index values.now bytes }
         ensures seated { IsSeatOf turn.now self.new }
-        ensures view { view self.new ≡ with_content (view self.old) (filled (view self.old).content index value bytes) }
+        ensures view { view self.new ≡ with_content (view self.old) (filled_piece (view self.old).content index values.now bytes) }
         ensures ranges { self.new.ranges ≡ self.old.ranges }
     {
-        let word = self.ranges.word(index);
+        let words = self.ranges.words();
+        prove!(index as usize + values.len() <= words as usize);
+        let mut run = Run { first: 0, words: 0 };
+        for at in 0..values.len() {
+            let word = index + at as u32;
+            run = next_run(&self.ranges, run, word);
+            self.store_place::<Brand>(turn, run.first, word, values[at], bytes);
+            run.first += 1;
+            run.words -= 1;
+        }
+    }
+
+    /// Stores a word of the region, which the fill has at this index. The fill then has so many bytes, but no more than up to the end of the word.
+    fn store_place<N: Filling>(
+        &mut self,
+        turn: &Turn<V>,
+        place: u32,
+        index: u32,
+        value: u64,
+        bytes: u32,
+    )
+        requires seated { IsSeatOf turn.now self.old }
+        requires filling { MayFill V.Kept (view self.old) index value (min (8 * index + 8) bytes) }
+        requires place { slice_index (places (view self.old).blocks) index ≡ place }
+        requires picks { (N.index ≡ index) × (N.count ≡ min (8 * index + 8) bytes) }
+        ensures seated { IsSeatOf turn.now self.new }
+        ensures view { view self.new ≡ with_content (view self.old) (filled (view self.old).content index value (min (8 * index + 8) bytes)) }
+        ensures ranges { self.new.ranges ≡ self.old.ranges }
+    {
         turn.table
             .shared
-            .store::<StoresFilled<N>>(&mut self.pass, word as usize + 1, value);
+            .store::<StoresFilled<N>>(&mut self.pass, place as usize + 1, value);
     }
 }

@@ -1,4 +1,5 @@
+use Rattle.std.specs.Prelude.{◌+◌, ◌*◌, min}
 use Rattle.qc_turn.proofs.seat.Seat.store_filled.Given as goal
 
-abbrev pub ghosts-store_word_filled : goal.ghosts-store_word_filled
-ghosts-store_word_filled g a = record { index = a.index; count = a.bytes }
+abbrev pub ghosts-store_place : goal.ghosts-store_place
+ghosts-store_place g a = record { index = a.index; count = min (8 * a.index + 8) a.bytes }
