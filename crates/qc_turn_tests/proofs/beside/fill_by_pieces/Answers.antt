@@ -6,8 +6,8 @@ use Rattle.qc_turn.specs.Views.{after_split, first_seat}
 use Rattle.qc_turn_tests.specs.Strips.{strip, span}
 use Rattle.qc_turn_tests.proofs.beside.fill_by_pieces.Goals as goal
 
-pub fill_and_read-requires-clause-first : goal.fill_and_read-requires-clause-first
-fill_and_read-requires-clause-first g c =
+pub fill_and_read-read-requires-clause-first : goal.fill_and_read-read-requires-clause-first
+fill_and_read-read-requires-clause-first g c =
     let made : view c.in_ok-turn.first ≡ first_seat 192 [] = search rules in
     let s = c.with_room.ensures.seated in
     let same = s.1 ∙ (c.in-Ok.ensures.ok.0 ∙ ap after_split made) in
