@@ -4,7 +4,7 @@ use Rattle.std.proofs.Common.{subst, sym, ap, ◌∙◌, arith, inl, inr, ⊎_el
 use mathlib.Core.Logic.{dite}
 use native.Mathlib.Decide.{ℕ_discrete}
 use Rattle.qc_turn.specs.Blocks.{places, counted, Misses, IsDistinct}
-use Rattle.qc_turn.specs.Bytes.{filled, low_bytes}
+use Rattle.qc_turn.specs.Bytes.{filled, filled_piece, bytes_of, low_bytes}
 use Rattle.qc_turn.specs.Tasks.{places_of, fill_places, listed_for, own}
 use Rattle.qc_tiles.specs.declared.blocks.Block.{Block}
 use Rattle.qc_turn.specs.declared.task.ListedTask.{ListedTask}
@@ -96,6 +96,18 @@ length_filled content i x h =
     let c = length-take (i * 8 + 8 - 8 * i) (low_bytes 8 x) in
     let d = length_low 8 x in
     omega (arith, a, b, c, d, h)
+
+length_bytes : (ws : List ℕ) → length (bytes_of ws) ≡ 8 * length ws
+length_bytes [] = refl
+length_bytes (w ∷ ws) = let a = length-append (low_bytes 8 w) (bytes_of ws) in let b = length_low 8 w in let c = length_bytes ws in omega (arith, a, b, c)
+
+pub length_pieced : (content values : List ℕ) (at : ℕ) → length content ≡ 512 * at → length values ≡ 64 → length (filled_piece content (at * 64) values (at * 512 + 512)) ≡ 512 * (at + 1)
+length_pieced content values at h v =
+    let a = length-append (take (8 * (at * 64)) content) (take (at * 512 + 512 - 8 * (at * 64)) (bytes_of values)) in
+    let b = length-take (8 * (at * 64)) content in
+    let c = length-take (at * 512 + 512 - 8 * (at * 64)) (bytes_of values) in
+    let d = length_bytes values in
+    omega (arith, a, b, c, d, h, v)
 
 -- nothing is listed where the task is none
 pub rests_clear : (m k s : ℕ) (t : Task) (bs : List Block) → t ≡ Rest → Misses k (places_of (listed_for m (own s t bs)))

@@ -4,10 +4,12 @@ ghost use Rattle.std.specs.Prelude.{◌≡◌, ◌≤◌, length};
 ghost use Rattle.qc_turn.specs.Blocks.{places};
 ghost use Rattle.qc_turn.specs.Seats.{IsSeatOf, view};
 ghost use Rattle.qc_turn.specs.declared.task.Task.TheVariants.{Rest, Stream};
+ghost use Rattle.qc_turn_tests.specs.Strips.{span};
 
 use crate::strip::Strip;
 use crate::strip_tasks::{
-    begin_fill, begin_stream, end_fill, fill_words, store_behind, sum_streamed,
+    begin_fill, begin_stream, end_fill, fill_pieces, fill_words, is_numbered, store_behind,
+    sum_streamed,
 };
 use qc_turn::{Seat, Task, Turn};
 use qc_types::NoMemory;
@@ -98,6 +100,60 @@ pub fn fill_beside<R: Wait>(rt: &R, alloc: Global, value: u64) -> Result<bool, N
     first.meet(&turn, second);
     let _strip = turn.close(first);
     Ok(filled)
+}
+
+/// The first seat fills the strip in pieces while the second one has the turn, and then streams it. Whether each word came back.
+fn fill_and_read<R: Wait>(
+    rt: &R,
+    alloc: Global,
+    turn: &Turn<Strip>,
+    first: &mut Seat<Strip>,
+    second: &mut Seat<Strip>,
+    unit: u32,
+    count: u32,
+) -> bool
+    requires strip { span unit count ≡ 192 }
+    requires first { IsSeatOf turn.now first.old × ((view first.old).task ≡ Rest) × ((view first.old).number ≤ 65) }
+    requires second { IsSeatOf turn.now second.old × ((view second.old).task ≡ Rest) }
+    ensures first { IsSeatOf turn.now first.new × ((view first.new).task ≡ Rest) × ((view first.new).number ≡ (view first.old).number) × ((view first.new).registry ≡ (view first.old).registry) }
+    ensures second { IsSeatOf turn.now second.new × ((view second.new).task ≡ Rest) × ((view second.new).number ≡ (view second.old).number) }
+{
+    if !begin_fill(rt, alloc, turn, first, unit, count) {
+        return false;
+    }
+    let mut piece = [0u64; 64];
+    let held = turn.take(rt, second);
+    fill_pieces(turn, first, 3, &mut piece);
+    held.release(Task::Rest);
+    end_fill(rt, turn, first);
+    if !begin_stream(rt, alloc, turn, first, unit, count) {
+        return false;
+    }
+    let numbered = is_numbered(turn, first, 192);
+    first.clear_stream(turn);
+    numbered
+}
+
+/// A seat fills 192 words of a strip in pieces of 64 while another one has the turn, and reads them by a stream. False where a word isn't the one that
+/// was stored, or memory lacks for the blocks.
+pub fn fill_by_pieces<R: Wait>(
+    rt: &R,
+    alloc: Global,
+    unit: u32,
+    count: u32,
+) -> Result<bool, NoMemory>
+    requires strip { span unit count ≡ 192 }
+{
+    let (turn, mut first) = Turn::new(alloc, Strip::new(unit, count), 192)?;
+    let Ok(mut second) = first.split(alloc, &turn) else {
+        let _strip = turn.close(first);
+        return Err(NoMemory);
+    };
+    let room = first.with_room(alloc, count).is_ok();
+    let read = room && fill_and_read(rt, alloc, &turn, &mut first, &mut second, unit, count);
+    first.meet(&turn, second);
+    let _strip = turn.close(first);
+    Ok(read)
 }
 
 /// A seat ends its stream while another one has the turn. Whether the other one sees the stream before, and after.

@@ -172,3 +172,40 @@ pub fn fill_words(turn: &Turn<Strip>, seat: &mut Seat<Strip>, words: u32, value:
         seat.store_filled(turn, index, value, index * 8 + 8);
     }
 }
+
+/// Stores into each of the first `64 * pieces` words of a fill that has no bytes the number of the word, 64 words at a time.
+pub fn fill_pieces(turn: &Turn<Strip>, seat: &mut Seat<Strip>, pieces: u32, piece: &mut [u64])
+    requires seated { IsSeatOf turn.now seat.old × ((view seat.old).task ≡ Fill 1) }
+    requires inside { (64 * pieces ≤ length (places (view seat.old).blocks)) × (pieces < 131073) × ((view seat.old).content ≡ []) }
+    requires piece { length piece.old ≡ 64 }
+    ensures seated { IsSeatOf turn.now seat.new × ((view seat.new).task ≡ Fill 1) }
+    ensures same { ((view seat.new).number ≡ (view seat.old).number) × ((view seat.new).registry ≡ (view seat.old).registry) }
+{
+    for at in 0..pieces {
+        number_words(piece, u64::from(at * 64));
+        seat.store_piece(turn, at * 64, piece, at * 512 + 512);
+    }
+}
+
+/// Numbers the words of a piece from this one on.
+fn number_words(piece: &mut [u64], first: u64)
+    ensures { length piece.new ≡ length piece.old }
+{
+    for at in 0..piece.len() {
+        piece[at] = first.wrapping_add(at as u64);
+    }
+}
+
+/// Whether each of the first `words` words of a stream is its own number.
+pub fn is_numbered(turn: &Turn<Strip>, seat: &mut Seat<Strip>, words: u32) -> bool
+    requires { IsSeatOf turn.now seat.old × ((view seat.old).task ≡ Stream 1) × (words ≤ length (places (view seat.old).blocks)) }
+    ensures { IsSeatOf turn.now seat.new × (view seat.new ≡ view seat.old) }
+{
+    let mut numbered = true;
+    for index in 0..words {
+        if seat.load_streamed(turn, index) != u64::from(index) {
+            numbered = false;
+        }
+    }
+    numbered
+}

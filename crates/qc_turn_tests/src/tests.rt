@@ -1,5 +1,5 @@
 use crate::add::three;
-use crate::beside::{end_beside, fill_beside, stream_beside};
+use crate::beside::{end_beside, fill_beside, fill_by_pieces, stream_beside};
 use crate::shares::add_shared;
 use std::test::Fail;
 
@@ -44,6 +44,15 @@ fn a_stream_reads_beside_stores(rt: HostRuntime) -> Result<(), Fail> {
 #[test]
 fn a_fill_stores_while_the_turn_is_held(rt: HostRuntime) -> Result<(), Fail> {
     assert!(rt; fill_beside(&rt, rt.alloc(), 9)?);
+    Ok(())
+}
+
+#[test]
+fn a_fill_by_pieces_is_read_back(rt: HostRuntime) -> Result<(), Fail> {
+    assert!(rt; fill_by_pieces(&rt, rt.alloc(), 1, 192)?);
+    assert!(rt; fill_by_pieces(&rt, rt.alloc(), 12, 16)?);
+    assert!(rt; fill_by_pieces(&rt, rt.alloc(), 48, 4)?);
+    assert!(rt; fill_by_pieces(&rt, rt.alloc(), 192, 1)?);
     Ok(())
 }
 
