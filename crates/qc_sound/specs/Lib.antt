@@ -1,0 +1,12 @@
+pub mod Ended
+pub mod Events
+pub mod PlainServer
+pub mod Moment
+pub mod Pending
+pub mod parts
+pub mod Sound
+pub mod NewServer
+pub mod Laws
+pub mod Room
+pub mod steps
+pub mod Handed

@@ -1,0 +1,5 @@
+pub mod Journal
+pub mod Directory
+pub mod Memory
+pub mod Contents
+pub mod Tasks

@@ -1,0 +1,10 @@
+pub mod Events
+pub mod Listing
+pub mod Leaving
+pub mod Hits
+pub mod Ending
+pub mod Holding
+pub mod Starts
+pub mod Growing
+pub mod Done
+pub mod Moving
