@@ -1,6 +1,6 @@
 //! The directory, with indexes that spare it walks.
 
-ghost use Rattle.std.specs.Prelude.{◌≡◌, ◌≢◌, ℕ, ◌+◌, ◌-◌, ◌*◌, ◌/◌, ◌<◌, ◌≤◌, ◌^◌, [], ◌∷◌, true, false, length, map, Some, None, IfOk, IsSome, IsSomeAnd, MatchOption, IsPermutation};
+ghost use Rattle.std.specs.Prelude.{◌≡◌, ◌≢◌, ℕ, ◌+◌, ◌-◌, ◌*◌, ◌/◌, ◌<◌, ◌≤◌, ◌^◌, [], ◌∷◌, true, false, length, map, Some, None, IfOk, IsSome, IfSome, IsSomeAnd, MatchOption, IsPermutation};
 ghost use Rattle.std.specs.List.{list_any, AllByRecursion};
 ghost use Rattle.std.specs.Option.{option_copied};
 ghost use Rattle.qc_index.specs.declared.keys.Key.{Key};
@@ -90,6 +90,25 @@ impl Dir {
         ensures valid { IsDirectory self.now }
     {
         self.hashes.under(hash)
+    }
+
+    /// The least serial, from one on, of the entries under a hash. None exactly where there is none.
+    pub fn candidate_from(&self, hash: u64, from: u64) -> Option<u64>
+        ensures some { IfSome result (λ n. (from ≤ n) × IsSomeAnd (entry_at n self.now.entries) (λ e. e.hash ≡ hash)) }
+        ensures least { (n : ℕ) → from ≤ n → IsSomeAnd (entry_at n self.now.entries) (λ e. e.hash ≡ hash) → IsSomeAnd result (λ k. k ≤ n) }
+        ensures valid { IsDirectory self.now }
+    {
+        let Some(key) = self.hashes.first_from(Key {
+            major: hash,
+            minor: from,
+        })
+        else {
+            return None;
+        };
+        if key.major != hash {
+            return None;
+        }
+        Some(key.minor)
     }
 
     /// The entry with a serial, borrowed, if any.
