@@ -4,7 +4,7 @@ ghost use Rattle.std.specs.Prelude.{◌≡◌, ◌≢◌, ℕ, ◌+◌, ◌-◌,
 ghost use Rattle.std.specs.List.{list_any, AllByRecursion};
 ghost use Rattle.std.specs.Option.{option_copied};
 ghost use Rattle.qc_index.specs.declared.keys.Key.{Key};
-ghost use Rattle.qc_dir.specs.Directory.{IsDirectory, entry_at, serials_under, block_of, names_table, oldest_idle, AreFresh, AddsEntry, after_touch, after_complete, after_enter, after_leave, with_entries, RemovesEntry, after_shift, moved_entry};
+ghost use Rattle.qc_dir.specs.Directory.{IsDirectory, entry_at, serials_under, block_of, names_table, oldest_idle, incomplete, AreFresh, AddsEntry, after_touch, after_complete, after_enter, after_leave, with_entries, RemovesEntry, after_shift, moved_entry};
 ghost use Rattle.qc_types.specs.declared.names.TableName.{TableName};
 ghost use Rattle.qc_dir.specs.Keys.{times};
 ghost use Rattle.qc_dir.specs.Slots.{number_of};
@@ -82,6 +82,22 @@ impl Dir {
         ensures valid { IsDirectory self.now }
     {
         self.tables.room()
+    }
+
+    /// How many entries there are. Constant time.
+    pub fn len(&self) -> u32
+        ensures len { result ≡ length self.now.entries }
+        ensures valid { IsDirectory self.now }
+    {
+        self.entries.len()
+    }
+
+    /// How many entries aren't complete. Constant time.
+    pub fn incomplete(&self) -> u32
+        ensures count { result ≡ incomplete self.now.entries }
+        ensures valid { IsDirectory self.now }
+    {
+        self.entries.incomplete()
     }
 
     /// The serials of the entries under a hash, each once, in any order.
