@@ -7,6 +7,7 @@ pub mod KeyCounts
 pub mod Names
 pub mod Places
 pub mod Removals
+pub mod Serials
 pub mod SlotCalls
 pub mod SlotSteps
 pub mod Stamps

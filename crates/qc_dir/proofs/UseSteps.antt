@@ -1,6 +1,6 @@
 -- What the lists of entries, of serials and of idle entries say of each other, when one entry is taken out or put in.
-use Rattle.std.proofs.Common.{◌≡◌, ◌≢◌, ℕ, ◌+◌, ◌-◌, ◌<◌, ◌≤◌, Bool, true, false, not, ◌&&◌, List, [], ◌∷◌, refl, sym, ap, ◌∙◌, subst, Option, Some, None, arith}
-use Rattle.std.specs.List.{AllByRecursion}
+use Rattle.std.proofs.Common.{◌≡◌, ◌≢◌, ℕ, ◌+◌, ◌-◌, ◌<◌, ◌≤◌, Bool, true, false, not, cond, length, ◌&&◌, List, [], ◌∷◌, refl, sym, ap, ◌∙◌, subst, Option, Some, None, arith}
+use Rattle.std.specs.List.{AllByRecursion, filter}
 use Rattle.std.specs.Option.{IsSome}
 use Rattle.std.proofs.lemmas.Option.{same_Some}
 use Rattle.std.proofs.lemmas.Bool.Decides.{nat_tests}
@@ -10,7 +10,7 @@ use Rattle.qc_index.specs.Ordered.{inserted, first_from, without_first_from}
 use Rattle.qc_dir.specs.declared.entries.Entry.{Entry}
 use Rattle.qc_dir.specs.Directory.{has_serial, entry_at, is_idle}
 use Rattle.qc_dir.specs.Keys.{Keys, total, bit, same_key, times, IsLeastFrom}
-use Rattle.qc_dir.specs.Uses.{Use, stamp_key, use_at, IsUses, serial_key, use_key, with_serial}
+use Rattle.qc_dir.specs.Uses.{Use, stamp_key, use_at, IsUses, IsCounted, serial_key, use_key, with_serial}
 use Rattle.qc_dir.proofs.KeyCounts.{same_itself}
 use Rattle.qc_dir.proofs.Stamps.{values, total-inserted, total-without, rising-without, rising-inserted, at_stamp, length-without, length-inserted, there_counts, none_counts}
 
@@ -141,3 +141,39 @@ uses-inserted xs room serials idle serials' idle' s e holds some none new by_ser
           | true ↦ λ h. let same : e.serial ≡ n = grind (arith, nat_tests) in omega (arith, total-inserted (λ x. bit (has_serial n x.value)) (use_at s e) xs, rw same at (none_counts e.serial xs none), at_most (has_serial n e))
           | false ↦ λ h. omega (arith, rw h at (total-inserted (λ x. bit (has_serial n x.value)) (use_at s e) xs), holds.used.once n)
         ] refl
+
+-- ---- how many there are
+
+pub counted-without : (s : ℕ) (xs : List Use) (m : Use) (count missing : ℕ) → first_from (stamp_key s) xs ≡ Some m → IsCounted xs count missing
+    → (1 ≤ count) × (bit (not m.value.complete) ≤ missing) × IsCounted (without_first_from (stamp_key s) xs) (count - 1) (missing - bit (not m.value.complete))
+counted-without s xs m count missing first h =
+    let all = length-without (stamp_key s) xs m first in
+    let some = total-without (λ x. bit (not x.value.complete)) (stamp_key s) xs m first in
+    (omega (arith, h.all, all), omega (arith, h.missing, some), record { all = omega (arith, h.all, all); missing = omega (arith, h.missing, some) })
+
+pub counted-inserted : (s : ℕ) (e : Entry) (xs : List Use) (count missing : ℕ) → IsCounted xs count missing → IsCounted (inserted (use_at s e) xs) (count + 1) (missing + bit (not e.complete))
+counted-inserted s e xs count missing h = record {
+  all = omega (arith, h.all, length-inserted (use_at s e) xs);
+  missing = omega (arith, h.missing, total-inserted (λ x. bit (not x.value.complete)) (use_at s e) xs);
+}
+
+pub missing-few : (xs : List Use) → total (λ m. bit (not m.value.complete)) xs ≤ length xs
+missing-few [] = omega arith
+missing-few (x ∷ xs) = omega (arith, missing-few xs, at_most x.value.complete)
+  where
+    at_most : (b : Bool) → bit (not b) ≤ 1
+    at_most true = omega arith
+    at_most false = omega arith
+
+pub missing-is : (xs : List Use) → length (filter (λ e. not e.complete) (values xs)) ≡ total (λ m. bit (not m.value.complete)) xs
+missing-is [] = refl
+missing-is (x ∷ xs) =
+    let rest = missing-is xs in
+    elim x.value.complete as (λ b. length (cond (not b) (x.value ∷ filter (λ e. not e.complete) (values xs)) (filter (λ e. not e.complete) (values xs))) ≡ bit (not b) + total (λ m. bit (not m.value.complete)) xs) [
+      | true ↦ omega (arith, rest)
+      | false ↦ omega (arith, rest)
+    ]
+
+pub at_most_one : (b : Bool) → bit b ≤ 1
+at_most_one true = omega arith
+at_most_one false = omega arith

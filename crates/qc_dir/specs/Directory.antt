@@ -50,6 +50,10 @@ is_idle e = e.complete && e.users == 0
 abbrev pub oldest_idle : List Entry → Option ℕ
 oldest_idle entries = option_map (λ e. e.serial) (find is_idle entries)
 
+-- how many are not complete
+abbrev pub incomplete : List Entry → ℕ
+incomplete entries = length (filter (λ e. not e.complete) entries)
+
 -- ---- what stays true
 
 -- no two members pass as the same

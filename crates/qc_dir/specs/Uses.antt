@@ -61,6 +61,11 @@ pub record IsUses (members : List Use) (room : ℕ) (serials idle : Keys) : Type
   pub idle_room : idle.room ≡ room + total (λ m. bit (not (is_idle m.value))) members
   pub few : room + length members < 2 ^ 32
 
+-- so many entries there are, and so many of them are not complete
+pub record IsCounted (members : List Use) (count incomplete : ℕ) : Type 0 where
+  pub all : count ≡ length members
+  pub missing : incomplete ≡ total (λ m. bit (not m.value.complete)) members
+
 -- so many entries have a stamp below
 abbrev pub stamps_below : ℕ → List Use → ℕ
 stamps_below s members = total (λ m. bit (nat_lt m.key.major s)) members

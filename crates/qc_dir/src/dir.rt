@@ -1,10 +1,10 @@
 //! The directory, with indexes that spare it walks.
 
-ghost use Rattle.std.specs.Prelude.{◌≡◌, ◌≢◌, ℕ, ◌+◌, ◌-◌, ◌*◌, ◌/◌, ◌<◌, ◌≤◌, ◌^◌, [], ◌∷◌, true, false, length, map, Some, None, IfOk, IsSome, IsSomeAnd, MatchOption, IsPermutation};
+ghost use Rattle.std.specs.Prelude.{◌≡◌, ◌≢◌, ℕ, ◌+◌, ◌-◌, ◌*◌, ◌/◌, ◌<◌, ◌≤◌, ◌^◌, [], ◌∷◌, true, false, length, map, Some, None, IfOk, IsSome, IfSome, IsSomeAnd, MatchOption, IsPermutation};
 ghost use Rattle.std.specs.List.{list_any, AllByRecursion};
 ghost use Rattle.std.specs.Option.{option_copied};
 ghost use Rattle.qc_index.specs.declared.keys.Key.{Key};
-ghost use Rattle.qc_dir.specs.Directory.{IsDirectory, entry_at, serials_under, block_of, names_table, oldest_idle, AreFresh, AddsEntry, after_touch, after_complete, after_enter, after_leave, with_entries, RemovesEntry, after_shift, moved_entry};
+ghost use Rattle.qc_dir.specs.Directory.{IsDirectory, entry_at, serials_under, block_of, names_table, oldest_idle, incomplete, AreFresh, AddsEntry, after_touch, after_complete, after_enter, after_leave, with_entries, RemovesEntry, after_shift, moved_entry};
 ghost use Rattle.qc_types.specs.declared.names.TableName.{TableName};
 ghost use Rattle.qc_dir.specs.Keys.{times};
 ghost use Rattle.qc_dir.specs.Slots.{number_of};
@@ -84,12 +84,47 @@ impl Dir {
         self.tables.room()
     }
 
+    /// How many entries there are. Constant time.
+    pub fn len(&self) -> u32
+        ensures len { result ≡ length self.now.entries }
+        ensures valid { IsDirectory self.now }
+    {
+        self.entries.len()
+    }
+
+    /// How many entries aren't complete. Constant time.
+    pub fn incomplete(&self) -> u32
+        ensures count { result ≡ incomplete self.now.entries }
+        ensures valid { IsDirectory self.now }
+    {
+        self.entries.incomplete()
+    }
+
     /// The serials of the entries under a hash, each once, in any order.
     pub fn candidates(&self, hash: u64) -> Candidates<'_>
         ensures serials { IsPermutation result (serials_under hash self.now.entries) }
         ensures valid { IsDirectory self.now }
     {
         self.hashes.under(hash)
+    }
+
+    /// The least serial, from one on, of the entries under a hash. None exactly where there is none.
+    pub fn candidate_from(&self, hash: u64, from: u64) -> Option<u64>
+        ensures some { IfSome result (λ n. (from ≤ n) × IsSomeAnd (entry_at n self.now.entries) (λ e. e.hash ≡ hash)) }
+        ensures least { (n : ℕ) → from ≤ n → IsSomeAnd (entry_at n self.now.entries) (λ e. e.hash ≡ hash) → IsSomeAnd result (λ k. k ≤ n) }
+        ensures valid { IsDirectory self.now }
+    {
+        let Some(key) = self.hashes.first_from(Key {
+            major: hash,
+            minor: from,
+        })
+        else {
+            return None;
+        };
+        if key.major != hash {
+            return None;
+        }
+        Some(key.minor)
     }
 
     /// The entry with a serial, borrowed, if any.

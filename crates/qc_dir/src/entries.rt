@@ -1,7 +1,8 @@
 //! Entries.
 
-ghost use Rattle.std.specs.Prelude.{◌≡◌};
+ghost use Rattle.std.specs.Prelude.{◌≡◌, not};
 ghost use Rattle.qc_dir.specs.Directory.{is_idle};
+ghost use Rattle.qc_dir.specs.Keys.{bit};
 
 use crate::tables::TableBlocks;
 use qc_chain::ChainName;
@@ -37,6 +38,13 @@ impl Entry {
         ensures { result ≡ is_idle self.now }
     {
         self.complete && self.users == 0
+    }
+
+    /// 1 where it isn't complete, and 0 where it is.
+    pub(crate) fn missing(&self) -> u32
+        ensures { result ≡ bit (not self.now.complete) }
+    {
+        if self.complete { 0 } else { 1 }
     }
 }
 

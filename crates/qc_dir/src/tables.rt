@@ -72,7 +72,7 @@ impl TableBlocks {
     }
 
     /// Takes the last table out. None exactly where there is none.
-    pub(crate) fn pop(&mut self) -> Option<TableBlock>
+    pub fn pop(&mut self) -> Option<TableBlock>
         ensures { MatchOption result ((self.old ≡ []) × (self.new ≡ [])) (λ item. self.old ≡ self.new ++ item ∷ []) }
     {
         if self.count == 0 {

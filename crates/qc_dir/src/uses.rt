@@ -4,7 +4,7 @@ ghost use Rattle.std.specs.Prelude.{◌≡◌, ◌≢◌, ℕ, ◌+◌, ◌-◌,
 ghost use Rattle.std.specs.List.{AllByRecursion};
 ghost use Rattle.std.specs.Option.{option_copied, option_map};
 ghost use Rattle.qc_index.specs.Ordered.{inserted, first_from, without_first_from, last_of};
-ghost use Rattle.qc_dir.specs.Directory.{entry_at, oldest_idle, without, changed, after_touch, after_complete, after_enter, after_leave};
+ghost use Rattle.qc_dir.specs.Directory.{entry_at, oldest_idle, incomplete, without, changed, after_touch, after_complete, after_enter, after_leave};
 ghost use Rattle.qc_dir.specs.Uses.{entries_of, stamp_key, use_at, placed_text, IsUsed, IsTaken, IsPut, stamps_below};
 
 use crate::entries::Entry;
@@ -29,17 +29,19 @@ pub(crate) struct Uses {
     serials: KeySet,
     idle: KeySet,
     room: u32,
+    count: u32,
+    incomplete: u32,
 }
 
 impl Model for Uses {
     ghost use Rattle.std.specs.Prelude.{◌≡◌};
-    ghost use Rattle.qc_dir.specs.Uses.{Used, IsUses};
+    ghost use Rattle.qc_dir.specs.Uses.{Used, IsUses, IsCounted};
 
     ghost Value = { Used };
 
     ghost view = { λ u. record { members = u.entries.items; room = u.room } };
 
-    ghost invariant = { λ u. IsUses u.entries.items u.room u.serials u.idle × (u.entries.room ≡ u.room) };
+    ghost invariant = { λ u. IsUses u.entries.items u.room u.serials u.idle × (u.entries.room ≡ u.room) × IsCounted u.entries.items u.count u.incomplete };
 }
 
 impl Uses {
@@ -55,6 +57,8 @@ impl Uses {
             serials,
             idle,
             room,
+            count: 0,
+            incomplete: 0,
         })
     }
 
@@ -63,6 +67,20 @@ impl Uses {
         ensures { result ≡ self.now.room }
     {
         self.room
+    }
+
+    /// How many entries there are.
+    pub(crate) fn len(&self) -> u32
+        ensures { result ≡ length (entries_of self.now) }
+    {
+        self.count
+    }
+
+    /// How many entries aren't complete.
+    pub(crate) fn incomplete(&self) -> u32
+        ensures { result ≡ incomplete (entries_of self.now) }
+    {
+        self.incomplete
     }
 
     /// Takes an entry out.
@@ -93,6 +111,8 @@ impl Uses {
             },
         );
         self.room += 1;
+        self.count -= 1;
+        self.incomplete -= member.value.missing();
         member
     }
 
@@ -105,6 +125,8 @@ impl Uses {
     {
         self.serials.insert(entry.serial, stamp);
         self.idle.insert_if(entry.is_idle(), stamp, entry.serial);
+        self.count += 1;
+        self.incomplete += entry.missing();
         self.entries.insert(
             Key {
                 major: stamp,

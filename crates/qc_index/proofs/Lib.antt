@@ -1,5 +1,8 @@
+pub mod Counting
+pub mod Halves
+pub mod Linking
 pub mod Orders
-mod Halves
-mod TreeCuts
-mod TreeEdits
+pub mod TreeCuts
+pub mod TreeEdits
+pub mod Walks
 mod examples

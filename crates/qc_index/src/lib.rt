@@ -3,7 +3,9 @@
 
 mod index;
 mod keys;
+mod links;
 mod tree;
 
 pub use index::Index;
 pub use keys::{Blank, Key, Keyed};
+pub use links::{Lists, Walk};

@@ -5,7 +5,7 @@ use Rattle.qc_index.specs.Ordered.{first_from}
 use Rattle.qc_dir.specs.Directory.{entry_at}
 use Rattle.qc_dir.specs.Uses.{Used, IsUsed, entries_of, stamp_key}
 use Rattle.qc_dir.proofs.Stamps.{length-without}
-use Rattle.qc_dir.proofs.UseSteps.{found_serial, member_at, stands_at, idle_stands, taken}
+use Rattle.qc_dir.proofs.UseSteps.{found_serial, member_at, stands_at, idle_stands, taken, counted-without}
 use Rattle.qc_dir.proofs.uses.Uses.take_use.Goals as goal
 
 pub unreachable-requires : goal.unreachable-requires
@@ -44,6 +44,7 @@ invariant_of-self c =
           (taken c.args.serial entries.items c.self.inside.room c.self.inside.serials c.self.inside.idle c.remove.new.self c.remove_if.new.self c.in-Some.key c.in-Some-remove_from.member c.self.invariant.0 at
           c.remove.ensures.keys c.remove.ensures.room (rw c.is_idle.ensures at c.remove_if.ensures.keys) (rw c.is_idle.ensures at c.remove_if.ensures.room)),
       omega (arith, room, c.self.invariant.1),
+      rw (c.remove_from.ensures.items, c.missing.ensures) (counted-without c.in-Some.key.minor entries.items c.in-Some-remove_from.member c.self.inside.count c.self.inside.incomplete at.member c.self.invariant.2).2,
     )
 
 pub returns : goal.returns
@@ -58,3 +59,10 @@ returns c =
       members = rw (stands.1, c.remove_from.ensures.items, ← c.self.view_is) refl;
       valid = subst (λ (u : Used). IsUsed u.members) c.self.view_is c.self.invariant.0.used;
     }
+
+pub overflow_sub-self-2 : goal.overflow_sub-self-2
+overflow_sub-self-2 c =
+    let entries = c.self.inside.entries in
+    let there = subst (λ (u : Used). IsSome (entry_at c.args.serial (entries_of u))) (sym c.self.view_is) c.requires in
+    let at = member_at c.args.serial entries.items _ c.self.inside.serials c.self.inside.idle c.first_from.result c.remove_from.result c.in-Some.key c.in-Some-remove_from.member c.self.invariant.0 there c.first_from.ensures.least c.in-Some.is c.remove_from.ensures.member c.in-Some-remove_from.is in
+    rw c.missing.ensures (counted-without c.in-Some.key.minor entries.items c.in-Some-remove_from.member c.self.inside.count c.self.inside.incomplete at.member c.self.invariant.2).1
