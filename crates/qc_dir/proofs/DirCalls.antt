@@ -1,8 +1,8 @@
 -- What the directory's indexes answer.
-use Rattle.std.proofs.Common.{◌≡◌, ℕ, ◌+◌, ◌-◌, ◌<◌, ◌≤◌, ◌^◌, Bool, true, false, cond, not, nat_lt, ◌&&◌, List, [], ◌∷◌, ◌++◌, map, length, refl, sym, ap, ◌∙◌, subst, Option, Some, None, ◌==◌, arith}
+use Rattle.std.proofs.Common.{◌≡◌, ℕ, ◌+◌, ◌-◌, ◌<◌, ◌≤◌, true, false, cond, nat_lt, ◌&&◌, List, [], ◌∷◌, ◌++◌, map, length, refl, sym, ap, ◌∙◌, subst, Option, Some, None, ◌==◌, arith}
 use Rattle.std.specs.List.{AllByRecursion, list_any, find, filter}
 use Rattle.std.specs.List.Sorted.{IsPermutation}
-use Rattle.std.specs.Option.{IsSomeAnd}
+use Rattle.std.specs.Option.{IsSomeAnd, MatchOption}
 use Rattle.std.proofs.lemmas.List.Sorted.{IsPermutation-refl, IsPermutation-cons, IsPermutation-trans, IsPermutation-sym, IsPermutation-middle}
 use Rattle.std.proofs.lemmas.Option.{none-some, same_Some}
 use Rattle.std.proofs.lemmas.Bool.Decides.{nat_tests}
@@ -11,14 +11,11 @@ use Rattle.qc_sql.specs.Database.{same_table}
 use Rattle.qc_tiles.specs.declared.blocks.Move.{Move}
 use Rattle.qc_tiles.specs.declared.blocks.Block.{Block}
 use Rattle.qc_index.specs.declared.keys.Key.{Key}
-use Rattle.qc_index.specs.declared.keys.Keyed.{Keyed}
-use Rattle.qc_index.specs.Keys.{key_before, is_before}
-use Rattle.qc_index.specs.Ordered.{IsOrdered}
 use Rattle.qc_dir.specs.declared.entries.Entry.{Entry}
 use Rattle.qc_dir.specs.declared.tables.TableBlock.{TableBlock}
 use Rattle.qc_tiles.specs.Tiles.{moved}
 use Rattle.qc_dir.specs.Directory.{Directory, has_serial, has_hash, entry_at, serials_under, changed, names_table, moved_entry, moved_table, after_shift}
-use Rattle.qc_dir.specs.Keys.{Keys, total, bit, times, same_key, first_key, IsLeastFrom, IsStrict, HasMinors, is_under, minors_under}
+use Rattle.qc_dir.specs.Keys.{Keys, total, bit, times, same_key, IsAnyUnder}
 use Rattle.qc_dir.specs.Slots.{Numbered, IsInOrder, has_number, is_of, number_of, numbered_at, moved_numbered}
 use Rattle.qc_dir.specs.Uses.{placed_text}
 use Rattle.qc_dir.specs.Indexed.{IsDir, hash_key, text_key, numbered_as, numbers_in, entry_times, holding, naming, texts_at}
@@ -30,124 +27,8 @@ use Rattle.qc_dir.proofs.Totals.{total-map, total-append}
 use Rattle.qc_dir.proofs.EntryTotals.{entry-serial, total-changed, total-changed_one, any-total, some_any, any_some, some_one, bit_true, total-same, total-le}
 use Rattle.qc_dir.proofs.DirSteps.{tables_in, numbered_as-is, number_none, held_counts}
 
--- ---- keys, each once
-
-pub strict : {T : Type 0} (xs : List (Keyed T)) → IsOrdered xs → ((k : Key) → times k (map (λ m. m.key) xs) ≤ 1) → IsStrict (map (λ m. m.key) xs)
-strict [] ordered once = tt
-strict {T = T} (x ∷ xs) ordered once = (above xs ordered.0 (omega (arith, once x.key, itself)), strict xs ordered.1 (λ k. omega (arith, once k)))
-  where
-    itself : bit (same_key x.key x.key) ≡ 1
-    itself = rw (same_itself x.key) refl
-
-    first : (a b : Key) → key_before b a ≡ false → same_key a b ≡ false → key_before a b ≡ true
-    first a b p q = grind (arith, nat_tests)
-
-    above : (ys : List (Keyed T)) → AllByRecursion (λ y. is_before x.key y ≡ false) ys → times x.key (map (λ m. m.key) ys) ≡ 0 → AllByRecursion (λ k. key_before x.key k ≡ true) (map (λ m. m.key) ys)
-    above [] all none = tt
-    above (y ∷ ys) all none =
-        elim (same_key x.key y.key) as (λ v. same_key x.key y.key ≡ v → bit v + times x.key (map (λ m. m.key) ys) ≡ 0 → AllByRecursion (λ k. key_before x.key k ≡ true) (map (λ m. m.key) (y ∷ ys))) [
-          | true ↦ λ e n. absurd (omega (arith, n))
-          | false ↦ λ e n. (first x.key y.key all.0 e, above ys all.1 (omega (arith, n)))
-        ] refl none
-
-pub minors : {T : Type 0} (xs : List (Keyed T)) → AllByRecursion (λ m. m.key.minor < 2 ^ 64) xs → HasMinors (map (λ m. m.key) xs)
-minors [] all = tt
-minors (x ∷ xs) all = (all.0, minors xs all.1)
-
--- ---- the walk over the keys with one first number
-
 abbrev numbered_key : ℕ → ℕ → Key
 numbered_key major n = record { major = major; minor = n }
-
-none_more : (major from : ℕ) (keys : List Key) → AllByRecursion (λ k. is_under major from k ≡ false) keys → filter (is_under major from) keys ≡ []
-none_more major from [] all = refl
-none_more major from (k ∷ ks) all = rw all.0 (none_more major from ks all.1)
-
-pub walk_end : (major from : ℕ) (keys : List Key) → IsStrict keys → first_key (numbered_key major from) keys ≡ None → minors_under major (Some from) keys ≡ []
-walk_end major from [] strict h = refl
-walk_end major from (k ∷ ks) strict h =
-    elim (key_before k (numbered_key major from)) as (λ v. key_before k (numbered_key major from) ≡ v → cond v (first_key (numbered_key major from) ks) (Some k) ≡ None → minors_under major (Some from) (k ∷ ks) ≡ []) [
-      | true ↦ λ e p. rw (low e) (walk_end major from ks strict.1 p)
-      | false ↦ λ e p. absurd (cc p)
-    ] refl h
-  where
-    low : key_before k (numbered_key major from) ≡ true → is_under major from k ≡ false
-    low e = grind (arith, nat_tests)
-
-all_behind : (major from : ℕ) (k : Key) (ks : List Key) → key_before k (numbered_key major from) ≡ false → (k.major ≡ major → ⊥) → AllByRecursion (λ j. key_before k j ≡ true) ks → AllByRecursion (λ j. is_under major from j ≡ false) ks
-all_behind major from k [] e other all = tt
-all_behind major from k (j ∷ js) e other all = (high j all.0, all_behind major from k js e other all.1)
-  where
-    high : (j : Key) → key_before k j ≡ true → is_under major from j ≡ false
-    high j p = grind (arith, nat_tests)
-
--- the first that is found has another first number
-pub walk_past : (major from : ℕ) (keys : List Key) (k : Key) → IsStrict keys → first_key (numbered_key major from) keys ≡ Some k → (k.major ≡ major → ⊥) → minors_under major (Some from) keys ≡ []
-walk_past major from [] k strict h other = absurd (none-some k h)
-walk_past major from (j ∷ js) k strict h other =
-    elim (key_before j (numbered_key major from)) as (λ v. key_before j (numbered_key major from) ≡ v → cond v (first_key (numbered_key major from) js) (Some j) ≡ Some k → minors_under major (Some from) (j ∷ js) ≡ []) [
-      | true ↦ λ e p. rw (low e) (walk_past major from js k strict.1 p other)
-      | false ↦ λ e p. past e (λ q. other (ap (λ (i : Key). i.major) (sym (same_Some j k p)) ∙ q))
-    ] refl h
-  where
-    low : key_before j (numbered_key major from) ≡ true → is_under major from j ≡ false
-    low e = grind (arith, nat_tests)
-
-    here : key_before j (numbered_key major from) ≡ false → (j.major ≡ major → ⊥) → is_under major from j ≡ false
-    here e q = grind (arith, nat_tests)
-
-    past : key_before j (numbered_key major from) ≡ false → (j.major ≡ major → ⊥) → minors_under major (Some from) (j ∷ js) ≡ []
-    past e q = rw (here e q, none_more major from js (all_behind major from j js e q strict.0)) refl
-
--- the first that is found, and those behind it
-pub walk_on : (major from : ℕ) (keys : List Key) (k : Key) → IsStrict keys → first_key (numbered_key major from) keys ≡ Some k → k.major ≡ major → minors_under major (Some from) keys ≡ k.minor ∷ minors_under major (Some (k.minor + 1)) keys
-walk_on major from [] k strict h is = absurd (none-some k h)
-walk_on major from (j ∷ js) k strict h is =
-    elim (key_before j (numbered_key major from)) as (λ v. key_before j (numbered_key major from) ≡ v → cond v (first_key (numbered_key major from) js) (Some j) ≡ Some k → minors_under major (Some from) (j ∷ js) ≡ k.minor ∷ minors_under major (Some (k.minor + 1)) (j ∷ js)) [
-      | true ↦ λ e p. rw (low e, lower e (above js p)) (walk_on major from js k strict.1 p is)
-      | false ↦ λ e p. subst (λ (i : Key). minors_under major (Some from) (j ∷ js) ≡ i.minor ∷ minors_under major (Some (i.minor + 1)) (j ∷ js)) (same_Some j k p) (here e (ap (λ (i : Key). i.major) (same_Some j k p) ∙ is))
-    ] refl h
-  where
-    low : key_before j (numbered_key major from) ≡ true → is_under major from j ≡ false
-    low e = grind (arith, nat_tests)
-
-    above : (is : List Key) → first_key (numbered_key major from) is ≡ Some k → key_before k (numbered_key major from) ≡ false
-    above [] p = absurd (none-some k p)
-    above (i ∷ is) p =
-        elim (key_before i (numbered_key major from)) as (λ v. key_before i (numbered_key major from) ≡ v → cond v (first_key (numbered_key major from) is) (Some i) ≡ Some k → key_before k (numbered_key major from) ≡ false) [
-          | true ↦ λ e q. above is q
-          | false ↦ λ e q. subst (λ (x : Key). key_before x (numbered_key major from) ≡ false) (same_Some i k q) e
-        ] refl p
-
-    lower : key_before j (numbered_key major from) ≡ true → key_before k (numbered_key major from) ≡ false → is_under major (k.minor + 1) j ≡ false
-    lower e q = grind (arith, nat_tests)
-
-    stands : key_before j (numbered_key major from) ≡ false → j.major ≡ major → is_under major from j ≡ true
-    stands e q = grind (arith, nat_tests)
-
-    gone : j.major ≡ major → is_under major (j.minor + 1) j ≡ false
-    gone q = grind (arith, nat_tests)
-
-    alike : (is : List Key) → key_before j (numbered_key major from) ≡ false → j.major ≡ major → AllByRecursion (λ i. key_before j i ≡ true) is → filter (is_under major from) is ≡ filter (is_under major (j.minor + 1)) is
-    alike [] e q all = refl
-    alike (i ∷ is) e q all = rw (same i all.0, alike is e q all.1) refl
-      where
-        same : (i : Key) → key_before j i ≡ true → is_under major from i ≡ is_under major (j.minor + 1) i
-        same i p = grind (arith, nat_tests)
-
-    here : key_before j (numbered_key major from) ≡ false → j.major ≡ major → minors_under major (Some from) (j ∷ js) ≡ j.minor ∷ minors_under major (Some (j.minor + 1)) (j ∷ js)
-    here e q = rw (stands e q, gone q, alike js e q strict.0) refl
-
-pub walk_last : (major from : ℕ) (keys : List Key) → HasMinors keys → 2 ^ 64 ≤ from → minors_under major (Some from) keys ≡ []
-walk_last major from [] all h = refl
-walk_last major from (k ∷ ks) all h = rw (low k.minor all.0) (walk_last major from ks all.1 h)
-  where
-    low : (n : ℕ) → n < 2 ^ 64 → (k.major == major && not (nat_lt n from)) ≡ false
-    low n p = let test : nat_lt n from ≡ true = grind (arith, nat_tests) in rw test (never (k.major == major))
-      where
-        never : (b : Bool) → (b && false) ≡ false
-        never true = refl
-        never false = refl
 
 -- ---- the serials under a hash
 
@@ -179,20 +60,6 @@ permutation_from_occurs (x ∷ xs) ys same =
     itself : (n : ℕ) → bit (n == n) ≡ 1
     itself n = grind (arith, nat_tests)
 
-occurs-minors : (h n : ℕ) (keys : List Key) → occurs n (minors_under h (Some 0) keys) ≡ times (numbered_key h n) keys
-occurs-minors h n [] = refl
-occurs-minors h n (k ∷ ks) =
-    elim (is_under h 0 k) as (λ v. is_under h 0 k ≡ v → occurs n (map (λ j. j.minor) (cond v (k ∷ filter (is_under h 0) ks) (filter (is_under h 0) ks))) ≡ times (numbered_key h n) (k ∷ ks)) [
-      | true ↦ λ e. omega (arith, occurs-minors h n ks, ap bit (same e))
-      | false ↦ λ e. rw (other e) (omega (arith, occurs-minors h n ks))
-    ] refl
-  where
-    same : is_under h 0 k ≡ true → (k.minor == n) ≡ same_key (numbered_key h n) k
-    same e = grind (arith, nat_tests)
-
-    other : is_under h 0 k ≡ false → same_key (numbered_key h n) k ≡ false
-    other e = grind (arith, nat_tests)
-
 occurs-serials : (h n : ℕ) (es : List Entry) → occurs n (serials_under h es) ≡ total (λ e. bit (same_key (numbered_key h n) (hash_key e))) es
 occurs-serials h n [] = refl
 occurs-serials h n (e ∷ es) =
@@ -207,14 +74,8 @@ occurs-serials h n (e ∷ es) =
     other : has_hash h e ≡ false → same_key (numbered_key h n) (hash_key e) ≡ false
     other p = grind (arith, nat_tests)
 
-pub candidates-are : (h : ℕ) (keys : List Key) (es : List Entry) → ((k : Key) → times k keys ≡ total (λ e. bit (same_key k (hash_key e))) es) → IsPermutation (minors_under h (Some 0) keys) (serials_under h es)
-candidates-are h keys es stands = permutation_from_occurs (minors_under h (Some 0) keys) (serials_under h es) (λ n. occurs-minors h n keys ∙ (stands (numbered_key h n) ∙ sym (occurs-serials h n es)))
-
-pub hash_once : (k : Key) (es : List Entry) → ((n : ℕ) → total (λ e. bit (has_serial n e)) es ≤ 1) → total (λ e. bit (same_key k (hash_key e))) es ≤ 1
-hash_once k es once = omega (arith, once k.minor, total-le (λ e. bit (same_key k (hash_key e))) (λ e. bit (has_serial k.minor e)) es (λ e. lower e))
-  where
-    lower : (e : Entry) → bit (same_key k (hash_key e)) ≤ bit (has_serial k.minor e)
-    lower e = grind (arith, nat_tests)
+pub candidates-are : (h : ℕ) (serials : List ℕ) (keys : Keys) (es : List Entry) → ((n : ℕ) → occurs n serials ≡ times (numbered_key h n) keys.keys) → ((k : Key) → times k keys.keys ≡ total (λ e. bit (same_key k (hash_key e))) es) → IsPermutation serials (serials_under h es)
+candidates-are h serials keys es given stands = permutation_from_occurs serials (serials_under h es) (λ n. given n ∙ (stands (numbered_key h n) ∙ sym (occurs-serials h n es)))
 
 -- ---- entries on a table
 
@@ -311,24 +172,18 @@ names_it t n k es room held hashes named texts d rising is same some =
     let e = only_entry k held es d.serials (omega (arith, some, d.by_name k)) in
     rw e.1 (entry_names t n k.minor held e.0 rising is (rw (← same) e.2))
 
-no_other : (n s : ℕ) (k : Key) → key_before k (numbered_key n 0) ≡ false → key_before (numbered_key n s) k ≡ false → k.major ≡ n
-no_other n s k a b = grind (arith, nat_tests)
-
-from_none : (n s : ℕ) → key_before (numbered_key n s) (numbered_key n 0) ≡ false
-from_none n s = grind (arith, nat_tests)
-
--- the first key from a number on is with that, where one stands
-pub first_with : (n s : ℕ) (named : Keys) (o : Option Key) → IsLeastFrom (numbered_key n 0) named.keys o → 0 < times (numbered_key n s) named.keys → (k : Key) × (o ≡ Some k) × (k.major ≡ n) × (0 < times k named.keys)
-first_with n s named None least some = absurd (omega (arith, some, least (numbered_key n s) (from_none n s)))
-first_with n s named (Some k) least some = (k, refl, no_other n s k least.0 (least.2 (numbered_key n s) (from_none n s) some), least.1)
+-- an entry that stands with the number of the table
+pub on_table : (t : TableName) (n : ℕ) (es : List Entry) (room : ℕ) (held : List Numbered) (hashes named texts : Keys) (o : Option ℕ) → IsDir es room held hashes named texts → IsInOrder held → number_of t held ≡ Some n → IsAnyUnder n named.keys o
+    → MatchOption o (list_any (names_table t) es ≡ false) (λ s. IsSomeAnd (entry_at s es) (λ e. names_table t e ≡ true))
+on_table t n es room held hashes named texts None d rising is none = let stands = named_stands t n es room held hashes named texts d is in absurd (omega (arith, none stands.0, stands.1))
+on_table t n es room held hashes named texts (Some s) d rising is some = names_it t n (numbered_key n s) es room held hashes named texts d rising is refl some
 
 -- ---- texts at a place
 
-pub none_text : (place : ℕ) (texts : Keys) (es : List Entry) (o : Option Key) → ((k : Key) → times k texts.keys ≡ total (λ e. bit (same_key k (text_key e))) es) → IsLeastFrom (numbered_key place 0) texts.keys o → ((k : Key) → o ≡ Some k → k.major ≡ place → ⊥) → texts_at place es ≡ 0
-none_text place texts es o stands least other = none es (each_counted (λ e. e.text.first ≡ place → ⊥) es (λ e counts same.
+pub none_text : (place : ℕ) (texts : Keys) (es : List Entry) → ((k : Key) → times k texts.keys ≡ total (λ e. bit (same_key k (text_key e))) es) → ((n : ℕ) → times (numbered_key place n) texts.keys ≡ 0) → texts_at place es ≡ 0
+none_text place texts es stands empty = none es (each_counted (λ e. e.text.first ≡ place → ⊥) es (λ e counts same.
     let one : bit (same_key (numbered_key place e.serial) (text_key e)) ≡ 1 = rw (← same, same_itself (text_key e)) refl in
-    let found = first_with place e.serial texts o least (omega (arith, stands (numbered_key place e.serial), counts (λ x. bit (same_key (numbered_key place e.serial) (text_key x))), one)) in
-    other found.0 found.1 found.2))
+    omega (arith, stands (numbered_key place e.serial), counts (λ x. bit (same_key (numbered_key place e.serial) (text_key x))), one, empty e.serial)))
   where
     none : (xs : List Entry) → AllByRecursion (λ e. e.text.first ≡ place → ⊥) xs → texts_at place xs ≡ 0
     none [] all = refl

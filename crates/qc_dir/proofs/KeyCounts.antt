@@ -1,29 +1,17 @@
--- How often keys stand in an index, and what putting in, taking out and looking up say of that.
-use Rattle.std.proofs.Common.{◌≡◌, ◌+◌, ◌<◌, true, false, cond, List, [], ◌∷◌, map, refl, Option, Some, None, arith}
-use Rattle.std.specs.List.{AllByRecursion}
-use Rattle.std.specs.Option.{option_map}
+-- How often keys stand in a set, and what its lists say of that.
+use Rattle.std.proofs.Common.{◌≡◌, ◌≢◌, ℕ, ◌+◌, ◌*◌, ◌/◌, ◌%◌, ◌^◌, ◌<◌, true, false, cond, nat_lt, List, [], ◌∷◌, ◌++◌, length, set, refl, sym, ap, ◌∙◌, Option, Some, None, ◌==◌, arith}
+use Rattle.std.specs.List.{AllByRecursion, slice_get}
+use Rattle.std.specs.Option.{is_some, option_to_list, MatchOption}
+use Rattle.std.proofs.lemmas.Bool.{eq-eqb, ne_eqb}
 use Rattle.std.proofs.lemmas.Bool.Decides.{nat_tests}
+use Rattle.std.proofs.lemmas.Nat.{and_le_r}
 use Rattle.qc_index.specs.declared.keys.Key.{Key}
-use Rattle.qc_index.specs.declared.keys.Keyed.{Keyed}
-use Rattle.qc_index.specs.Keys.{key_before, is_before}
-use Rattle.qc_index.specs.Ordered.{IsOrdered, inserted, first_from, without_first_from}
-use Rattle.qc_dir.specs.Keys.{times, bit, same_key, first_key, IsLeastFrom}
-
-abbrev pub keys_of : {T : Type 0} → List (Keyed T) → List Key
-keys_of xs = map (λ m. m.key) xs
-
-pub times-inserted : {T : Type 0} (k : Key) (x : Keyed T) (xs : List (Keyed T)) → times k (keys_of (inserted x xs)) ≡ times k (keys_of xs) + bit (same_key k x.key)
-times-inserted k x [] = omega arith
-times-inserted k x (y ∷ ys) =
-    let rest = times-inserted k x ys in
-    elim (is_before x.key y) as (λ v. times k (keys_of (cond v (y ∷ inserted x ys) (x ∷ y ∷ ys))) ≡ times k (keys_of (y ∷ ys)) + bit (same_key k x.key)) [
-      | true ↦ omega (arith, rest)
-      | false ↦ omega arith
-    ]
-
--- a key that stands before another is not that
-before_other : (a b : Key) → key_before a b ≡ true → same_key b a ≡ false
-before_other a b h = grind (arith, nat_tests)
+use Rattle.qc_index.specs.Counts.{count}
+use Rattle.qc_index.specs.Linked.{Linked, nodes_of, moved_last}
+use Rattle.qc_index.proofs.Counting.{total-append, total-set, length-moved}
+use Rattle.qc_dir.specs.Filed.{in_slot, contents, IsFiled}
+use Rattle.qc_dir.specs.Keys.{total, bit, times, same_key, bucket_of, pair_of, major_home, pair_home, is_key, minor_under, minors_under, IsKeySet, IsAnyUnder}
+use Rattle.qc_dir.proofs.FiledSteps.{listed-all, none-counts, filed-moved, first-free, room-taken, room-freed}
 
 pub same_both : (a b : Key) → same_key a b ≡ true → a ≡ b
 same_both a b h =
@@ -34,83 +22,165 @@ same_both a b h =
 pub same_itself : (a : Key) → same_key a a ≡ true
 same_itself a = grind (arith, nat_tests)
 
-same_or_before : (a b : Key) → key_before b a ≡ false → key_before a b ≡ false → same_key a b ≡ true
-same_or_before a b h k = grind (arith, nat_tests)
+-- ---- the lists
 
--- none of the members behind one that the key stands before is that key
-none_behind : {T : Type 0} (key : Key) (x : Key) (xs : List (Keyed T)) → key_before key x ≡ true → AllByRecursion (λ z. is_before x z ≡ false) xs → times key (keys_of xs) ≡ 0
-none_behind key x [] e h = refl
-none_behind key x (z ∷ zs) e h =
-    let other : same_key key z.key ≡ false = apart key x z.key e h.0 in
-    rw other (omega (arith, none_behind key x zs e h.1))
+pub bucket-low : (mask n : ℕ) → bucket_of mask n < mask + 2
+unfolding bucket_of
+bucket-low mask n = omega (arith, and_le_r (n * 11400714819323198485 % 2 ^ 64 / 2 ^ 32) mask)
+
+pub bucket-some : (mask n : ℕ) → bucket_of mask n ≢ 0
+unfolding bucket_of
+bucket-some mask n e = omega (arith, e)
+
+pub major-low : (mask : ℕ) (s : Option Key) → major_home mask s < mask + 2
+major-low mask None = omega arith
+major-low mask (Some k) = bucket-low mask k.major
+
+pub pair-low : (mask : ℕ) (s : Option Key) → pair_home mask s < mask + 2
+pair-low mask None = omega arith
+pair-low mask (Some k) = bucket-low mask (pair_of k)
+
+-- only a free slot belongs to list 0
+pub major-none : (mask : ℕ) (s : Option Key) → major_home mask s ≡ 0 → s ≡ None
+major-none mask None h = refl
+major-none mask (Some k) h = absurd (bucket-some mask k.major h)
+
+-- ---- how often a key stands
+
+pub times-contents : (k : Key) (slots : List (Option Key)) → times k (contents slots) ≡ total (λ s. bit (is_key k s)) slots
+times-contents k [] = refl
+times-contents k (None ∷ ss) = omega (arith, times-contents k ss)
+times-contents k (Some m ∷ ss) = omega (arith, times-contents k ss)
+
+pub times-set : (k : Key) (slots : List (Option Key)) (x : ℕ) (v : Option Key) → x < length slots → times k (contents (set slots x v)) + bit (is_key k (in_slot x slots)) ≡ times k (contents slots) + bit (is_key k v)
+times-set k slots x v low = omega (arith, times-contents k (set slots x v), times-contents k slots, total-set (λ s. bit (is_key k s)) slots x v None low)
+
+-- ---- finding
+
+-- no slot of a key's list has it
+pub none-found : (k : Key) (slots : List (Option Key)) (filed : Linked) (mask : ℕ) → IsFiled (pair_home mask) slots filed → AllByRecursion (λ n. is_key k (in_slot n slots) ≡ false) (nodes_of (bucket_of mask (pair_of k)) filed.lists) → times k (contents slots) ≡ 0
+none-found k slots filed mask h all =
+    times-contents k slots
+    ∙ (sym (listed-all (pair_home mask) (λ s. bit (is_key k s)) slots filed (bucket_of mask (pair_of k)) h (h.homes (Some k)) only)
+    ∙ none-counts (is_key k) slots (nodes_of (bucket_of mask (pair_of k)) filed.lists) all)
   where
-    apart : (a b c : Key) → key_before a b ≡ true → key_before c b ≡ false → same_key a c ≡ false
-    apart a b c p q = grind (arith, nat_tests)
-
--- taking out a key that is there
-pub times-without : {T : Type 0} (key k : Key) (xs : List (Keyed T)) → IsOrdered xs → 0 < times key (keys_of xs) → times k (keys_of (without_first_from key xs)) + bit (same_key k key) ≡ times k (keys_of xs)
-times-without key k [] ordered h = absurd (omega (arith, h))
-times-without {T = T} key k (x ∷ xs) ordered h =
-    elim (is_before key x) as (λ v. is_before key x ≡ v → times k (keys_of (cond v (x ∷ without_first_from key xs) xs)) + bit (same_key k key) ≡ times k (keys_of (x ∷ xs))) [
-      | true ↦ λ e. let other = before_other x.key key e in let more : 0 < times key (keys_of xs) = omega (arith, rw other at h) in omega (arith, times-without key k xs ordered.1 more)
-      | false ↦ λ e. let same = same_both key x.key (here e) in rw same (omega arith)
-    ] refl
-  where
-    none_here : key_before key x.key ≡ true → times key (keys_of (x ∷ xs)) ≡ 0
-    none_here f =
-        let other : same_key key x.key ≡ false = grind (arith, nat_tests) in
-        rw other (omega (arith, none_behind key x.key xs f ordered.0))
-
-    here : is_before key x ≡ false → same_key key x.key ≡ true
-    here e =
-        elim (key_before key x.key) as (λ v. key_before key x.key ≡ v → same_key key x.key ≡ true) [
-          | true ↦ λ f. absurd (omega (arith, h, none_here f))
-          | false ↦ λ f. same_or_before key x.key e f
+    only : (s : Option Key) → pair_home mask s ≢ bucket_of mask (pair_of k) → bit (is_key k s) ≡ 0
+    only None ne = refl
+    only (Some m) ne =
+        elim (same_key k m) as (λ v. same_key k m ≡ v → bit v ≡ 0) [
+          | true ↦ λ e. absurd (ne (ap (λ (j : Key). bucket_of mask (pair_of j)) (sym (same_both k m e))))
+          | false ↦ λ e. refl
         ] refl
 
--- what is there is found
-pub found_there : {T : Type 0} (key : Key) (xs : List (Keyed T)) → 0 < times key (keys_of xs) → IsOrdered xs → (m : Keyed T) × (first_from key xs ≡ Some m)
-found_there key [] h ordered = absurd (omega (arith, h))
-found_there {T = T} key (x ∷ xs) h ordered =
-    elim (is_before key x) as (λ v. is_before key x ≡ v → (m : Keyed T) × (cond v (first_from key xs) (Some x) ≡ Some m)) [
-      | true ↦ λ e. let other = before_other x.key key e in let more : 0 < times key (keys_of xs) = omega (arith, rw other at h) in found_there key xs more ordered.1
-      | false ↦ λ e. (x, refl)
+-- what a slot is found to have
+pub found-key : (k : Key) (s : Option Key) → is_key k s ≡ true → s ≡ Some k
+found-key k None e = absurd (cc e)
+found-key k (Some m) e = ap (λ j. Some j) (sym (same_both k m e))
+
+abbrev numbered_key : ℕ → ℕ → Key
+numbered_key major n = record { major = major; minor = n }
+
+one-minor : (major n : ℕ) (s : Option Key) → count n (minor_under major s) ≡ bit (is_key (numbered_key major n) s)
+one-minor major n None = refl
+one-minor major n (Some k) =
+    elim (k.major == major) as (λ v. (k.major == major) ≡ v → count n (cond v (k.minor ∷ []) []) ≡ bit (same_key (numbered_key major n) k)) [
+      | true ↦ λ e. let same : bit (same_key (numbered_key major n) k) ≡ bit (k.minor == n) = grind (arith, nat_tests) in omega (arith, same)
+      | false ↦ λ e. let other : bit (same_key (numbered_key major n) k) ≡ 0 = grind (arith, nat_tests) in omega (arith, other)
     ] refl
 
-pub first_key-map : {T : Type 0} (key : Key) (xs : List (Keyed T)) → first_key key (keys_of xs) ≡ option_map (λ (m : Keyed T). m.key) (first_from key xs)
-first_key-map key [] = refl
-first_key-map key (x ∷ xs) =
-    elim (is_before key x) as (λ v. cond v (first_key key (keys_of xs)) (Some x.key) ≡ option_map (λ (m : Keyed _). m.key) (cond v (first_from key xs) (Some x))) [
-      | true ↦ first_key-map key xs
-      | false ↦ refl
-    ]
+total-minors : (major n : ℕ) (slots : List (Option Key)) (ns : List ℕ) → count n (minors_under major slots ns) ≡ total (λ m. bit (is_key (numbered_key major n) (in_slot m slots))) ns
+total-minors major n slots [] = refl
+total-minors major n slots (m ∷ ms) = omega (arith, total-append (λ y. bit (y == n)) (minor_under major (in_slot m slots)) (minors_under major slots ms), one-minor major n (in_slot m slots), total-minors major n slots ms)
 
-pub least_first : {T : Type 0} (key : Key) (xs : List (Keyed T)) → IsOrdered xs → IsLeastFrom key (keys_of xs) (first_key key (keys_of xs))
-least_first key [] ordered = λ k e. refl
-least_first {T = T} key (x ∷ xs) ordered =
-    elim (is_before key x) as (λ v. is_before key x ≡ v → IsLeastFrom key (keys_of (x ∷ xs)) (cond v (first_key key (keys_of xs)) (Some x.key))) [
-      | true ↦ λ e. later e (first_key key (keys_of xs)) (least_first key xs ordered.1)
-      | false ↦ λ e. (e, there, none)
-    ] refl
+-- the second numbers that a walk gives
+pub minors-are : (major n : ℕ) (slots : List (Option Key)) (filed : Linked) (mask : ℕ) → IsFiled (major_home mask) slots filed → count n (minors_under major slots (nodes_of (bucket_of mask major) filed.lists)) ≡ times (numbered_key major n) (contents slots)
+minors-are major n slots filed mask h =
+    total-minors major n slots (nodes_of (bucket_of mask major) filed.lists)
+    ∙ (listed-all (major_home mask) (λ s. bit (is_key (numbered_key major n) s)) slots filed (bucket_of mask major) h (h.homes (Some (numbered_key major n))) only
+    ∙ sym (times-contents (numbered_key major n) slots))
   where
-    other : (k : Key) → is_before key x ≡ true → key_before k key ≡ false → same_key k x.key ≡ false
-    other k e f = grind (arith, nat_tests)
-
-    later : is_before key x ≡ true → (o : Option Key) → IsLeastFrom key (keys_of xs) o → IsLeastFrom key (keys_of (x ∷ xs)) o
-    later e None h = λ k f. rw (other k e f) (omega (arith, h k f))
-    later e (Some m) h = (h.0, omega (arith, h.1), λ k f g. h.2 k f (let p : 0 < times k (keys_of xs) = omega (arith, rw (other k e f) at g) in p))
-
-    there : 0 < times x.key (keys_of (x ∷ xs))
-    there = rw (same_itself x.key) (omega arith)
-
-    none_at : (k : Key) → key_before k x.key ≡ true → times k (keys_of (x ∷ xs)) ≡ 0
-    none_at k p =
-        let apart : same_key k x.key ≡ false = grind (arith, nat_tests) in
-        rw apart (omega (arith, none_behind k x.key xs p ordered.0))
-
-    none : (k : Key) → key_before k key ≡ false → 0 < times k (keys_of (x ∷ xs)) → key_before k x.key ≡ false
-    none k f g =
-        elim (key_before k x.key) as (λ v. key_before k x.key ≡ v → v ≡ false) [
-          | true ↦ λ p. absurd (omega (arith, g, none_at k p))
-          | false ↦ λ p. refl
+    only : (s : Option Key) → major_home mask s ≢ bucket_of mask major → bit (is_key (numbered_key major n) s) ≡ 0
+    only None ne = refl
+    only (Some m) ne =
+        elim (same_key (numbered_key major n) m) as (λ v. same_key (numbered_key major n) m ≡ v → bit v ≡ 0) [
+          | true ↦ λ e. absurd (ne (ap (λ (j : Key). bucket_of mask j.major) (sym (same_both (numbered_key major n) m e))))
+          | false ↦ λ e. refl
         ] refl
+
+-- none is left out
+pub none-under : (major : ℕ) (keys : List Key) (minors : List ℕ) → ((n : ℕ) → count n minors ≡ times (numbered_key major n) keys) → minors ≡ [] → (n : ℕ) → times (numbered_key major n) keys ≡ 0
+none-under major keys minors h is n = sym (h n) ∙ ap (count n) is
+
+pub some-under : (major n : ℕ) (keys : List Key) (minors rest : List ℕ) → ((n : ℕ) → count n minors ≡ times (numbered_key major n) keys) → minors ≡ n ∷ rest → 0 < times (numbered_key major n) keys
+some-under major n keys minors rest h is =
+    let one : bit (n == n) ≡ 1 = rw (eq-eqb n n refl) refl in
+    omega (arith, h n, ap (count n) is, one)
+
+-- ---- one key more, and one less
+
+abbrev put : ℕ → ℕ → Linked → Linked
+put x l filed = record { lists = moved_last x l filed.lists; nodes = filed.nodes }
+
+length-put : (x l : ℕ) (filed filed' : Linked) → filed' ≡ put x l filed → length filed'.lists ≡ length filed.lists
+length-put x l filed filed' e = ap (λ (f : Linked). length f.lists) e ∙ length-moved x l filed.lists
+
+pub record IsChanged (slots slots' : List (Option Key)) (by_major by_key by_major' by_key' : Linked) (mask more less : ℕ) (k : Key) : Type 0 where
+  pub kept : IsKeySet slots' by_major' by_key' mask
+  pub keys : (j : Key) → times j (contents slots') + cond (nat_lt 0 less) (bit (same_key j k)) 0 ≡ times j (contents slots) + cond (nat_lt 0 more) (bit (same_key j k)) 0
+  pub room : length (nodes_of 0 by_major'.lists) + more ≡ length (nodes_of 0 by_major.lists) + less
+
+pub inserted : (slots : List (Option Key)) (by_major by_key by_major' by_key' : Linked) (mask x : ℕ) (k : Key) → IsKeySet slots by_major by_key mask → x < length slots → slice_get (nodes_of 0 by_major.lists) 0 ≡ Some x
+    → by_major' ≡ put x (bucket_of mask k.major) by_major → by_key' ≡ put x (bucket_of mask (pair_of k)) by_key → IsChanged slots (set slots x (Some k)) by_major by_key by_major' by_key' mask 1 0 k
+inserted slots by_major by_key by_major' by_key' mask x k h low first one two = record {
+  kept = record {
+    by_major = filed-moved (major_home mask) slots by_major by_major' x (bucket_of mask k.major) (Some k) h.by_major low refl one;
+    majors = length-put x (bucket_of mask k.major) by_major by_major' one ∙ h.majors;
+    by_key = filed-moved (pair_home mask) slots by_key by_key' x (bucket_of mask (pair_of k)) (Some k) h.by_key low refl two;
+    pairs = length-put x (bucket_of mask (pair_of k)) by_key by_key' two ∙ h.pairs;
+  };
+  keys = λ j. omega (arith, times-set j slots x (Some k) low, ap (λ s. bit (is_key j s)) none);
+  room = omega (arith, room-taken x (bucket_of mask k.major) by_major by_major' (omega (arith, h.by_major.homes None)) free.1 (bucket-some mask k.major) one);
+}
+  where
+    free : (major_home mask (in_slot x slots) ≡ 0) × (count x (nodes_of 0 by_major.lists) ≡ 1)
+    free = first-free (major_home mask) slots by_major x h.by_major low first
+
+    none : in_slot x slots ≡ None
+    none = major-none mask (in_slot x slots) (first-free (major_home mask) slots by_major x h.by_major low first).0
+
+pub removed : (slots : List (Option Key)) (by_major by_key by_major' by_key' : Linked) (mask x : ℕ) (k : Key) → IsKeySet slots by_major by_key mask → x < length slots → is_key k (in_slot x slots) ≡ true
+    → by_major' ≡ put x 0 by_major → by_key' ≡ put x 0 by_key → IsChanged slots (set slots x None) by_major by_key by_major' by_key' mask 0 1 k
+removed slots by_major by_key by_major' by_key' mask x k h low is one two = record {
+  kept = record {
+    by_major = filed-moved (major_home mask) slots by_major by_major' x 0 None h.by_major low refl one;
+    majors = length-put x 0 by_major by_major' one ∙ h.majors;
+    by_key = filed-moved (pair_home mask) slots by_key by_key' x 0 None h.by_key low refl two;
+    pairs = length-put x 0 by_key by_key' two ∙ h.pairs;
+  };
+  keys = λ j. omega (arith, times-set j slots x None low, ap (λ s. bit (is_key j s)) some);
+  room = omega (arith, room-freed x by_major by_major' (omega (arith, h.by_major.homes None)) (h.by_major.placed 0 x (omega (arith, h.by_major.homes None)) low ∙ rw (some, ne_eqb (bucket_of mask k.major) 0 (bucket-some mask k.major)) refl) one);
+}
+  where
+    some : in_slot x slots ≡ Some k
+    some = found-key k (in_slot x slots) is
+
+-- ---- whether one stands under a number
+
+pub any-yes : (major : ℕ) (keys : List Key) (o : Option ℕ) → IsAnyUnder major keys o → is_some o ≡ true → (s : ℕ) × (0 < times (numbered_key major s) keys)
+any-yes major keys None h e = absurd (cc e)
+any-yes major keys (Some s) h e = (s, h)
+
+pub any-no : (major : ℕ) (keys : List Key) (o : Option ℕ) → IsAnyUnder major keys o → is_some o ≡ false → (s : ℕ) → times (numbered_key major s) keys ≡ 0
+any-no major keys None h e = h
+any-no major keys (Some s) h e = absurd (cc e)
+
+-- ---- one slot of a walk
+
+pub next-minor : (major slot : ℕ) (slots : List (Option Key)) (rest old : List ℕ) (o : Option ℕ) → old ≡ minors_under major slots (slot ∷ rest) → option_to_list o ≡ minor_under major (in_slot slot slots) → is_some o ≡ true
+    → MatchOption o ((old ≡ []) × (minors_under major slots rest ≡ [])) (λ n. old ≡ n ∷ minors_under major slots rest)
+next-minor major slot slots rest old None was h e = absurd (cc e)
+next-minor major slot slots rest old (Some n) was h e = was ∙ ap (λ xs. xs ++ minors_under major slots rest) (sym h)
+
+pub no-minor : (major slot : ℕ) (slots : List (Option Key)) (rest : List ℕ) (o : Option ℕ) → option_to_list o ≡ minor_under major (in_slot slot slots) → is_some o ≡ false → minors_under major slots (slot ∷ rest) ≡ minors_under major slots rest
+no-minor major slot slots rest None h e = ap (λ xs. xs ++ minors_under major slots rest) (sym h)
+no-minor major slot slots rest (Some n) h e = absurd (cc e)

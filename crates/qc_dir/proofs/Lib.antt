@@ -2,6 +2,7 @@ pub mod Apart
 pub mod DirCalls
 pub mod DirSteps
 pub mod EntryTotals
+pub mod FiledSteps
 pub mod Insertions
 pub mod KeyCounts
 pub mod Names
@@ -10,9 +11,6 @@ pub mod Removals
 pub mod Serials
 pub mod SlotCalls
 pub mod SlotSteps
-pub mod Stamps
 pub mod Totals
-pub mod UseCalls
-pub mod UseOrder
 pub mod UseSteps
 mod examples

@@ -1,16 +1,20 @@
 -- The least serial under a hash.
-use Rattle.std.proofs.Common.{◌≡◌, ℕ, ◌+◌, ◌<◌, ◌≤◌, Bool, true, false, cond, nat_lt, ◌&&◌, List, [], ◌∷◌, refl, sym, ap, ◌∙◌, subst, Option, Some, None, ◌==◌, arith}
-use Rattle.std.specs.Option.{IsSomeAnd}
+use Rattle.std.proofs.Common.{◌≡◌, ◌⊎◌, inl, inr, ℕ, ◌<◌, ◌≤◌, min, true, false, cond, nat_lt, List, [], ◌∷◌, refl, sym, ap, subst, Option, Some, None, ◌==◌, arith}
+use Rattle.std.specs.Option.{IsSomeAnd, IfSome, MatchOption}
+use Rattle.std.proofs.lemmas.Bool.{eq-eqb, ne_eqb, ltb-false, le-ltb, cases_eq, cases_lt}
 use Rattle.std.proofs.lemmas.Bool.Decides.{nat_tests}
 use Rattle.qc_index.specs.declared.keys.Key.{Key}
-use Rattle.qc_index.specs.Keys.{key_before}
+use Rattle.qc_index.specs.Counts.{count}
 use Rattle.qc_dir.specs.declared.entries.Entry.{Entry}
 use Rattle.qc_dir.specs.Directory.{has_serial, entry_at}
-use Rattle.qc_dir.specs.Keys.{Keys, total, bit, times, same_key, IsLeastFrom}
+use Rattle.qc_dir.specs.Keys.{Keys, total, bit, times, same_key, least_from}
 use Rattle.qc_dir.specs.Indexed.{hash_key}
-use Rattle.qc_dir.proofs.KeyCounts.{same_itself, same_both}
-use Rattle.qc_dir.proofs.EntryTotals.{bit_true, total-le}
+use Rattle.qc_dir.proofs.KeyCounts.{same_both}
+use Rattle.qc_dir.proofs.EntryTotals.{bit_true, total-le, entry-serial}
 use Rattle.qc_dir.proofs.Removals.{key_stands}
+
+abbrev pub hashed : ℕ → ℕ → Key
+hashed h n = record { major = h; minor = n }
 
 hash_there : (k : Key) (es : List Entry) → ((n : ℕ) → total (λ e. bit (has_serial n e)) es ≤ 1) → 0 < total (λ e. bit (same_key k (hash_key e))) es → (e : Entry) × (entry_at k.minor es ≡ Some e) × (hash_key e ≡ k)
 hash_there k [] once h = absurd (omega (arith, h))
@@ -29,37 +33,72 @@ hash_there k (x ∷ xs) once h =
     none : (ys : List Entry) → total (λ e. bit (has_serial k.minor e)) ys ≡ 0 → total (λ e. bit (same_key k (hash_key e))) ys ≡ 0
     none ys q = omega (arith, q, total-le (λ e. bit (same_key k (hash_key e))) (λ e. bit (has_serial k.minor e)) ys lower)
 
-abbrev pub hashed : ℕ → ℕ → Key
-hashed h n = record { major = h; minor = n }
+-- a serial that stands under the hash is that of an entry with it
+pub hash_some : (h n : ℕ) (es : List Entry) (hashes : Keys) → ((n : ℕ) → total (λ e. bit (has_serial n e)) es ≤ 1) → ((k : Key) → times k hashes.keys ≡ total (λ e. bit (same_key k (hash_key e))) es) → 0 < times (hashed h n) hashes.keys → IsSomeAnd (entry_at n es) (λ e. e.hash ≡ h)
+hash_some h n es hashes once stands some =
+    let e = hash_there (hashed h n) es once (omega (arith, some, stands (hashed h n))) in
+    subst (λ (o : Option Entry). IsSomeAnd o (λ e. e.hash ≡ h)) (sym e.1) (ap (λ (j : Key). j.major) e.2)
 
-pub found_under : (h from : ℕ) (k : Key) (es : List Entry) (hashes : Keys) → ((n : ℕ) → total (λ e. bit (has_serial n e)) es ≤ 1) → ((k : Key) → times k hashes.keys ≡ total (λ e. bit (same_key k (hash_key e))) es)
-    → k.major ≡ h → key_before k (hashed h from) ≡ false → 0 < times k hashes.keys → (from ≤ k.minor) × IsSomeAnd (entry_at k.minor es) (λ e. e.hash ≡ h)
-found_under h from k es hashes once stands major behind some =
-    let e = hash_there k es once (omega (arith, some, stands k)) in
-    let at : from ≤ k.minor = grind (arith, nat_tests) in
-    (at, subst (λ (o : Option Entry). IsSomeAnd o (λ e. e.hash ≡ h)) (sym e.1) (ap (λ (j : Key). j.major) e.2 ∙ major))
-
-pub least_under : (h from n : ℕ) (es : List Entry) (hashes : Keys) (o : Option Key) → ((k : Key) → times k hashes.keys ≡ total (λ e. bit (same_key k (hash_key e))) es) → IsLeastFrom (hashed h from) hashes.keys o
-    → from ≤ n → IsSomeAnd (entry_at n es) (λ e. e.hash ≡ h) → (k : Key) × (o ≡ Some k) × (k.major ≡ h) × (k.minor ≤ n)
-least_under h from n es hashes o stands least low there = by (entry_at n es) refl there o least
+-- and an entry with the hash stands under it
+pub some_hash : (h n : ℕ) (es : List Entry) (hashes : Keys) → ((k : Key) → times k hashes.keys ≡ total (λ e. bit (same_key k (hash_key e))) es) → IsSomeAnd (entry_at n es) (λ e. e.hash ≡ h) → 0 < times (hashed h n) hashes.keys
+some_hash h n es hashes stands there = by (entry_at n es) refl there
   where
-    behind : key_before (hashed h n) (hashed h from) ≡ false
-    behind = grind (arith, nat_tests)
+    by : (o : Option Entry) → entry_at n es ≡ o → IsSomeAnd o (λ e. e.hash ≡ h) → 0 < times (hashed h n) hashes.keys
+    by None is hash = absurd hash
+    by (Some e) is hash = key_stands (hashed h n) hash_key n es e hashes stands is (λ i. record { major = hash i; minor = entry-serial n es e is i })
 
-    serial_is : (xs : List Entry) (e : Entry) → entry_at n xs ≡ Some e → e.serial ≡ n
-    serial_is [] e s = absurd cc
-    serial_is (x ∷ xs) e s = elim (has_serial n x) as (λ v. has_serial n x ≡ v → cond v (Some x) (entry_at n xs) ≡ Some e → e.serial ≡ n) [
-      | true ↦ λ p f. let same : x ≡ e = cc in let at : x.serial ≡ n = grind (arith, nat_tests) in subst (λ (y : Entry). y.serial ≡ n) same at
-      | false ↦ λ p f. serial_is xs e f
-    ] refl s
+-- ---- the least of those that a walk gives
 
-    at_least : (k : Key) → key_before k (hashed h from) ≡ false → key_before (hashed h n) k ≡ false → (k.major ≡ h) × (k.minor ≤ n)
-    at_least k a b = (grind (arith, nat_tests), grind (arith, nat_tests))
+-- so far as the walk has come
+pub record IsLeastSoFar (from : ℕ) (rest all : List ℕ) (least : Option ℕ) : Type 0 where
+  pub fewer : (n : ℕ) → count n rest ≤ count n all
+  pub found : MatchOption least (Unit {0}) (λ m. (from ≤ m) × (0 < count m all))
+  pub smallest : (n : ℕ) → from ≤ n → 0 < count n all → count n rest ≡ 0 → IsSomeAnd least (λ m. m ≤ n)
 
-    by : (e : Option Entry) → entry_at n es ≡ e → IsSomeAnd e (λ e. e.hash ≡ h) → (o : Option Key) → IsLeastFrom (hashed h from) hashes.keys o → (k : Key) × (o ≡ Some k) × (k.major ≡ h) × (k.minor ≤ n)
-    by None is hash o l = absurd hash
-    by (Some e) is hash None l = absurd (omega (arith, l (hashed h n) behind, key_stands (hashed h n) hash_key n es e hashes stands is (λ i. record { major = hash i; minor = serial_is es e is i })))
-    by (Some e) is hash (Some k) l =
-        let some = key_stands (hashed h n) hash_key n es e hashes stands is (λ i. record { major = hash i; minor = serial_is es e is i }) in
-        let t = at_least k l.0 (l.2 (hashed h n) behind some) in
-        (k, refl, t.0, t.1)
+pub least-none : (from : ℕ) (all : List ℕ) → IsLeastSoFar from all all None
+least-none from all = record { fewer = λ n. omega arith; found = tt; smallest = λ n low some none. absurd (omega (arith, some, none)) }
+
+pub least-more : (from n : ℕ) (rest all : List ℕ) (least : Option ℕ) → IsLeastSoFar from (n ∷ rest) all least → IsLeastSoFar from rest all (least_from from least n)
+least-more from n rest all least h = record {
+  fewer = λ m. omega (arith, h.fewer m);
+  found = found least h.found;
+  smallest = λ m low some none. small m least low (elim (cases_eq n m) [ inl same ↦ inl same | inr other ↦ inr (h.smallest m low some (let no : bit (n == m) ≡ 0 = rw (ne_eqb n m other) refl in omega (arith, no, none))) ]);
+}
+  where
+    there : 0 < count n all
+    there = let one : bit (n == n) ≡ 1 = rw (eq-eqb n n refl) refl in omega (arith, h.fewer n, one)
+
+    found : (o : Option ℕ) → MatchOption o (Unit {0}) (λ m. (from ≤ m) × (0 < count m all)) → MatchOption (least_from from o n) (Unit {0}) (λ m. (from ≤ m) × (0 < count m all))
+    found None q =
+        elim (nat_lt n from) as (λ v. nat_lt n from ≡ v → MatchOption (cond v None (Some n)) (Unit {0}) (λ m. (from ≤ m) × (0 < count m all))) [
+          | true ↦ λ e. tt
+          | false ↦ λ e. (ltb-false n from e, there)
+        ] refl
+    found (Some k) q =
+        elim (nat_lt n from) as (λ v. nat_lt n from ≡ v → MatchOption (cond v (Some k) (Some (min k n))) (Unit {0}) (λ m. (from ≤ m) × (0 < count m all))) [
+          | true ↦ λ e. q
+          | false ↦ λ e. elim (cases_lt k n) [
+            | inl l ↦ (let is : min k n ≡ k = omega (arith, l) in rw is q)
+            | inr g ↦ (let is : min k n ≡ n = omega (arith, g) in rw is (ltb-false n from e, there))
+          ]
+        ] refl
+
+    small : (m : ℕ) (o : Option ℕ) → from ≤ m → (n ≡ m) ⊎ IsSomeAnd o (λ k. k ≤ m) → IsSomeAnd (least_from from o n) (λ k. k ≤ m)
+    small m None low (inl same) = rw (le-ltb n from (omega (arith, same, low))) (omega (arith, same))
+    small m None low (inr none) = absurd none
+    small m (Some k) low (inl same) = rw (le-ltb n from (omega (arith, same, low))) (omega (arith, same))
+    small m (Some k) low (inr l) =
+        elim (nat_lt n from) as (λ v. IsSomeAnd (cond v (Some k) (Some (min k n))) (λ j. j ≤ m)) [
+          | true ↦ l
+          | false ↦ omega (arith, l)
+        ]
+
+-- after the last one
+pub least_some : (h from : ℕ) (es : List Entry) (hashes : Keys) (rest all : List ℕ) (o : Option ℕ) → ((n : ℕ) → total (λ e. bit (has_serial n e)) es ≤ 1) → ((k : Key) → times k hashes.keys ≡ total (λ e. bit (same_key k (hash_key e))) es) → ((n : ℕ) → count n all ≡ times (hashed h n) hashes.keys)
+    → IsLeastSoFar from rest all o → IfSome o (λ n. (from ≤ n) × IsSomeAnd (entry_at n es) (λ e. e.hash ≡ h))
+least_some h from es hashes rest all None once stands given so = tt
+least_some h from es hashes rest all (Some n) once stands given so = (so.found.0, hash_some h n es hashes once stands (omega (arith, so.found.1, given n)))
+
+pub least_least : (h from : ℕ) (es : List Entry) (hashes : Keys) (rest all : List ℕ) (o : Option ℕ) → ((k : Key) → times k hashes.keys ≡ total (λ e. bit (same_key k (hash_key e))) es) → ((n : ℕ) → count n all ≡ times (hashed h n) hashes.keys)
+    → IsLeastSoFar from rest all o → rest ≡ [] → (n : ℕ) → from ≤ n → IsSomeAnd (entry_at n es) (λ e. e.hash ≡ h) → IsSomeAnd o (λ k. k ≤ n)
+least_least h from es hashes rest all o stands given so none n low there = so.smallest n low (omega (arith, given n, some_hash h n es hashes stands there)) (ap (count n) none)

@@ -1,45 +1,33 @@
 -- Tables in numbered slots: what looking up finds.
-use Rattle.std.proofs.Common.{◌≡◌, ℕ, ◌+◌, ◌<◌, ◌≤◌, ◌^◌, zero, suc, Bool, true, false, cond, not, nat_lt, List, [], ◌∷◌, ◌++◌, map, length, length-append, set, get_or, refl, sym, ap, ◌∙◌, Option, Some, None, ◌==◌, arith}
+use Rattle.std.proofs.Common.{◌≡◌, ℕ, ◌+◌, ◌<◌, ◌≤◌, ◌^◌, zero, suc, Bool, true, false, cond, nat_lt, List, [], ◌∷◌, ◌++◌, map, length, length-append, set, get_or, refl, sym, ap, ◌∙◌, Option, Some, None, ◌==◌, arith}
 use Rattle.std.specs.List.{AllByRecursion, find, slice_get}
 use Rattle.std.specs.Option.{IsSome, option_map}
 use Rattle.std.proofs.lemmas.Option.{none-some, same_Some, slice_get_read}
+use Rattle.std.proofs.lemmas.Bool.{false≢true}
 use Rattle.std.proofs.lemmas.Bool.Decides.{nat_tests}
 use Rattle.qc_types.specs.declared.names.TableName.{TableName}
 use Rattle.qc_tiles.specs.declared.blocks.Move.{Move}
 use Rattle.qc_index.specs.declared.keys.Key.{Key}
-use Rattle.qc_index.specs.Keys.{key_before}
+use Rattle.qc_index.specs.Counts.{count}
 use Rattle.qc_dir.specs.declared.tables.TableBlock.{TableBlock}
 use Rattle.qc_dir.specs.Directory.{block_of, is_block_of}
-use Rattle.qc_dir.specs.Keys.{Keys, total, bit, times, same_key, IsLeastFrom}
-use Rattle.qc_dir.specs.Slots.{Numbered, Tabled, IsSlots, IsInOrder, held_from, moved_numbered, NoneUnder, IsNextUnder, is_of, has_number, number_of, numbered_at, name_hash, name_key, place_key, numbers_from, blocks_at}
+use Rattle.qc_dir.specs.Keys.{Keys, total, bit, times, same_key}
+use Rattle.qc_dir.specs.Indexed.{holding}
+use Rattle.qc_dir.specs.Slots.{Numbered, Tabled, IsSlots, IsInOrder, held_from, moved_numbered, is_of, has_number, number_of, numbered_at, name_hash, name_key, place_key, blocks_at}
 use Rattle.qc_dir.proofs.KeyCounts.{same_itself, same_both}
 use Rattle.qc_dir.proofs.Names.{same_is}
 use Rattle.qc_dir.proofs.SlotSteps.{each_counted, each_zip, each_both, each_numbered, slot_of, slot_at, held-rising, get-within, held-take, total-permutation}
 use Rattle.qc_dir.proofs.Totals.{total-append}
 
--- ---- the next with a hash
+-- ---- the search by name
 
 abbrev numbered_key : ℕ → ℕ → Key
 numbered_key major n = record { major = major; minor = n }
-
-from_key : (hash from n : ℕ) → from ≤ n → key_before (numbered_key hash n) (numbered_key hash from) ≡ false
-from_key hash from n h = grind (arith, nat_tests)
 
 named_counts : (names : Keys) (held : List Numbered) (h : Numbered) (hash : ℕ) → ((k : Key) → times k names.keys ≡ total (λ g. bit (same_key k (name_key g))) held) → ((w : Numbered → ℕ) → w h ≤ total w held) → name_hash h.table.table ≡ hash → 0 < times (numbered_key hash h.number) names.keys
 named_counts names held h hash by_name counts same =
     let itself : bit (same_key (numbered_key hash h.number) (name_key h)) ≡ 1 = rw (← same, same_itself (name_key h)) refl in
     omega (arith, by_name (numbered_key hash h.number), counts (λ g. bit (same_key (numbered_key hash h.number) (name_key g))), itself)
-
-pub none_under : (hash from : ℕ) (names : Keys) (held : List Numbered) (o : Option Key) → ((k : Key) → times k names.keys ≡ total (λ g. bit (same_key k (name_key g))) held) → IsLeastFrom (numbered_key hash from) names.keys o → ((k : Key) → o ≡ Some k → k.major ≡ hash → ⊥) → NoneUnder hash from held
-none_under hash from names held None by_name least other = each_counted (λ h. from ≤ h.number → name_hash h.table.table ≡ hash → ⊥) held (λ h counts low same.
-    let some = named_counts names held h hash by_name counts same in
-    omega (arith, some, least (numbered_key hash h.number) (from_key hash from h.number low)))
-none_under hash from names held (Some k) by_name least other = each_counted (λ h. from ≤ h.number → name_hash h.table.table ≡ hash → ⊥) held (λ h counts low same.
-    let some = named_counts names held h hash by_name counts same in
-    other k refl (between k h.number least.0 (least.2 (numbered_key hash h.number) (from_key hash from h.number low) some)))
-  where
-    between : (k : Key) (n : ℕ) → key_before k (numbered_key hash from) ≡ false → key_before (numbered_key hash n) k ≡ false → k.major ≡ hash
-    between k n a b = grind (arith, nat_tests)
 
 -- a key that stands with a number, stands for a table with that number
 numbered_there : (f : Numbered → ℕ) (k : Key) (held : List Numbered) → 0 < total (λ h. bit (same_key k (numbered_key (f h) h.number))) held → IsSome (numbered_at k.minor held)
@@ -53,107 +41,69 @@ numbered_there f k (h ∷ hs) some =
     none : has_number k.minor h ≡ false → bit (same_key k (numbered_key (f h) h.number)) ≡ 0
     none e = let test : same_key k (numbered_key (f h) h.number) ≡ false = grind (arith, nat_tests) in rw test refl
 
-pub next_under : (hash from : ℕ) (names : Keys) (held : List Numbered) (k : Key) → ((k : Key) → times k names.keys ≡ total (λ g. bit (same_key k (name_key g))) held) → IsLeastFrom (numbered_key hash from) names.keys (Some k) → k.major ≡ hash → IsNextUnder hash from held k.minor
-next_under hash from names held k by_name least same = record {
-  there = numbered_there (λ h. name_hash h.table.table) k held (omega (arith, by_name k, least.1));
-  behind = behind k least.0 same;
-  between = each_counted (λ h. from ≤ h.number → h.number < k.minor → name_hash h.table.table ≡ hash → ⊥) held (λ h counts low high is.
-      let some = named_counts names held h hash by_name counts is in
-      omega (arith, high, above k h.number same (least.2 (numbered_key hash h.number) (from_key hash from h.number low) some)));
+-- The numbers that are left have that of the table, if it has one, and each is a number of some table.
+pub record AreLeft (t : TableName) (numbers : List ℕ) (held : List Numbered) : Type 0 where
+  pub left : AllByRecursion (λ h. is_of t h ≡ true → 0 < count h.number numbers) held
+  pub there : (n : ℕ) → 0 < count n numbers → IsSome (numbered_at n held)
+
+pub all_left : (t : TableName) (hash : ℕ) (names : Keys) (held : List Numbered) (numbers : List ℕ) → hash ≡ name_hash t → ((k : Key) → times k names.keys ≡ total (λ g. bit (same_key k (name_key g))) held) → ((n : ℕ) → count n numbers ≡ times (numbered_key hash n) names.keys) → AreLeft t numbers held
+all_left t hash names held numbers is by_name stands = record {
+  left = each_counted (λ h. is_of t h ≡ true → 0 < count h.number numbers) held (λ h counts of. omega (arith, stands h.number, named_counts names held h hash by_name counts (ap name_hash (sym (same_is t h.table.table of)) ∙ sym is)));
+  there = λ n some. numbered_there (λ h. name_hash h.table.table) (numbered_key hash n) held (omega (arith, some, stands n, by_name (numbered_key hash n)));
+}
+
+pub next_there : (t : TableName) (n : ℕ) (rest : List ℕ) (held : List Numbered) → AreLeft t (n ∷ rest) held → IsSome (numbered_at n held)
+next_there t n rest held h = let one : bit (n == n) ≡ 1 = grind (arith, nat_tests) in h.there n (omega (arith, one))
+
+pub left_without : (t : TableName) (n : ℕ) (rest : List ℕ) (held : List Numbered) → AreLeft t (n ∷ rest) held → AllByRecursion (λ h. h.number ≡ n → false ≡ is_of t h) held → AreLeft t rest held
+left_without t n rest held h differs = record {
+  left = each_zip (λ h. is_of t h ≡ true → 0 < count h.number (n ∷ rest)) (λ h. h.number ≡ n → false ≡ is_of t h) (λ h. is_of t h ≡ true → 0 < count h.number rest) held other h.left differs;
+  there = λ m some. h.there m (omega (arith, some));
 }
   where
-    behind : (k : Key) → key_before k (numbered_key hash from) ≡ false → k.major ≡ hash → from ≤ k.minor
-    behind k a b = grind (arith, nat_tests)
-
-    above : (k : Key) (n : ℕ) → k.major ≡ hash → key_before (numbered_key hash n) k ≡ false → k.minor ≤ n
-    above k n a b = grind (arith, nat_tests)
-
--- ---- the search by name
-
--- so far as the search has come, none is of the table
-abbrev pub NotBelow : TableName → ℕ → List Numbered → Type 0
-NotBelow t from held = AllByRecursion (λ h. h.number < from → is_of t h ≡ false) held
-
-pub none_yet : (t : TableName) (held : List Numbered) → NotBelow t 0 held
-none_yet t held = each_counted (λ h. h.number < 0 → is_of t h ≡ false) held (λ h counts low. absurd (omega (arith, low)))
-
-other_name : (t : TableName) (hash : ℕ) (h : Numbered) → hash ≡ name_hash t → (name_hash h.table.table ≡ hash → ⊥) → is_of t h ≡ false
-other_name t hash h is other =
-    elim (is_of t h) as (λ v. is_of t h ≡ v → v ≡ false) [
-      | true ↦ λ e. absurd (other (ap name_hash (sym (same_is t h.table.table e)) ∙ sym is))
-      | false ↦ λ e. refl
-    ] refl
-
-not_between : (t : TableName) (hash from n : ℕ) (held : List Numbered) → hash ≡ name_hash t → NotBelow t from held → AllByRecursion (λ h. from ≤ h.number → h.number < n → name_hash h.table.table ≡ hash → ⊥) held → NotBelow t n held
-not_between t hash from n held is low between = each_zip (λ h. h.number < from → is_of t h ≡ false) (λ h. from ≤ h.number → h.number < n → name_hash h.table.table ≡ hash → ⊥) (λ h. h.number < n → is_of t h ≡ false) held
-    (λ h p q high. by h p q high (nat_lt h.number from) refl) low between
-  where
-    by : (h : Numbered) → (h.number < from → is_of t h ≡ false) → (from ≤ h.number → h.number < n → name_hash h.table.table ≡ hash → ⊥) → h.number < n → (b : Bool) → nat_lt h.number from ≡ b → is_of t h ≡ false
-    by h p q high true e = p (let lower : h.number < from = grind (arith, nat_tests) in lower)
-    by h p q high false e = other_name t hash h is (q (let higher : from ≤ h.number = grind (arith, nat_tests) in higher) high)
-
-pub searched_more : (t : TableName) (hash from n : ℕ) (held : List Numbered) → hash ≡ name_hash t → NotBelow t from held → IsNextUnder hash from held n → AllByRecursion (λ h. h.number ≡ n → false ≡ is_of t h) held → NotBelow t (n + 1) held
-searched_more t hash from n held is low next differs = each_zip (λ h. h.number < n → is_of t h ≡ false) (λ h. h.number ≡ n → false ≡ is_of t h) (λ h. h.number < n + 1 → is_of t h ≡ false) held
-    (λ h p q high. by h p q high (nat_lt h.number n) refl) (not_between t hash from n held is low next.between) differs
-  where
-    by : (h : Numbered) → (h.number < n → is_of t h ≡ false) → (h.number ≡ n → false ≡ is_of t h) → h.number < n + 1 → (b : Bool) → nat_lt h.number n ≡ b → is_of t h ≡ false
-    by h p q high true e = p (let lower : h.number < n = grind (arith, nat_tests) in lower)
-    by h p q high false e = sym (q (let higher : h.number ≡ n = grind (arith, nat_tests) in higher))
-
-pub found_number : (t : TableName) (hash from n : ℕ) (held : List Numbered) → hash ≡ name_hash t → NotBelow t from held → IsNextUnder hash from held n → IsInOrder held → AllByRecursion (λ h. h.number ≡ n → true ≡ is_of t h) held → Some n ≡ number_of t held
-found_number t hash from n held is low next rising same = sought held rising next.there (not_between t hash from n held is low next.between) same
-  where
-    absent : (m : ℕ) (hs : List Numbered) → n < m → AllByRecursion (λ g. m < g.number) hs → IsSome (numbered_at n hs) → ⊥
-    absent m [] e all there = cc there
-    absent m (h ∷ hs) e all there = let test : has_number n h ≡ false = other h.number all.0 in absent m hs e all.1 (rw test at there)
+    other : (h : Numbered) → (is_of t h ≡ true → 0 < count h.number (n ∷ rest)) → (h.number ≡ n → false ≡ is_of t h) → is_of t h ≡ true → 0 < count h.number rest
+    other h p q of =
+        let none : bit (n == h.number) ≡ 0 = by (n == h.number) refl in
+        omega (arith, p of, none)
       where
-        other : (k : ℕ) → m < k → (k == n) ≡ false
-        other k l = grind (arith, nat_tests)
+        by : (b : Bool) → (n == h.number) ≡ b → bit b ≡ 0
+        by true e = let same : h.number ≡ n = grind (arith, nat_tests) in absurd (false≢true (q same ∙ of))
+        by false e = refl
 
-    later : (h : Numbered) (hs : List Numbered) → (Some n ≡ number_of t hs) → (h.number < n → is_of t h ≡ false) → AllByRecursion (λ g. h.number < g.number) hs → has_number n h ≡ false → IsSome (numbered_at n hs) → (b : Bool) → nat_lt h.number n ≡ b → Some n ≡ number_of t (h ∷ hs)
-    later h hs rest below all e k true f = let lower : h.number < n = grind (arith, nat_tests) in rw (below lower) rest
-    later h hs rest below all e k false f = absurd (absent h.number hs (let higher : n < h.number = grind (arith, nat_tests) in higher) all k)
+-- a table that stands under a number
+counted_at : (t : TableName) (n : ℕ) (hs : List Numbered) → IsSome (numbered_at n hs) → AllByRecursion (λ h. h.number ≡ n → true ≡ is_of t h) hs → 0 < holding t hs
+counted_at t n [] there all = absurd (cc there)
+counted_at t n (h ∷ hs) there all =
+    elim (has_number n h) as (λ v. has_number n h ≡ v → IsSome (cond v (Some h) (numbered_at n hs)) → 0 < bit (is_of t h) + holding t hs) [
+      | true ↦ λ e k. (let same : h.number ≡ n = grind (arith, nat_tests) in omega (arith, ap bit (sym (all.0 same))))
+      | false ↦ λ e k. omega (arith, counted_at t n hs k all.1)
+    ] refl there
 
-    sought : (hs : List Numbered) → IsInOrder hs → IsSome (numbered_at n hs) → NotBelow t n hs → AllByRecursion (λ h. h.number ≡ n → true ≡ is_of t h) hs → Some n ≡ number_of t hs
-    sought [] rising there below shows = absurd (cc there)
-    sought (h ∷ hs) rising there below shows =
-        elim (has_number n h) as (λ v. has_number n h ≡ v → IsSome (cond v (Some h) (numbered_at n hs)) → Some n ≡ number_of t (h ∷ hs)) [
-          | true ↦ λ e k. let same : h.number ≡ n = grind (arith, nat_tests) in rw (← shows.0 same) (ap (λ m. Some m) (sym same))
-          | false ↦ λ e k. later h hs (sought hs rising.1 k below.1 shows.1) below.0 rising.0 e k (nat_lt h.number n) refl
-        ] refl there
-
-pub not_found : (t : TableName) (hash from : ℕ) (held : List Numbered) → hash ≡ name_hash t → NotBelow t from held → NoneUnder hash from held → None ≡ number_of t held
-not_found t hash from held is low none = sym (ap (option_map (λ (h : Numbered). h.number)) (none_of held (each_zip (λ h. h.number < from → is_of t h ≡ false) (λ h. from ≤ h.number → name_hash h.table.table ≡ hash → ⊥) (λ h. is_of t h ≡ false) held (λ h p q. by h p q (nat_lt h.number from) refl) low none)))
-  where
-    by : (h : Numbered) → (h.number < from → is_of t h ≡ false) → (from ≤ h.number → name_hash h.table.table ≡ hash → ⊥) → (b : Bool) → nat_lt h.number from ≡ b → is_of t h ≡ false
-    by h p q true e = p (let lower : h.number < from = grind (arith, nat_tests) in lower)
-    by h p q false e = other_name t hash h is (q (let higher : from ≤ h.number = grind (arith, nat_tests) in higher))
-
-    none_of : (hs : List Numbered) → AllByRecursion (λ h. is_of t h ≡ false) hs → find (is_of t) hs ≡ None
-    none_of [] all = refl
-    none_of (h ∷ hs) all = rw all.0 (none_of hs all.1)
-
--- fewer are left behind a number that was there
-pub fewer_from : (from n : ℕ) (held : List Numbered) → from ≤ n → IsSome (numbered_at n held) → numbers_from (n + 1) held < numbers_from from held
-fewer_from from n [] low there = absurd (cc there)
-fewer_from from n (h ∷ hs) low there =
-    elim (has_number n h) as (λ v. has_number n h ≡ v → IsSome (cond v (Some h) (numbered_at n hs)) → numbers_from (n + 1) (h ∷ hs) < numbers_from from (h ∷ hs)) [
-      | true ↦ λ e k. let same : h.number ≡ n = grind (arith, nat_tests) in omega (arith, gone same, stood same, no_more hs)
-      | false ↦ λ e k. omega (arith, fewer_from from n hs low k, less h.number)
+pub found_number : (t : TableName) (n : ℕ) (hs : List Numbered) → holding t hs ≤ 1 → IsSome (numbered_at n hs) → AllByRecursion (λ h. h.number ≡ n → true ≡ is_of t h) hs → Some n ≡ number_of t hs
+found_number t n [] once there all = absurd (cc there)
+found_number t n (h ∷ hs) once there all =
+    elim (has_number n h) as (λ v. has_number n h ≡ v → IsSome (cond v (Some h) (numbered_at n hs)) → Some n ≡ number_of t (h ∷ hs)) [
+      | true ↦ λ e k. (let same : h.number ≡ n = grind (arith, nat_tests) in rw (← all.0 same) (ap (λ m. Some m) (sym same)))
+      | false ↦ λ e k. off k (found_number t n hs (omega (arith, once)) k all.1)
     ] refl there
   where
-    less : (m : ℕ) → bit (not (nat_lt m (n + 1))) ≤ bit (not (nat_lt m from))
-    less m = grind (arith, nat_tests)
+    off : IsSome (numbered_at n hs) → Some n ≡ number_of t hs → Some n ≡ number_of t (h ∷ hs)
+    off k rec =
+        elim (is_of t h) as (λ v. bit v + holding t hs ≤ 1 → Some n ≡ option_map (λ (g : Numbered). g.number) (cond v (Some h) (find (is_of t) hs))) [
+          | true ↦ λ q. absurd (omega (arith, q, counted_at t n hs k all.1))
+          | false ↦ λ q. rec
+        ] once
 
-    gone : h.number ≡ n → bit (not (nat_lt h.number (n + 1))) ≡ 0
-    gone e = grind (arith, nat_tests)
-
-    stood : h.number ≡ n → bit (not (nat_lt h.number from)) ≡ 1
-    stood e = grind (arith, nat_tests)
-
-    no_more : (gs : List Numbered) → numbers_from (n + 1) gs ≤ numbers_from from gs
-    no_more [] = omega arith
-    no_more (g ∷ gs) = omega (arith, less g.number, no_more gs)
+pub not_found : (t : TableName) (held : List Numbered) → AreLeft t [] held → None ≡ number_of t held
+not_found t held h = sym (ap (option_map (λ (g : Numbered). g.number)) (none_of held h.left))
+  where
+    none_of : (hs : List Numbered) → AllByRecursion (λ h. is_of t h ≡ true → 0 < 0) hs → find (is_of t) hs ≡ None
+    none_of [] all = refl
+    none_of (g ∷ gs) all =
+        elim (is_of t g) as (λ v. (v ≡ true → 0 < 0) → cond v (Some g) (find (is_of t) gs) ≡ None) [
+          | true ↦ λ q. absurd (omega (arith, q refl))
+          | false ↦ λ q. none_of gs all.1
+        ] all.0
 
 -- ---- the block of a table
 
@@ -204,16 +154,8 @@ none_count place (h ∷ hs) all = let test : (h.table.block.first == place) ≡ 
     differ : (n : ℕ) → (n ≡ place → ⊥) → (n == place) ≡ false
     differ n e = grind (arith, nat_tests)
 
-pub none_placed : (place : ℕ) (places : Keys) (held : List Numbered) (o : Option Key) → ((k : Key) → times k places.keys ≡ total (λ g. bit (same_key k (place_key g))) held) → IsLeastFrom (numbered_key place 0) places.keys o → ((k : Key) → o ≡ Some k → k.major ≡ place → ⊥) → blocks_at place held ≡ 0
-none_placed place places held None by_place least other = none_count place held (each_counted (λ h. h.table.block.first ≡ place → ⊥) held (λ h counts same.
-    let some = placed_counts place h places held by_place counts same in
-    omega (arith, some, least (numbered_key place h.number) (from_key place 0 h.number (omega arith)))))
-none_placed place places held (Some k) by_place least other = none_count place held (each_counted (λ h. h.table.block.first ≡ place → ⊥) held (λ h counts same.
-    let some = placed_counts place h places held by_place counts same in
-    other k refl (between k h.number least.0 (least.2 (numbered_key place h.number) (from_key place 0 h.number (omega arith)) some))))
-  where
-    between : (k : Key) (n : ℕ) → key_before k (numbered_key place 0) ≡ false → key_before (numbered_key place n) k ≡ false → k.major ≡ place
-    between k n a b = grind (arith, nat_tests)
+pub none_placed : (place : ℕ) (places : Keys) (held : List Numbered) → ((k : Key) → times k places.keys ≡ total (λ g. bit (same_key k (place_key g))) held) → ((n : ℕ) → times (numbered_key place n) places.keys ≡ 0) → blocks_at place held ≡ 0
+none_placed place places held by_place none = none_count place held (each_counted (λ h. h.table.block.first ≡ place → ⊥) held (λ h counts same. omega (arith, placed_counts place h places held by_place counts same, none h.number)))
 
 pub placed_there : (k : Key) (places : Keys) (held : List Numbered) → ((k : Key) → times k places.keys ≡ total (λ g. bit (same_key k (place_key g))) held) → 0 < times k places.keys → IsSome (numbered_at k.minor held)
 placed_there k places held by_place some = numbered_there (λ h. h.table.block.first) k held (omega (arith, by_place k, some))

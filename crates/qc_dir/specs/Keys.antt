@@ -1,22 +1,14 @@
 -- Sets of keys, by how often a key stands in them.
-use Rattle.std.specs.Prelude.{◌≡◌, ℕ, ◌+◌, ◌<◌, ◌^◌, Bool, true, false, not, nat_lt, ◌&&◌, map, List, [], ◌∷◌, Option, Some, None, MatchOption, ◌==◌, if◌then◌else◌}
-use Rattle.std.specs.List.{AllByRecursion, filter}
+use Rattle.std.specs.Prelude.{◌≡◌, ℕ, ◌+◌, ◌*◌, ◌/◌, ◌%◌, ◌<◌, ◌^◌, Bool, false, ◌&&◌, List, [], ◌∷◌, ◌++◌, length, Option, Some, None, MatchOption, min, nat_lt, ◌==◌, if◌then◌else◌, bit_and}
 use Rattle.qc_index.specs.declared.keys.Key.{Key}
-use Rattle.qc_index.specs.Keys.{key_before}
+use Rattle.qc_index.specs.Linked.{Linked}
+use Rattle.qc_dir.specs.Filed.{in_slot, IsFiled}
+pub use Rattle.qc_index.specs.Counts.{total, bit}
 
--- what contracts see of a set of keys: the keys in their order, and how many more there is room for
+-- what contracts see of a set of keys: the keys in any order, and how many more there is room for
 pub record Keys : Type 0 where
   pub keys : List Key
   pub room : ℕ
-
--- the sum of a number of each member
-abbrev pub total : {X : Type 0} → (X → ℕ) → List X → ℕ
-total w [] = 0
-total w (x ∷ xs) = w x + total w xs
-
--- 1 where it holds
-abbrev pub bit : Bool → ℕ
-bit b = if b then 1 else 0
 
 abbrev pub same_key : Key → Key → Bool
 same_key a b = a.major == b.major && a.minor == b.minor
@@ -25,27 +17,51 @@ same_key a b = a.major == b.major && a.minor == b.minor
 abbrev pub times : Key → List Key → ℕ
 times k keys = total (λ m. bit (same_key k m)) keys
 
--- the first that doesn't stand before a key
-abbrev pub first_key : Key → List Key → Option Key
-first_key key [] = None
-first_key key (k ∷ ks) = if key_before k key then first_key key ks else Some k
+-- none of the keys has this first number, or this is the second number of one that has
+abbrev pub IsAnyUnder : ℕ → List Key → Option ℕ → Type 0
+IsAnyUnder major keys found = MatchOption found ((n : ℕ) → times (record { major = major; minor = n }) keys ≡ 0) (λ n. 0 < times (record { major = major; minor = n }) keys)
 
--- none of them stands before the key, or this is one of them that doesn't, and none of the others that don't stands before it
-abbrev pub IsLeastFrom : Key → List Key → Option Key → Type 0
-IsLeastFrom key keys found = MatchOption found ((k : Key) → key_before k key ≡ false → times k keys ≡ 0) (λ m. (key_before m key ≡ false) × (0 < times m keys) × ((k : Key) → key_before k key ≡ false → 0 < times k keys → key_before k m ≡ false))
+-- the lesser of two numbers, of those that are not below the first
+abbrev pub least_from : ℕ → Option ℕ → ℕ → Option ℕ
+least_from from None n = if nat_lt n from then None else Some n
+least_from from (Some m) n = if nat_lt n from then Some m else Some (min m n)
 
--- each key stands before those behind it
-abbrev pub IsStrict : List Key → Type 0
-IsStrict [] = Unit {0}
-IsStrict (x ∷ xs) = AllByRecursion (λ y. key_before x y ≡ true) xs × IsStrict xs
+-- ---- where the keys stand
 
-abbrev pub HasMinors : List Key → Type 0
-HasMinors keys = AllByRecursion (λ k. k.minor < 2 ^ 64) keys
+-- one of the lists from 1 on, in which a number's keys stand
+unfoldable pub bucket_of : ℕ → ℕ → ℕ
+bucket_of mask n = 1 + bit_and (n * 11400714819323198485 % 2 ^ 64 / 2 ^ 32) mask
 
-abbrev pub is_under : ℕ → ℕ → Key → Bool
-is_under major from k = k.major == major && not (nat_lt k.minor from)
+-- one number for both
+unfoldable pub pair_of : Key → ℕ
+pair_of k = (k.major + k.minor * 10123456789012345679 % 2 ^ 64) % 2 ^ 64
 
--- the second numbers of the keys with this first number, from one on
-abbrev pub minors_under : ℕ → Option ℕ → List Key → List ℕ
-minors_under major None keys = []
-minors_under major (Some from) keys = map (λ k. k.minor) (filter (is_under major from) keys)
+-- free slots stand in list 0, and keys in those of their first number
+abbrev pub major_home : ℕ → Option Key → ℕ
+major_home mask None = 0
+major_home mask (Some k) = bucket_of mask k.major
+
+-- or in those of both numbers
+abbrev pub pair_home : ℕ → Option Key → ℕ
+pair_home mask None = 0
+pair_home mask (Some k) = bucket_of mask (pair_of k)
+
+abbrev pub is_key : Key → Option Key → Bool
+is_key k None = false
+is_key k (Some m) = same_key k m
+
+-- the second number of a key with this first one
+abbrev pub minor_under : ℕ → Option Key → List ℕ
+minor_under major None = []
+minor_under major (Some k) = if k.major == major then k.minor ∷ [] else []
+
+-- those of the keys in the slots with these numbers
+abbrev pub minors_under : ℕ → List (Option Key) → List ℕ → List ℕ
+minors_under major slots [] = []
+minors_under major slots (n ∷ ns) = minor_under major (in_slot n slots) ++ minors_under major slots ns
+
+pub record IsKeySet (slots : List (Option Key)) (one two : Linked) (mask : ℕ) : Type 0 where
+  pub by_major : IsFiled (major_home mask) slots one
+  pub majors : length one.lists ≡ mask + 2
+  pub by_key : IsFiled (pair_home mask) slots two
+  pub pairs : length two.lists ≡ mask + 2

@@ -1,5 +1,6 @@
 pub mod Blocks
 pub mod Directory
+pub mod Filed
 pub mod Indexed
 pub mod Keys
 pub mod Slots

@@ -1,5 +1,5 @@
 -- The tables that have a block, each in a slot of its own, by whose number it is known as long as it has the block.
-use Rattle.std.specs.Prelude.{◌≡◌, ℕ, ◌+◌, ◌<◌, ◌≤◌, ◌^◌, Bool, List, [], ◌∷◌, map, length, slice_get, Option, Some, None, IsSome, option_map, nat_lt, not, ◌==◌}
+use Rattle.std.specs.Prelude.{◌≡◌, ℕ, ◌+◌, ◌<◌, ◌≤◌, ◌^◌, Bool, List, [], ◌∷◌, map, length, slice_get, Option, Some, None, option_map, ◌==◌}
 use Rattle.std.specs.List.{AllByRecursion, find}
 use Rattle.qc_types.specs.declared.names.TableName.{TableName}
 use Rattle.qc_sql.specs.Database.{same_table}
@@ -71,20 +71,6 @@ pub record IsSlots (slots : List (Option TableBlock)) (free : List ℕ) (capacit
 abbrev pub IsInOrder : List Numbered → Type 0
 IsInOrder [] = Unit {0}
 IsInOrder (h ∷ hs) = AllByRecursion (λ g. h.number < g.number) hs × IsInOrder hs
-
--- from a number on, none has a name with this hash
-abbrev pub NoneUnder : ℕ → ℕ → List Numbered → Type 0
-NoneUnder hash from held = AllByRecursion (λ h. from ≤ h.number → name_hash h.table.table ≡ hash → ⊥) held
-
--- this is the number of a table, none below it and from the other number on has a name with this hash
-pub record IsNextUnder (hash from : ℕ) (held : List Numbered) (n : ℕ) : Type 0 where
-  pub there : IsSome (numbered_at n held)
-  pub behind : from ≤ n
-  pub between : AllByRecursion (λ h. from ≤ h.number → h.number < n → name_hash h.table.table ≡ hash → ⊥) held
-
--- how many have a number from this one on
-abbrev pub numbers_from : ℕ → List Numbered → ℕ
-numbers_from n held = total (λ h. bit (not (nat_lt h.number n))) held
 
 abbrev pub moved_numbered : Move → Numbered → Numbered
 moved_numbered change h = record h { table = moved_table change h.table }

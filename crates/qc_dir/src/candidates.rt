@@ -1,64 +1,69 @@
 //! Walks over the keys with the same first number.
 
-ghost use Rattle.std.specs.Prelude.{◌≡◌, ◌∷◌, [], Some, MatchOption};
-ghost use Rattle.qc_dir.specs.Keys.{IsStrict, HasMinors, minors_under};
+ghost use Rattle.std.specs.Prelude.{◌≡◌, ◌<◌, ◌∷◌, [], MatchOption, length, option_to_list};
+ghost use Rattle.std.specs.List.{AllByRecursion};
+ghost use Rattle.qc_dir.specs.Filed.{in_slot};
+ghost use Rattle.qc_dir.specs.Keys.{minor_under, minors_under};
 
-use crate::keys::KeySet;
-use qc_index::Key;
+use qc_index::{Key, Walk};
 use std::marker::Model;
 
 /// The serials of the entries under a hash that were not given yet. Contracts see their list.
 #[derive(Drop)]
 pub struct Candidates<'a> {
-    keys: &'a KeySet,
+    slots: &'a [Option<Key>],
+    list: Walk<'a>,
     hash: u64,
-    from: Option<u64>,
 }
 
 impl<'a> Model for Candidates<'a> {
-    ghost use Rattle.std.specs.Prelude.{ℕ, List};
-    ghost use Rattle.qc_dir.specs.Keys.{IsStrict, HasMinors, minors_under};
+    ghost use Rattle.std.specs.Prelude.{ℕ, ◌<◌, List, length};
+    ghost use Rattle.std.specs.List.{AllByRecursion};
+    ghost use Rattle.qc_dir.specs.Keys.{minors_under};
 
     ghost Value = { List ℕ };
 
-    ghost view = { λ c. minors_under c.hash c.from c.keys.now.keys };
+    ghost view = { λ c. minors_under c.hash c.slots.now c.list };
 
-    ghost invariant = { λ c. IsStrict c.keys.now.keys × HasMinors c.keys.now.keys };
+    ghost invariant = { λ c. AllByRecursion (λ n. n < length c.slots.now) c.list };
 }
 
 impl<'a> Candidates<'a> {
-    /// All keys with this first number.
-    pub(crate) fn new(keys: &'a KeySet, hash: u64) -> Candidates<'a>
-        requires strict { IsStrict keys.now.keys }
-        requires fit { HasMinors keys.now.keys }
-        ensures { result ≡ minors_under hash (Some 0) keys.now.keys }
+    /// The second numbers of the keys with this first number, of those in the slots of a list.
+    pub(crate) fn new(slots: &'a [Option<Key>], list: Walk<'a>, hash: u64) -> Candidates<'a>
+        requires { AllByRecursion (λ n. n < length slots.now) list }
+        ensures { result ≡ minors_under hash slots.now list.entry }
     {
-        Candidates {
-            keys,
-            hash,
-            from: Some(0),
-        }
+        Candidates { slots, list, hash }
     }
 
     /// The next serial, each once. None exactly after the last.
     pub fn next(&mut self) -> Option<u64>
         ensures { MatchOption result ((self.old ≡ []) × (self.new ≡ [])) (λ n. self.old ≡ n ∷ self.new) }
     {
-        let Some(from) = self.from else {
-            return None;
-        };
-        self.from = None;
-        let Some(key) = self.keys.first_from(Key {
-            major: self.hash,
-            minor: from,
-        })
-        else {
-            return None;
-        };
-        if key.major != self.hash {
-            return None;
+        while let Some(slot) = self.list.next() {
+            let found = minor_in(self.slots, slot, self.hash);
+            if found.is_some() {
+                return found;
+            }
         }
-        self.from = key.minor.checked_add(1);
-        Some(key.minor)
+        None
+    }
+}
+
+/// The second number of the key in a slot, where it has this first one.
+fn minor_in(slots: &[Option<Key>], slot: u32, major: u64) -> Option<u64>
+    requires { slot < length slots.now }
+    ensures { option_to_list result ≡ minor_under major (in_slot slot slots.now) }
+{
+    match &slots[slot as usize] {
+        Some(key) => {
+            if key.major == major {
+                Some(key.minor)
+            } else {
+                None
+            }
+        }
+        None => None,
     }
 }

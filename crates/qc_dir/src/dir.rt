@@ -1,4 +1,4 @@
-//! The directory, with indexes that spare it walks.
+//! The directory, with lists that spare it walks.
 
 ghost use Rattle.std.specs.Prelude.{◌≡◌, ◌≢◌, ℕ, ◌+◌, ◌-◌, ◌*◌, ◌/◌, ◌<◌, ◌≤◌, ◌^◌, [], ◌∷◌, true, false, length, map, Some, None, IfOk, IsSome, IfSome, IsSomeAnd, MatchOption, IsPermutation};
 ghost use Rattle.std.specs.List.{list_any, AllByRecursion};
@@ -6,7 +6,7 @@ ghost use Rattle.std.specs.Option.{option_copied};
 ghost use Rattle.qc_index.specs.declared.keys.Key.{Key};
 ghost use Rattle.qc_dir.specs.Directory.{IsDirectory, entry_at, serials_under, block_of, names_table, oldest_idle, incomplete, AreFresh, AddsEntry, after_touch, after_complete, after_enter, after_leave, with_entries, RemovesEntry, after_shift, moved_entry};
 ghost use Rattle.qc_types.specs.declared.names.TableName.{TableName};
-ghost use Rattle.qc_dir.specs.Keys.{times};
+ghost use Rattle.qc_dir.specs.Keys.{times, least_from};
 ghost use Rattle.qc_dir.specs.Slots.{number_of};
 ghost use Rattle.qc_dir.specs.Indexed.{AddsTables, FreesName, holding, named_times, texts_at};
 
@@ -23,8 +23,9 @@ use std::alloc::Global;
 use std::marker::Model;
 
 /// The entries of the cache in the order of their use, and the blocks of the tables that they name, with room for a number of both that is taken once.
-/// Contracts see both lists, and the room for more. Each call but `new` costs a few logarithms of how many there are, `insert` and `remove` so many for
-/// each table of the entry, and `shift` for each block that stood at the place, as far as the hashes spread. None but `new` takes memory.
+/// Contracts see both lists, and the room for more. Each call but `new` takes constant time, as far as serials, hashes and places spread over their lists:
+/// `insert` and `remove` so much for each table of the entry, `candidate_from` for each entry under the hash, `shift` for each block that stood at the place,
+/// and `oldest_idle` for each entry that it passes. None but `new` takes memory.
 #[derive(Drop)]
 pub struct Dir {
     entries: Uses,
@@ -114,17 +115,12 @@ impl Dir {
         ensures least { (n : ℕ) → from ≤ n → IsSomeAnd (entry_at n self.now.entries) (λ e. e.hash ≡ hash) → IsSomeAnd result (λ k. k ≤ n) }
         ensures valid { IsDirectory self.now }
     {
-        let Some(key) = self.hashes.first_from(Key {
-            major: hash,
-            minor: from,
-        })
-        else {
-            return None;
-        };
-        if key.major != hash {
-            return None;
+        let mut least = None;
+        let mut serials = self.hashes.under(hash);
+        while let Some(serial) = serials.next() {
+            least = least_from(from, least, serial);
         }
-        Some(key.minor)
+        least
     }
 
     /// The entry with a serial, borrowed, if any.
@@ -234,20 +230,11 @@ impl Dir {
         let Some(number) = self.tables.find(table) else {
             return None;
         };
-        let Some(key) = self.named.first_from(Key {
-            major: u64::from(number),
-            minor: 0,
-        })
-        else {
-            return None;
-        };
-        if key.major != u64::from(number) {
-            return None;
-        }
-        Some(key.minor)
+        self.named.any_under(u64::from(number))
     }
 
-    /// The serial of the least recently used entry that is complete and without users. None exactly where there is none.
+    /// The serial of the least recently used entry that is complete and without users. None exactly where there is none. It passes the entries that were
+    /// used before that one, all in use or not complete.
     pub fn oldest_idle(&self) -> Option<u64>
         ensures serial { result ≡ oldest_idle self.now.entries }
         ensures valid { IsDirectory self.now }
@@ -276,19 +263,15 @@ impl Dir {
         ensures none { result ≡ false → texts_at change.from self.new.entries ≡ 0 }
         ensures valid { IsDirectory self.new }
     {
-        let Some(key) = self.texts.first_from(Key {
-            major: u64::from(change.from),
-            minor: 0,
-        })
-        else {
+        let Some(serial) = self.texts.any_under(u64::from(change.from)) else {
             return false;
         };
-        if key.major != u64::from(change.from) {
-            return false;
-        }
-        self.entries.place(key.minor, change.to);
-        self.texts.remove(key);
-        self.texts.insert(u64::from(change.to), key.minor);
+        self.entries.place(serial, change.to);
+        self.texts.remove(Key {
+            major: u64::from(change.from),
+            minor: serial,
+        });
+        self.texts.insert(u64::from(change.to), serial);
         true
     }
 }
@@ -326,7 +309,8 @@ fn free_table(
     table: &TableName,
     serial: u64,
 ) -> Option<TableBlock>
-    requires { IsSomeAnd (number_of table.now tables.old.held) (λ n. 0 < times (record { major = n; minor = serial }) named.old.keys) }
+    requires once { holding table.now tables.old.held ≤ 1 }
+    requires stands { IsSomeAnd (number_of table.now tables.old.held) (λ n. 0 < times (record { major = n; minor = serial }) named.old.keys) }
     ensures { (n : ℕ) → number_of table.now tables.old.held ≡ Some n → FreesName n serial result tables.old tables.new named.old named.new }
 {
     let Some(number) = tables.find(table) else {
@@ -347,11 +331,18 @@ fn has_number(named: &KeySet, number: u32) -> bool
     ensures yes { result ≡ true → (s : ℕ) × (0 < times (record { major = number; minor = s }) named.now.keys) }
     ensures no { result ≡ false → (s : ℕ) → times (record { major = number; minor = s }) named.now.keys ≡ 0 }
 {
-    match named.first_from(Key {
-        major: u64::from(number),
-        minor: 0,
-    }) {
-        Some(key) => key.major == u64::from(number),
-        None => false,
+    named.any_under(u64::from(number)).is_some()
+}
+
+/// The lesser of two serials, of those that are not below the first number.
+fn least_from(from: u64, least: Option<u64>, serial: u64) -> Option<u64>
+    ensures { result ≡ least_from from least serial }
+{
+    if serial < from {
+        return least;
+    }
+    match least {
+        Some(found) => Some(found.min(serial)),
+        None => Some(serial),
     }
 }

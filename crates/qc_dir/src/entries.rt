@@ -6,10 +6,8 @@ ghost use Rattle.qc_dir.specs.Keys.{bit};
 
 use crate::tables::TableBlocks;
 use qc_chain::ChainName;
-use qc_index::Blank;
 use qc_tiles::Block;
 use qc_types::Tables;
-use std::alloc::Global;
 
 /// A reply that is kept, or that is still being made, with what its statement is found by.
 #[derive(Debug, Drop)]
@@ -45,21 +43,6 @@ impl Entry {
         ensures { result ≡ bit (not self.now.complete) }
     {
         if self.complete { 0 } else { 1 }
-    }
-}
-
-impl Blank for Entry {
-    fn blank(alloc: Global) -> Entry {
-        Entry {
-            serial: 0,
-            hash: 0,
-            text: Block { first: 0, words: 0 },
-            text_bytes: 0,
-            tables: Tables::new(alloc),
-            chain: ChainName { number: 0 },
-            complete: false,
-            users: 0,
-        }
     }
 }
 

@@ -1,51 +1,60 @@
-//! Keys without values, in their order.
+//! Keys without values, found by their first number.
 
-ghost use Rattle.std.specs.Prelude.{◌≡◌, ◌+◌, ◌<◌, ◌≤◌, ◌&&◌, [], true, Some, IfOk};
+ghost use Rattle.std.specs.Prelude.{◌≡◌, ℕ, ◌+◌, ◌<◌, ◌≤◌, ◌^◌, [], false, true, Some, IfOk, MatchOption, length};
 ghost use Rattle.qc_index.specs.declared.keys.Key.{Key};
-ghost use Rattle.qc_dir.specs.Keys.{times, bit, same_key, first_key, minors_under, IsLeastFrom};
+ghost use Rattle.qc_index.specs.Counts.{count};
+ghost use Rattle.qc_dir.specs.Filed.{in_slot, contents, IsFiled};
+ghost use Rattle.qc_dir.specs.Keys.{times, bit, same_key, IsAnyUnder, is_key, pair_of, pair_home};
 
 use crate::candidates::Candidates;
-use qc_index::{Blank, Index, Key};
+use crate::filed::{all_free, bucket, empty_slots, mask_for};
+use qc_index::{Key, Lists};
 use qc_types::NoMemory;
 use std::alloc::Global;
 use std::marker::Model;
 
-/// What stands under a key that says all.
-#[derive(Debug, Drop)]
-pub(crate) struct Mark;
+/// An odd number by which the second numbers are told apart.
+const PAIRS: u64 = 10123456789012345679;
 
-impl Blank for Mark {
-    fn blank(_alloc: Global) -> Mark {
-        Mark
-    }
-}
-
-/// Keys in their order, with room for a number of them that is taken once. Contracts see their list, and the room for more.
+/// Keys in slots, with room for a number of them that is taken once. Each slot stands in a list of its key's first number, and in a list of both numbers.
+/// Contracts see the keys, and the room for more. Each call but `new` costs the keys of one list, of which there is about one where the numbers spread.
 #[derive(Drop)]
 pub(crate) struct KeySet {
-    index: Index<Mark>,
+    slots: Vec<Option<Key>>,
+    by_major: Lists,
+    by_key: Lists,
+    mask: u32,
 }
 
 impl Model for KeySet {
-    ghost use Rattle.std.specs.Prelude.{map, ◌<◌, ◌^◌};
-    ghost use Rattle.std.specs.List.{AllByRecursion};
-    ghost use Rattle.qc_index.specs.Ordered.{IsOrdered};
-    ghost use Rattle.qc_dir.specs.Keys.{Keys};
+    ghost use Rattle.std.specs.Prelude.{◌<◌, ◌^◌, length};
+    ghost use Rattle.qc_index.specs.Linked.{nodes_of};
+    ghost use Rattle.qc_dir.specs.Filed.{contents};
+    ghost use Rattle.qc_dir.specs.Keys.{Keys, IsKeySet};
 
     ghost Value = { Keys };
 
-    ghost view = { λ s. record { keys = map (λ m. m.key) s.index.items; room = s.index.room } };
+    ghost view = { λ s. record { keys = contents s.slots.items; room = length (nodes_of 0 s.by_major.lists) } };
 
-    ghost invariant = { λ s. IsOrdered s.index.items × AllByRecursion (λ m. m.key.minor < 2 ^ 64) s.index.items };
+    ghost invariant = { λ s. IsKeySet s.slots.items s.by_major s.by_key s.mask × (s.mask < 2 ^ 29) };
 }
 
 impl KeySet {
     /// No keys yet, and room for so many.
     pub(crate) fn new(alloc: Global, room: u32) -> Result<KeySet, NoMemory>
+        requires { room ≤ 2 ^ 28 }
         ensures { IfOk result (λ s. s ≡ record { keys = []; room = room }) }
     {
-        let index = Index::new(alloc, room)?;
-        Ok(KeySet { index })
+        let mask = mask_for(room);
+        let slots = empty_slots(alloc, room)?;
+        let by_major = all_free(alloc, mask, room)?;
+        let by_key = all_free(alloc, mask, room)?;
+        Ok(KeySet {
+            slots,
+            by_major,
+            by_key,
+            mask,
+        })
     }
 
     /// One key more.
@@ -54,7 +63,13 @@ impl KeySet {
         ensures keys { (k : Key) → times k self.new.keys ≡ times k self.old.keys + bit (same_key k (record { major = major; minor = minor })) }
         ensures room { self.new.room + 1 ≡ self.old.room }
     {
-        self.index.insert(Key { major, minor }, Mark);
+        let Some(slot) = self.by_major.first(0) else {
+            unreachable!()
+        };
+        let key = Key { major, minor };
+        self.by_major.put_last(slot, bucket(self.mask, major));
+        self.by_key.put_last(slot, bucket(self.mask, pair(key)));
+        self.slots[slot as usize] = Some(key);
     }
 
     /// One key less.
@@ -63,48 +78,61 @@ impl KeySet {
         ensures keys { (k : Key) → times k self.new.keys + bit (same_key k key) ≡ times k self.old.keys }
         ensures room { self.new.room ≡ self.old.room + 1 }
     {
-        let _ = self.index.remove_from(key);
+        let Some(slot) = slot_of(&self.slots, &self.by_key, self.mask, key) else {
+            unreachable!()
+        };
+        self.by_major.put_last(slot, 0);
+        self.by_key.put_last(slot, 0);
+        self.slots[slot as usize] = None;
     }
 
-    /// One key more, where it is wanted.
-    pub(crate) fn insert_if(&mut self, wanted: bool, major: u64, minor: u64)
-        requires { wanted ≡ true → 0 < self.old.room }
-        ensures keys { (k : Key) → times k self.new.keys ≡ times k self.old.keys + bit (wanted && same_key k (record { major = major; minor = minor })) }
-        ensures room { self.new.room + bit wanted ≡ self.old.room }
-    {
-        if wanted {
-            self.insert(major, minor);
-        }
-    }
-
-    /// One key less, where it stood.
-    pub(crate) fn remove_if(&mut self, stood: bool, key: Key)
-        requires { stood ≡ true → 0 < times key self.old.keys }
-        ensures keys { (k : Key) → times k self.new.keys + bit (stood && same_key k key) ≡ times k self.old.keys }
-        ensures room { self.new.room ≡ self.old.room + bit stood }
-    {
-        if stood {
-            self.remove(key);
-        }
-    }
-
-    /// The first key that doesn't stand before this one, if any.
-    pub(crate) fn first_from(&self, key: Key) -> Option<Key>
-        ensures first { result ≡ first_key key self.now.keys }
-        ensures least { IsLeastFrom key self.now.keys result }
-    {
-        match self.index.first_from(key) {
-            Some(member) => Some(member.key),
-            None => None,
-        }
-    }
-
-    /// The second numbers of the keys with this first number, of which none stands twice.
+    /// The second numbers of the keys with this first number, in any order.
     pub(crate) fn under(&self, major: u64) -> Candidates<'_>
-        requires { (k : Key) → times k self.now.keys ≤ 1 }
-        ensures { result ≡ minors_under major (Some 0) self.now.keys }
+        ensures { (n : ℕ) → count n result ≡ times (record { major = major; minor = n }) self.now.keys }
     {
-        let _ = &self.index;
-        Candidates::new(self, major)
+        let list = self.by_major.walk(bucket(self.mask, major));
+        Candidates::new(&self.slots, list, major)
+    }
+
+    /// The second number of a key with this first one, if any.
+    pub(crate) fn any_under(&self, major: u64) -> Option<u64>
+        ensures { IsAnyUnder major self.now.keys result }
+    {
+        let mut minors = self.under(major);
+        minors.next()
+    }
+}
+
+/// One number for both of a key.
+fn pair(key: Key) -> u64
+    ensures { result ≡ pair_of key }
+{
+    key.major.wrapping_add(key.minor.wrapping_mul(PAIRS))
+}
+
+/// The slot with a key, if any.
+fn slot_of(slots: &[Option<Key>], by_key: &Lists, mask: u32, key: Key) -> Option<u32>
+    requires mask { mask < 2 ^ 29 }
+    requires filed { IsFiled (pair_home mask) slots.now by_key.now }
+    requires many { length by_key.now.lists ≡ mask + 2 }
+    ensures { MatchOption result (times key (contents slots.now) ≡ 0) (λ n. (n < length slots.now) × (is_key key (in_slot n slots.now) ≡ true)) }
+{
+    let mut list = by_key.walk(bucket(mask, pair(key)));
+    while let Some(slot) = list.next() {
+        if has_key(slots, slot, key) {
+            return Some(slot);
+        }
+    }
+    None
+}
+
+/// Whether a key stands in a slot.
+fn has_key(slots: &[Option<Key>], slot: u32, key: Key) -> bool
+    requires { slot < length slots.now }
+    ensures { result ≡ is_key key (in_slot slot slots.now) }
+{
+    match &slots[slot as usize] {
+        Some(found) => key.major == found.major && key.minor == found.minor,
+        None => false,
     }
 }

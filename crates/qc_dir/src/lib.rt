@@ -4,6 +4,7 @@
 mod candidates;
 mod dir;
 mod entries;
+mod filed;
 mod keys;
 mod table_slots;
 mod tables;

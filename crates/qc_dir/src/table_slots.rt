@@ -1,9 +1,10 @@
 //! The tables that have a block, in numbered slots.
 
-ghost use Rattle.std.specs.Prelude.{◌≡◌, ◌≢◌, ◌+◌, ◌<◌, [], ◌∷◌, true, false, map, IfOk, IsSome, MatchOption, IsPermutation, is_some};
+ghost use Rattle.std.specs.Prelude.{◌≡◌, ◌≢◌, ◌+◌, ◌<◌, ◌≤◌, ◌^◌, [], ◌∷◌, true, false, map, IfOk, IsSome, IsPermutation};
 ghost use Rattle.std.specs.List.{AllByRecursion};
 ghost use Rattle.qc_dir.specs.Directory.{block_of};
-ghost use Rattle.qc_dir.specs.Slots.{tables_of, number_of, numbered_at, IsInOrder, NoneUnder, IsNextUnder, is_of, moved_numbered, blocks_at};
+ghost use Rattle.qc_dir.specs.Slots.{tables_of, number_of, numbered_at, IsInOrder, is_of, moved_numbered, blocks_at};
+ghost use Rattle.qc_dir.specs.Indexed.{holding};
 
 use crate::keys::KeySet;
 use crate::tables::TableBlock;
@@ -16,8 +17,8 @@ use std::alloc::Global;
 use std::marker::Model;
 
 /// The tables that have a block, each in a slot whose number it keeps, with room for a number of them that is taken once. Beside them stand the free
-/// slots, the hashes of the names and the places of the blocks. Contracts see the tables under their numbers. Each call but `new` costs a few logarithms
-/// of their number, where no two names have the same hash.
+/// slots, the hashes of the names and the places of the blocks. Contracts see the tables under their numbers. Each call but `new` takes constant time, as far
+/// as the hashes and the places spread.
 #[derive(Drop)]
 pub(crate) struct TableSlots {
     slots: Vec<Option<TableBlock>>,
@@ -40,6 +41,7 @@ impl Model for TableSlots {
 impl TableSlots {
     /// No tables, and room for so many.
     pub(crate) fn new(alloc: Global, room: u32) -> Result<TableSlots, NoMemory>
+        requires { room ≤ 2 ^ 28 }
         ensures { IfOk result (λ s. s ≡ record { held = []; room = room }) }
     {
         let mut slots = Vec::with_capacity(alloc, room as usize)?;
@@ -65,38 +67,20 @@ impl TableSlots {
         self.free.len() as u32
     }
 
-    /// The number of a table, if it has a block. It walks over the tables whose names have the same hash.
+    /// The number of a table, if it has a block. It costs the tables whose names have the same hash.
     pub(crate) fn find(&self, table: &TableName) -> Option<u32>
+        requires { holding table.now self.now.held ≤ 1 }
         ensures number { result ≡ number_of table.now self.now.held }
         ensures rising { IsInOrder self.now.held }
     {
-        let hash = table_hash(table);
-        let mut from = 0u64;
-        while let Some(number) = self.next_under(hash, from) {
+        let mut numbers = self.names.under(table_hash(table));
+        while let Some(minor) = numbers.next() {
+            let number = minor as u32;
             if self.is_at(number, table) {
                 return Some(number);
             }
-            from = u64::from(number) + 1;
         }
         None
-    }
-
-    /// The first number from one on of a table whose name has a hash, if any.
-    fn next_under(&self, hash: u64, from: u64) -> Option<u32>
-        ensures next { MatchOption result (NoneUnder hash from self.now.held) (λ n. IsNextUnder hash from self.now.held n) }
-        ensures rising { IsInOrder self.now.held }
-    {
-        let Some(key) = self.names.first_from(Key {
-            major: hash,
-            minor: from,
-        })
-        else {
-            return None;
-        };
-        if key.major != hash {
-            return None;
-        }
-        Some(key.minor as u32)
     }
 
     /// Whether a number is that of a table.
@@ -112,6 +96,7 @@ impl TableSlots {
 
     /// The block of a table, if it has one.
     pub(crate) fn block(&self, table: &TableName) -> Option<Block>
+        requires { holding table.now self.now.held ≤ 1 }
         ensures { result ≡ block_of table.now (tables_of self.now) }
     {
         let Some(number) = self.find(table) else {
@@ -178,23 +163,19 @@ impl TableSlots {
         ensures one { result ≡ true → blocks_at change.from self.new.held + 1 ≡ blocks_at change.from self.old.held }
         ensures none { result ≡ false → blocks_at change.from self.new.held ≡ 0 }
     {
-        let Some(key) = self.places.first_from(Key {
-            major: u64::from(change.from),
-            minor: 0,
-        })
-        else {
+        let Some(number) = self.places.any_under(u64::from(change.from)) else {
             return false;
         };
-        if key.major != u64::from(change.from) {
-            return false;
-        }
-        let Some(mut item) = self.slots[key.minor as usize].take() else {
+        let Some(mut item) = self.slots[number as usize].take() else {
             unreachable!()
         };
         item.block.first = change.to;
-        self.slots[key.minor as usize] = Some(item);
-        self.places.remove(key);
-        self.places.insert(u64::from(change.to), key.minor);
+        self.slots[number as usize] = Some(item);
+        self.places.remove(Key {
+            major: u64::from(change.from),
+            minor: number,
+        });
+        self.places.insert(u64::from(change.to), number);
         true
     }
 }

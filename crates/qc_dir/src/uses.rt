@@ -1,62 +1,67 @@
 //! The entries in the order of their use.
 
-ghost use Rattle.std.specs.Prelude.{◌≡◌, ◌≢◌, ℕ, ◌+◌, ◌-◌, ◌<◌, ◌≤◌, ◌^◌, [], ◌∷◌, ◌++◌, true, false, map, length, IfOk, IsSome, IsSomeAnd, Some, None};
-ghost use Rattle.std.specs.List.{AllByRecursion};
+ghost use Rattle.std.specs.Prelude.{◌≡◌, ℕ, ◌+◌, ◌-◌, ◌<◌, ◌≤◌, ◌^◌, [], ◌∷◌, ◌++◌, true, length, Option, IfOk, IsSome, IsSomeAnd, MatchOption, option_to_list, Some, None, false};
 ghost use Rattle.std.specs.Option.{option_copied, option_map};
-ghost use Rattle.qc_index.specs.Ordered.{inserted, first_from, without_first_from, last_of};
+ghost use Rattle.qc_dir.specs.declared.entries.Entry.{Entry};
+ghost use Rattle.qc_dir.specs.Filed.{in_slot, IsFiled};
+ghost use Rattle.qc_dir.specs.Keys.{total, bit};
 ghost use Rattle.qc_dir.specs.Directory.{entry_at, oldest_idle, incomplete, without, changed, after_touch, after_complete, after_enter, after_leave};
-ghost use Rattle.qc_dir.specs.Uses.{entries_of, stamp_key, use_at, placed_text, IsUsed, IsTaken, IsPut, stamps_below};
+ghost use Rattle.qc_dir.specs.Uses.{entries_of, placed_text, is_entry, is_missing, serial_home};
 
 use crate::entries::Entry;
-use crate::keys::KeySet;
-use qc_index::{Index, Key, Keyed};
+use crate::filed::{all_free, bucket, empty_slots, mask_for};
+use qc_index::Lists;
 use qc_types::NoMemory;
 use std::alloc::Global;
 use std::marker::Model;
 
-#[cfg(test)]
-mod tests;
+/// The list of the free slots.
+const FREE: u32 = 0;
 
-/// Above each stamp that is a place in the order of use, since there are fewer than 2^32 entries.
-const ABOVE_PLACES: u64 = 4294967296;
+/// The list of the slots with an entry, in the order of use.
+const USED: u32 = 1;
 
-/// The entries, each under a stamp that is the larger the later the entry was used, with room for a number of them that is taken once. Beside them stand
-/// their serials with the stamps, and the stamps of the idle ones. Contracts see the entries under their stamps. Each call but `new`, `next_stamp` and
-/// `renumber` costs a few logarithms of their number, and only `renumber` walks over them, once in 2^64 uses.
+/// Entries in slots, with room for a number of them that is taken once. An entry keeps its slot from `insert` to `remove`, and a use moves none. Contracts
+/// see the entries in the order of their use. Each call but `new` and `oldest_idle` costs the entries of one list of the serials, of which there is about
+/// one where the serials follow each other.
 #[derive(Drop)]
 pub(crate) struct Uses {
-    entries: Index<Entry>,
-    serials: KeySet,
-    idle: KeySet,
-    room: u32,
+    slots: Vec<Option<Entry>>,
+    order: Lists,
+    by_serial: Lists,
+    mask: u32,
     count: u32,
     incomplete: u32,
 }
 
 impl Model for Uses {
-    ghost use Rattle.std.specs.Prelude.{◌≡◌};
-    ghost use Rattle.qc_dir.specs.Uses.{Used, IsUses, IsCounted};
+    ghost use Rattle.std.specs.Prelude.{◌<◌, ◌^◌, length};
+    ghost use Rattle.qc_index.specs.Linked.{nodes_of};
+    ghost use Rattle.qc_dir.specs.Filed.{in_slots};
+    ghost use Rattle.qc_dir.specs.Uses.{Used, IsUses};
 
     ghost Value = { Used };
 
-    ghost view = { λ u. record { members = u.entries.items; room = u.room } };
+    ghost view = { λ u. record { entries = in_slots u.slots.items (nodes_of 1 u.order.lists); room = length (nodes_of 0 u.order.lists) } };
 
-    ghost invariant = { λ u. IsUses u.entries.items u.room u.serials u.idle × (u.entries.room ≡ u.room) × IsCounted u.entries.items u.count u.incomplete };
+    ghost invariant = { λ u. IsUses u.slots.items u.order u.by_serial u.mask u.count u.incomplete × (u.mask < 2 ^ 29) };
 }
 
 impl Uses {
     /// No entries, and room for so many.
     pub(crate) fn new(alloc: Global, room: u32) -> Result<Uses, NoMemory>
-        ensures { IfOk result (λ u. u ≡ record { members = []; room = room }) }
+        requires { room ≤ 2 ^ 28 }
+        ensures { IfOk result (λ u. u ≡ record { entries = []; room = room }) }
     {
-        let entries = Index::new(alloc, room)?;
-        let serials = KeySet::new(alloc, room)?;
-        let idle = KeySet::new(alloc, room)?;
+        let mask = mask_for(room);
+        let slots = empty_slots(alloc, room)?;
+        let order = all_free(alloc, 0, room)?;
+        let by_serial = all_free(alloc, mask, room)?;
         Ok(Uses {
-            entries,
-            serials,
-            idle,
-            room,
+            slots,
+            order,
+            by_serial,
+            mask,
             count: 0,
             incomplete: 0,
         })
@@ -66,7 +71,7 @@ impl Uses {
     pub(crate) fn room(&self) -> u32
         ensures { result ≡ self.now.room }
     {
-        self.room
+        self.slots.len() as u32 - self.count
     }
 
     /// How many entries there are.
@@ -83,123 +88,6 @@ impl Uses {
         self.incomplete
     }
 
-    /// Takes an entry out.
-    fn take_use(&mut self, serial: u64) -> Keyed<Entry>
-        requires { IsSome (entry_at serial (entries_of self.old)) }
-        ensures { IsTaken serial result self.old self.new }
-    {
-        let Some(key) = self.serials.first_from(Key {
-            major: serial,
-            minor: 0,
-        })
-        else {
-            unreachable!()
-        };
-        self.serials.remove(key);
-        let Some(member) = self.entries.remove_from(Key {
-            major: key.minor,
-            minor: 0,
-        })
-        else {
-            unreachable!()
-        };
-        self.idle.remove_if(
-            member.value.is_idle(),
-            Key {
-                major: key.minor,
-                minor: serial,
-            },
-        );
-        self.room += 1;
-        self.count -= 1;
-        self.incomplete -= member.value.missing();
-        member
-    }
-
-    /// Puts an entry in under a stamp that no other has.
-    fn put_use(&mut self, stamp: u64, entry: Entry)
-        requires room { 0 < self.old.room }
-        requires serial { entry_at entry.serial (entries_of self.old) ≡ None }
-        requires stamp { AllByRecursion (λ m. m.key.major ≢ stamp) self.old.members }
-        ensures { IsPut stamp entry self.old self.new }
-    {
-        self.serials.insert(entry.serial, stamp);
-        self.idle.insert_if(entry.is_idle(), stamp, entry.serial);
-        self.count += 1;
-        self.incomplete += entry.missing();
-        self.entries.insert(
-            Key {
-                major: stamp,
-                minor: 0,
-            },
-            entry,
-        );
-        self.room -= 1;
-    }
-
-    /// The largest stamp, if there are entries.
-    fn last_stamp(&self) -> Option<u64>
-        ensures stamp { result ≡ option_map (λ m. m.key.major) (last_of self.now.members) }
-        ensures valid { IsUsed self.now.members }
-    {
-        match self.entries.last() {
-            Some(member) => Some(member.key.major),
-            None => None,
-        }
-    }
-
-    /// Gives the entry at a place that place for its stamp, where as many entries have a smaller one. False where there is none.
-    fn restamp(&mut self, place: u64) -> bool
-        requires { stamps_below place self.old.members ≡ place }
-        ensures entries { entries_of self.new ≡ entries_of self.old }
-        ensures room { self.new.room ≡ self.old.room }
-        ensures more { result ≡ true → stamps_below (place + 1) self.new.members ≡ place + 1 }
-        ensures all { result ≡ false → AllByRecursion (λ m. m.key.major < place) self.new.members }
-        ensures few { place < 2 ^ 32 }
-    {
-        let Some(member) = self.entries.first_from(Key {
-            major: place,
-            minor: 0,
-        })
-        else {
-            return false;
-        };
-        let serial = member.value.serial;
-        let Keyed { value, .. } = self.take_use(serial);
-        self.put_use(place, value);
-        true
-    }
-
-    /// Gives the entries new stamps, from 0 on, and leaves their order. It walks over all.
-    fn renumber(&mut self)
-        ensures entries { entries_of self.new ≡ entries_of self.old }
-        ensures room { self.new.room ≡ self.old.room }
-        ensures stamps { AllByRecursion (λ m. m.key.major < 2 ^ 32) self.new.members }
-    {
-        for place in 0..u64::MAX {
-            if !self.restamp(place) {
-                return;
-            }
-        }
-        unreachable!()
-    }
-
-    /// A stamp above all. Where the largest there is stands already, all entries get new ones.
-    fn next_stamp(&mut self) -> u64
-        ensures entries { entries_of self.new ≡ entries_of self.old }
-        ensures room { self.new.room ≡ self.old.room }
-        ensures above { AllByRecursion (λ m. m.key.major < result) self.new.members }
-    {
-        let Some(last) = self.last_stamp() else {
-            return 0;
-        };
-        if last < u64::MAX {
-            return last + 1;
-        }
-        self.renumber();
-        ABOVE_PLACES
-    }
-
     /// Puts an entry in as the most recently used one.
     pub(crate) fn insert(&mut self, entry: Entry)
         requires serial { entry_at entry.serial (entries_of self.old) ≡ None }
@@ -207,8 +95,15 @@ impl Uses {
         ensures entries { entries_of self.new ≡ entries_of self.old ++ entry ∷ [] }
         ensures room { self.new.room + 1 ≡ self.old.room }
     {
-        let stamp = self.next_stamp();
-        self.put_use(stamp, entry);
+        let Some(slot) = self.order.first(FREE) else {
+            unreachable!()
+        };
+        self.order.put_last(slot, USED);
+        self.by_serial
+            .put_last(slot, bucket(self.mask, entry.serial));
+        self.count += 1;
+        self.incomplete += entry.missing();
+        self.slots[slot as usize] = Some(entry);
     }
 
     /// Takes an entry out.
@@ -218,8 +113,17 @@ impl Uses {
         ensures entries { entries_of self.new ≡ without serial (entries_of self.old) }
         ensures room { self.new.room ≡ self.old.room + 1 }
     {
-        let Keyed { value, .. } = self.take_use(serial);
-        value
+        let Some(slot) = slot_of(&self.slots, &self.by_serial, self.mask, serial) else {
+            unreachable!()
+        };
+        self.order.put_last(slot, FREE);
+        self.by_serial.put_last(slot, FREE);
+        let Some(entry) = self.slots[slot as usize].take() else {
+            unreachable!()
+        };
+        self.count -= 1;
+        self.incomplete -= entry.missing();
+        entry
     }
 
     /// Makes an entry the most recently used one.
@@ -228,9 +132,10 @@ impl Uses {
         ensures entries { entries_of self.new ≡ after_touch serial (entries_of self.old) }
         ensures room { self.new.room ≡ self.old.room }
     {
-        let stamp = self.next_stamp();
-        let Keyed { value, .. } = self.take_use(serial);
-        self.put_use(stamp, value);
+        let Some(slot) = slot_of(&self.slots, &self.by_serial, self.mask, serial) else {
+            unreachable!()
+        };
+        self.order.put_last(slot, USED);
     }
 
     /// Makes an entry complete, and the most recently used one.
@@ -239,10 +144,12 @@ impl Uses {
         ensures entries { entries_of self.new ≡ after_complete serial (entries_of self.old) }
         ensures room { self.new.room ≡ self.old.room }
     {
-        let stamp = self.next_stamp();
-        let Keyed { mut value, .. } = self.take_use(serial);
-        value.complete = true;
-        self.put_use(stamp, value);
+        let Some(slot) = slot_of(&self.slots, &self.by_serial, self.mask, serial) else {
+            unreachable!()
+        };
+        self.incomplete -= missing_in(&self.slots[slot as usize]);
+        complete_in(&mut self.slots[slot as usize]);
+        self.order.put_last(slot, USED);
     }
 
     /// Gives an entry one user more.
@@ -251,9 +158,10 @@ impl Uses {
         ensures entries { entries_of self.new ≡ after_enter serial (entries_of self.old) }
         ensures room { self.new.room ≡ self.old.room }
     {
-        let Keyed { key, mut value } = self.take_use(serial);
-        value.users += 1;
-        self.put_use(key.major, value);
+        let Some(slot) = slot_of(&self.slots, &self.by_serial, self.mask, serial) else {
+            unreachable!()
+        };
+        enter_in(&mut self.slots[slot as usize]);
     }
 
     /// Gives an entry one user less.
@@ -262,9 +170,10 @@ impl Uses {
         ensures entries { entries_of self.new ≡ after_leave serial (entries_of self.old) }
         ensures room { self.new.room ≡ self.old.room }
     {
-        let Keyed { key, mut value } = self.take_use(serial);
-        value.users -= 1;
-        self.put_use(key.major, value);
+        let Some(slot) = slot_of(&self.slots, &self.by_serial, self.mask, serial) else {
+            unreachable!()
+        };
+        leave_in(&mut self.slots[slot as usize]);
     }
 
     /// Gives an entry's text block another place.
@@ -273,41 +182,121 @@ impl Uses {
         ensures entries { entries_of self.new ≡ changed serial (placed_text first) (entries_of self.old) }
         ensures room { self.new.room ≡ self.old.room }
     {
-        let Keyed { key, mut value } = self.take_use(serial);
-        value.text.first = first;
-        self.put_use(key.major, value);
+        let Some(slot) = slot_of(&self.slots, &self.by_serial, self.mask, serial) else {
+            unreachable!()
+        };
+        place_in(&mut self.slots[slot as usize], first);
     }
 
     /// The entry with a serial, borrowed, if any.
     pub(crate) fn entry(&self, serial: u64) -> Option<&Entry>
         ensures { option_copied result ≡ entry_at serial (entries_of self.now) }
     {
-        let Some(key) = self.serials.first_from(Key {
-            major: serial,
-            minor: 0,
-        })
-        else {
+        let Some(slot) = slot_of(&self.slots, &self.by_serial, self.mask, serial) else {
             return None;
         };
-        if key.major != serial {
-            return None;
-        }
-        match self.entries.first_from(Key {
-            major: key.minor,
-            minor: 0,
-        }) {
-            Some(member) => Some(&member.value),
-            None => None,
-        }
+        self.slots[slot as usize].as_ref()
     }
 
-    /// The serial of the least recently used entry that is complete and without users, if any.
+    /// The serial of the least recently used entry that is complete and without users, if any. It passes the entries before it that are in use or not
+    /// complete.
     pub(crate) fn oldest_idle(&self) -> Option<u64>
         ensures { result ≡ oldest_idle (entries_of self.now) }
     {
-        match self.idle.first_from(Key { major: 0, minor: 0 }) {
-            Some(key) => Some(key.minor),
-            None => None,
+        let mut order = self.order.walk(USED);
+        while let Some(slot) = order.next() {
+            let serial = idle_in(&self.slots[slot as usize]);
+            if serial.is_some() {
+                return serial;
+            }
         }
+        None
+    }
+}
+
+/// The slot with the entry of a serial, if any.
+fn slot_of(slots: &[Option<Entry>], by_serial: &Lists, mask: u32, serial: u64) -> Option<u32>
+    requires mask { mask < 2 ^ 29 }
+    requires filed { IsFiled (serial_home mask) slots.now by_serial.now }
+    requires many { length by_serial.now.lists ≡ mask + 2 }
+    ensures { MatchOption result (total (λ s. bit (is_entry serial s)) slots.now ≡ 0) (λ n. (n < length slots.now) × (is_entry serial (in_slot n slots.now) ≡ true)) }
+{
+    let mut list = by_serial.walk(bucket(mask, serial));
+    while let Some(slot) = list.next() {
+        if has_entry(slots, slot, serial) {
+            return Some(slot);
+        }
+    }
+    None
+}
+
+/// Whether a slot has the entry of a serial.
+fn has_entry(slots: &[Option<Entry>], slot: u32, serial: u64) -> bool
+    requires { slot < length slots.now }
+    ensures { result ≡ is_entry serial (in_slot slot slots.now) }
+{
+    match &slots[slot as usize] {
+        Some(entry) => entry.serial == serial,
+        None => false,
+    }
+}
+
+/// 1 where the entry of a slot isn't complete.
+fn missing_in(slot: &Option<Entry>) -> u32
+    ensures { result ≡ bit (is_missing slot.now) }
+{
+    match slot {
+        Some(entry) => entry.missing(),
+        None => 0,
+    }
+}
+
+/// The serial of a slot's entry, where that is idle.
+fn idle_in(slot: &Option<Entry>) -> Option<u64>
+    ensures { result ≡ oldest_idle (option_to_list slot.now) }
+{
+    match slot {
+        Some(entry) => {
+            if entry.is_idle() {
+                Some(entry.serial)
+            } else {
+                None
+            }
+        }
+        None => None,
+    }
+}
+
+fn complete_in(slot: &mut Option<Entry>)
+    ensures { slot.new ≡ option_map (λ (e : Entry). record e { complete = true }) slot.old }
+{
+    if let Some(entry) = slot {
+        entry.complete = true;
+    }
+}
+
+fn enter_in(slot: &mut Option<Entry>)
+    requires { IsSomeAnd slot.old (λ e. e.users < 2 ^ 32 - 1) }
+    ensures { slot.new ≡ option_map (λ (e : Entry). record e { users = e.users + 1 }) slot.old }
+{
+    if let Some(entry) = slot {
+        entry.users += 1;
+    }
+}
+
+fn leave_in(slot: &mut Option<Entry>)
+    requires { IsSomeAnd slot.old (λ e. 0 < e.users) }
+    ensures { slot.new ≡ option_map (λ (e : Entry). record e { users = e.users - 1 }) slot.old }
+{
+    if let Some(entry) = slot {
+        entry.users -= 1;
+    }
+}
+
+fn place_in(slot: &mut Option<Entry>, first: u32)
+    ensures { slot.new ≡ option_map (placed_text first) slot.old }
+{
+    if let Some(entry) = slot {
+        entry.text.first = first;
     }
 }

@@ -5,6 +5,9 @@ use Rattle.qc_dir.specs.Indexed.{FreesName}
 use Rattle.qc_dir.proofs.SlotCalls.{found_at}
 use Rattle.qc_dir.proofs.dir.free_table.Goals as goal
 
+pub find-requires : goal.find-requires
+find-requires c = c.requires.once
+
 pub free-requires : goal.free-requires
 free-requires c =
     let found = found_at c.args.table.now c.in-Some.number c.args.tables.now.held c.find.ensures.rising (c.in-Some.ensures {u = tt}).number in

@@ -5,6 +5,9 @@ use Rattle.qc_dir.proofs.DirSteps.{number_some}
 use Rattle.qc_dir.proofs.Insertions.{drop_step, drop_all, each_at, named_times-cons, named_times-none}
 use Rattle.qc_dir.proofs.dir.name_tables.Goals as goal
 
+pub find-requires : goal.find-requires
+find-requires c = c.requires.once c.table-item.result
+
 pub unreachable-requires : goal.unreachable-requires
 unreachable-requires c =
     let some = each_at (λ (t : TableName). 0 < holding t c.args.tables.now.held) c.args.names.now c.loop-table.table-index c.table-item.result c.loop-table-test.true c.table-item.is c.requires.held in

@@ -1,35 +1,37 @@
-use Rattle.std.proofs.Common.{ℕ, ◌≡◌, ◌+◌, ◌<◌, ◌≤◌, ◌^◌, ◌∷◌, List, Option, Some, None, refl, sym, ap, ◌∙◌, arith}
-use Rattle.std.specs.Option.{SomeIff}
-use Rattle.qc_index.specs.declared.keys.Key.{Key}
-use Rattle.qc_dir.specs.Keys.{HasMinors, minors_under}
-use Rattle.qc_dir.proofs.DirCalls.{walk_end, walk_past, walk_on, walk_last}
+use Rattle.std.proofs.Common.{◌∙◌, refl, sym, ap}
+use Rattle.qc_dir.specs.Keys.{minors_under}
+use Rattle.qc_dir.proofs.KeyCounts.{next-minor, no-minor}
 use Rattle.qc_dir.proofs.candidates.Candidates.next.Goals as goal
 
--- those that are left behind a key
-behind : (major n : ℕ) (keys : List Key) (o : Option ℕ) → HasMinors keys → SomeIff o (n + 1 < 2 ^ 64) (n + 1) → minors_under major (Some (n + 1)) keys ≡ minors_under major o keys
-behind major n keys None fit h = walk_last major (n + 1) keys fit (high h)
-  where
-    high : (n + 1 < 2 ^ 64 → ⊥) → 2 ^ 64 ≤ n + 1
-    high g = omega (arith, g)
-behind major n keys (Some m) fit h = ap (λ k. minors_under major (Some k) keys) (sym h.1)
+pub loop-slot-init : goal.loop-slot-init
+loop-slot-init c = record { slots = refl; hash = refl; below = c.self.invariant; left = refl }
 
-pub returns-in_default-first_from : goal.returns-in_default-first_from
-returns-in_default-first_from c =
-    let i = c.self.inside in
-    (sym c.self.view_is ∙ (ap (λ o. minors_under i.hash o i.keys.now.keys) c.in-Some.is ∙ walk_end i.hash c.in-Some.from i.keys.now.keys c.self.invariant.0 (sym (c.in_default-first_from.ensures {u = tt}).first)), refl)
+pub minor_in-found-requires : goal.minor_in-found-requires
+minor_in-found-requires c = (rw (c.in-Some.ensures {u = tt}) at c.loop-slot.invariant.below).0
 
-pub returns-then-key-self : goal.returns-then-key-self
-returns-then-key-self c =
-    let i = c.self.inside in
-    let found = sym (c.in-Some-first_from.ensures {u = tt}).first in
-    (sym c.self.view_is ∙ (ap (λ o. minors_under i.hash o i.keys.now.keys) c.in-Some.is ∙ walk_past i.hash c.in-Some.from i.keys.now.keys c.in-Some-first_from.key c.self.invariant.0 found c.if-key-self.true), refl)
+pub loop-slot-preserved : goal.loop-slot-preserved
+loop-slot-preserved c =
+    let l = c.loop-slot in
+    let e = c.in-Some.ensures {u = tt} in
+    record {
+      slots = l.invariant.slots;
+      hash = l.invariant.hash;
+      below = (rw e at l.invariant.below).1;
+      left = sym (no-minor l.self-inside.hash c.in-Some.slot l.self-inside.slots.now c.next.new.self c.minor_in-found.result c.minor_in-found.ensures (sym c.is_some.ensures ∙ c.if-is_some.false))
+          ∙ (sym (ap (minors_under l.self-inside.hash l.self-inside.slots.now) e) ∙ l.invariant.left);
+    }
+
+pub invariant_of-self : goal.invariant_of-self
+invariant_of-self c = (rw (c.in-Some.ensures {u = tt}) at c.loop-slot.invariant.below).1
+
+pub returns-then-is_some : goal.returns-then-is_some
+returns-then-is_some c =
+    let l = c.loop-slot in
+    let old = sym c.self.view_is ∙ (sym l.invariant.left ∙ ap (minors_under l.self-inside.hash l.self-inside.slots.now) (c.in-Some.ensures {u = tt})) in
+    next-minor l.self-inside.hash c.in-Some.slot l.self-inside.slots.now c.next.new.self c.args.self.now c.minor_in-found.result old c.minor_in-found.ensures (sym c.is_some.ensures ∙ c.if-is_some.true)
 
 pub returns : goal.returns
 returns c =
-    let i = c.self.inside in
-    let key = c.in-Some-first_from.key in
-    let found = sym (c.in-Some-first_from.ensures {u = tt}).first in
-    sym c.self.view_is
-    ∙ (ap (λ o. minors_under i.hash o i.keys.now.keys) c.in-Some.is
-    ∙ (walk_on i.hash c.in-Some.from i.keys.now.keys key c.self.invariant.0 found c.if-key-self.false
-    ∙ ap (λ ns. key.minor ∷ ns) (behind i.hash key.minor i.keys.now.keys c.checked_add-self-inside.result c.self.invariant.1 c.checked_add-self-inside.ensures)))
+    let l = c.loop-slot in
+    let none = c.in_default.ensures {u = tt} in
+    (sym c.self.view_is ∙ (sym l.invariant.left ∙ ap (minors_under l.self-inside.hash l.self-inside.slots.now) none.0), ap (minors_under l.self-inside.hash l.self-inside.slots.now) none.1)

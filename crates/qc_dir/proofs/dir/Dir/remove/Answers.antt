@@ -46,8 +46,18 @@ loop-table-init c =
       removing = rw (e.entries, e.room, c.items-table-items.ensures, c.new-freed.ensures) (removing_none c.args.serial (entries_of i.entries) c.remove-entry.result i.entries.room i.tables i.hashes i.named i.texts c.self.invariant e.entry);
     }
 
-pub free_table-requires : goal.free_table-requires
-free_table-requires c =
+pub free_table-requires-clause-once : goal.free_table-requires-clause-once
+free_table-requires-clause-once c =
+    let l = c.loop-table in
+    let items = c.items-table-items.result.now in
+    let es = entries_of c.remove-entry.new.self in
+    let all = 8 * c.remove-entry.new.self.room + total (λ (e : Entry). 8 - length e.tables) es in
+    let next = drop_step items l.table-index c.table-item.result c.loop-table-test.true c.table-item.is in
+    let r = subst (λ (ts : List TableName). IsRemoving es c.args.serial ts c.self.inside.tables l.self-inside.tables l.self-inside.named all l.freed) next l.invariant.removing in
+    r.once c.table-item.result
+
+pub free_table-requires-clause-stands : goal.free_table-requires-clause-stands
+free_table-requires-clause-stands c =
     let l = c.loop-table in
     let items = c.items-table-items.result.now in
     let es = entries_of c.remove-entry.new.self in

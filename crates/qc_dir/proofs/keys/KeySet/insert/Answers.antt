@@ -1,20 +1,61 @@
-use Rattle.std.proofs.Common.{◌+◌, ◌<◌, ◌^◌, ap, ◌∙◌, subst, sym}
-use Rattle.std.specs.List.{AllByRecursion}
-use Rattle.qc_index.specs.Ordered.{Members}
-use Rattle.qc_dir.specs.declared.keys.Mark.{Mark}
-use Rattle.qc_dir.specs.Keys.{Keys, times, bit, same_key}
-use Rattle.qc_dir.proofs.KeyCounts.{keys_of, times-inserted}
-use Rattle.qc_dir.proofs.Stamps.{each-inserted}
+use Rattle.std.proofs.Common.{◌<◌, ◌∙◌, sym, ap, subst, length, arith}
+use Rattle.std.specs.Option.{IfSome}
+use Rattle.qc_index.specs.declared.keys.Key.{Key}
+use Rattle.qc_index.specs.Linked.{nodes_of}
+use Rattle.qc_dir.specs.Keys.{Keys, times}
+use Rattle.qc_dir.proofs.FiledSteps.{first-there}
+use Rattle.qc_dir.proofs.KeyCounts.{bucket-low, inserted}
 use Rattle.qc_dir.proofs.keys.KeySet.insert.Goals as goal
 
-pub returns-clause-keys : goal.returns-clause-keys
-returns-clause-keys c = λ k.
-    ap (λ (s : Members Mark). times k (keys_of s.items)) c.insert.ensures.members
-    ∙ (times-inserted k _ c.self.inside.index.items ∙ ap (λ (s : Keys). times k s.keys + bit (same_key k (record { major = c.args.major; minor = c.args.minor }))) c.self.view_is)
+pub first-requires : goal.first-requires
+first-requires c = omega (arith, c.self.invariant.0.majors)
+
+pub unreachable-requires : goal.unreachable-requires
+unreachable-requires c =
+    let some = first-there (nodes_of 0 c.self.inside.by_major.lists) (omega (arith, c.requires, ap (λ (s : Keys). s.room) c.self.view_is)) in
+    c.in_default.not-Some some.0 (c.first.ensures.first ∙ some.1)
+
+pub put_last-requires-clause-node : goal.put_last-requires-clause-node
+put_last-requires-clause-node c = subst (λ o. IfSome o (λ n. n < c.self.inside.by_major.nodes)) c.in-Some.is c.first.ensures.below
+
+pub put_last-requires-clause-list : goal.put_last-requires-clause-list
+put_last-requires-clause-list c = omega (arith, c.bucket.ensures, bucket-low c.self.inside.mask c.args.major, c.self.invariant.0.majors)
+
+pub put_last-requires-2-clause-node : goal.put_last-requires-2-clause-node
+put_last-requires-2-clause-node c =
+    let node : c.in-Some.slot < c.self.inside.by_major.nodes = subst (λ o. IfSome o (λ n. n < c.self.inside.by_major.nodes)) c.in-Some.is c.first.ensures.below in
+    omega (arith, node, c.self.invariant.0.by_major.nodes, c.self.invariant.0.by_key.nodes)
+
+pub put_last-requires-2-clause-list : goal.put_last-requires-2-clause-list
+put_last-requires-2-clause-list c = omega (arith, c.bucket-2.ensures, bucket-low c.self.inside.mask c.pair.result, c.self.invariant.0.pairs)
+
+pub index_mut-requires : goal.index_mut-requires
+index_mut-requires c =
+    let node : c.in-Some.slot < c.self.inside.by_major.nodes = subst (λ o. IfSome o (λ n. n < c.self.inside.by_major.nodes)) c.in-Some.is c.first.ensures.below in
+    omega (arith, node, c.self.invariant.0.by_major.nodes, c.self.inside.slots.ok.0)
 
 pub invariant_of-self : goal.invariant_of-self
-invariant_of-self c = (
-  c.insert.ensures.ordered,
-  subst (λ (s : Members Mark). AllByRecursion (λ m. m.key.minor < 2 ^ 64) s.items) (sym c.insert.ensures.members)
-      (each-inserted (λ m. m.key.minor < 2 ^ 64) _ c.self.inside.index.items c.ranges.minor.fits c.self.invariant.1),
-)
+invariant_of-self c =
+    let node : c.in-Some.slot < c.self.inside.by_major.nodes = subst (λ o. IfSome o (λ n. n < c.self.inside.by_major.nodes)) c.in-Some.is c.first.ensures.below in
+    let i = c.self.inside in
+    let low : c.in-Some.slot < length c.self.inside.slots.items = omega (arith, node, c.self.invariant.0.by_major.nodes) in
+    let k : Key = record { major = c.args.major; minor = c.args.minor } in
+    ((inserted i.slots.items i.by_major i.by_key c.put_last.new.self c.put_last-2.new.self i.mask c.in-Some.slot k c.self.invariant.0 low (sym c.first.ensures.first ∙ c.in-Some.is) (rw c.bucket.ensures at c.put_last.ensures.moved) (rw (c.bucket-2.ensures, c.pair.ensures) at c.put_last-2.ensures.moved)).kept, c.self.invariant.1)
+
+pub returns-clause-keys : goal.returns-clause-keys
+returns-clause-keys c = λ j.
+    let node : c.in-Some.slot < c.self.inside.by_major.nodes = subst (λ o. IfSome o (λ n. n < c.self.inside.by_major.nodes)) c.in-Some.is c.first.ensures.below in
+    let i = c.self.inside in
+    let low : c.in-Some.slot < length c.self.inside.slots.items = omega (arith, node, c.self.invariant.0.by_major.nodes) in
+    let k : Key = record { major = c.args.major; minor = c.args.minor } in
+    let done = inserted i.slots.items i.by_major i.by_key c.put_last.new.self c.put_last-2.new.self i.mask c.in-Some.slot k c.self.invariant.0 low (sym c.first.ensures.first ∙ c.in-Some.is) (rw c.bucket.ensures at c.put_last.ensures.moved) (rw (c.bucket-2.ensures, c.pair.ensures) at c.put_last-2.ensures.moved) in
+    omega (arith, done.keys j, ap (λ (s : Keys). times j s.keys) c.self.view_is)
+
+pub returns-clause-room : goal.returns-clause-room
+returns-clause-room c =
+    let node : c.in-Some.slot < c.self.inside.by_major.nodes = subst (λ o. IfSome o (λ n. n < c.self.inside.by_major.nodes)) c.in-Some.is c.first.ensures.below in
+    let i = c.self.inside in
+    let low : c.in-Some.slot < length c.self.inside.slots.items = omega (arith, node, c.self.invariant.0.by_major.nodes) in
+    let k : Key = record { major = c.args.major; minor = c.args.minor } in
+    let done = inserted i.slots.items i.by_major i.by_key c.put_last.new.self c.put_last-2.new.self i.mask c.in-Some.slot k c.self.invariant.0 low (sym c.first.ensures.first ∙ c.in-Some.is) (rw c.bucket.ensures at c.put_last.ensures.moved) (rw (c.bucket-2.ensures, c.pair.ensures) at c.put_last-2.ensures.moved) in
+    omega (arith, done.room, ap (λ (s : Keys). s.room) c.self.view_is)

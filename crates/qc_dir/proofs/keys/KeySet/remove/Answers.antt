@@ -1,21 +1,50 @@
-use Rattle.std.proofs.Common.{◌≡◌, ◌+◌, ◌<◌, ◌^◌, true, sym, ap, ◌∙◌, subst}
-use Rattle.std.specs.Option.{is_some}
+use Rattle.std.proofs.Common.{ap, arith}
 use Rattle.qc_dir.specs.Keys.{Keys, times}
-use Rattle.qc_dir.proofs.KeyCounts.{keys_of, times-without, found_there}
-use Rattle.qc_dir.proofs.Stamps.{each-without}
+use Rattle.qc_dir.proofs.KeyCounts.{removed}
 use Rattle.qc_dir.proofs.keys.KeySet.remove.Goals as goal
 
+pub slot_of-requires-clause-filed : goal.slot_of-requires-clause-filed
+slot_of-requires-clause-filed c = rw c.deref.ensures.value c.self.invariant.0.by_key
+
+pub slot_of-requires-clause-many : goal.slot_of-requires-clause-many
+slot_of-requires-clause-many c = c.self.invariant.0.pairs
+
+pub unreachable-requires : goal.unreachable-requires
+unreachable-requires c =
+    let none = rw c.deref.ensures.value at (c.in_default.ensures {u = tt}) in
+    omega (arith, c.requires, none, ap (λ (s : Keys). times c.args.key s.keys) c.self.view_is)
+
+pub put_last-requires-clause-node : goal.put_last-requires-clause-node
+put_last-requires-clause-node c = omega (arith, rw c.deref.ensures.value at (c.in-Some.ensures {u = tt}).0, c.self.invariant.0.by_major.nodes)
+
+pub put_last-requires-clause-list : goal.put_last-requires-clause-list
+put_last-requires-clause-list c = omega (arith, c.self.invariant.0.majors)
+
+pub put_last-requires-2-clause-node : goal.put_last-requires-2-clause-node
+put_last-requires-2-clause-node c = omega (arith, rw c.deref.ensures.value at (c.in-Some.ensures {u = tt}).0, c.self.invariant.0.by_key.nodes)
+
+pub put_last-requires-2-clause-list : goal.put_last-requires-2-clause-list
+put_last-requires-2-clause-list c = omega (arith, c.self.invariant.0.pairs)
+
+pub index_mut-requires : goal.index_mut-requires
+index_mut-requires c = omega (arith, rw c.deref.ensures.value at (c.in-Some.ensures {u = tt}).0, c.self.inside.slots.ok.0)
+
+pub invariant_of-self : goal.invariant_of-self
+invariant_of-self c =
+    let i = c.self.inside in
+    let at = rw c.deref.ensures.value at (c.in-Some.ensures {u = tt}) in
+    ((removed i.slots.items i.by_major i.by_key c.put_last.new.self c.put_last-2.new.self i.mask c.in-Some.slot c.args.key c.self.invariant.0 at.0 at.1 c.put_last.ensures.moved c.put_last-2.ensures.moved).kept, c.self.invariant.1)
+
 pub returns-clause-keys : goal.returns-clause-keys
-returns-clause-keys c = λ k.
-    let there : 0 < times c.args.key (keys_of c.self.inside.index.items) = subst (λ (s : Keys). 0 < times c.args.key s.keys) (sym c.self.view_is) c.requires in
-    rw c.remove_from.ensures.items (times-without c.args.key k c.self.inside.index.items c.self.invariant.0 there ∙ ap (λ (s : Keys). times k s.keys) c.self.view_is)
+returns-clause-keys c = λ j.
+    let i = c.self.inside in
+    let at = rw c.deref.ensures.value at (c.in-Some.ensures {u = tt}) in
+    let done = removed i.slots.items i.by_major i.by_key c.put_last.new.self c.put_last-2.new.self i.mask c.in-Some.slot c.args.key c.self.invariant.0 at.0 at.1 c.put_last.ensures.moved c.put_last-2.ensures.moved in
+    omega (arith, done.keys j, ap (λ (s : Keys). times j s.keys) c.self.view_is)
 
 pub returns-clause-room : goal.returns-clause-room
 returns-clause-room c =
-    let there : 0 < times c.args.key (keys_of c.self.inside.index.items) = subst (λ (s : Keys). 0 < times c.args.key s.keys) (sym c.self.view_is) c.requires in
-    let found = found_there c.args.key c.self.inside.index.items there c.self.invariant.0 in
-    let some : is_some c.remove_from.result ≡ true = ap is_some (c.remove_from.ensures.member ∙ found.1) in
-    rw some at c.remove_from.ensures.room ∙ ap (λ (s : Keys). s.room + 1) c.self.view_is
-
-pub invariant_of-self : goal.invariant_of-self
-invariant_of-self c = (c.remove_from.ensures.ordered, rw c.remove_from.ensures.items (each-without (λ m. m.key.minor < 2 ^ 64) c.args.key c.self.inside.index.items c.self.invariant.1))
+    let i = c.self.inside in
+    let at = rw c.deref.ensures.value at (c.in-Some.ensures {u = tt}) in
+    let done = removed i.slots.items i.by_major i.by_key c.put_last.new.self c.put_last-2.new.self i.mask c.in-Some.slot c.args.key c.self.invariant.0 at.0 at.1 c.put_last.ensures.moved c.put_last-2.ensures.moved in
+    omega (arith, done.room, ap (λ (s : Keys). s.room) c.self.view_is)

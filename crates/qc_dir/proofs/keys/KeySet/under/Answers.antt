@@ -1,13 +1,17 @@
-use Rattle.std.proofs.Common.{◌≤◌, sym, subst}
-use Rattle.qc_index.specs.declared.keys.Key.{Key}
-use Rattle.qc_dir.specs.Keys.{Keys, times, IsStrict, HasMinors}
-use Rattle.qc_dir.proofs.DirCalls.{strict, minors}
+use Rattle.std.proofs.Common.{◌<◌, ◌∙◌, ap, subst, arith}
+use Rattle.std.specs.List.{AllByRecursion}
+use Rattle.qc_dir.specs.Keys.{Keys, times}
+use Rattle.qc_dir.proofs.KeyCounts.{bucket-low, minors-are}
 use Rattle.qc_dir.proofs.keys.KeySet.under.Goals as goal
 
-pub new-requires-clause-strict : goal.new-requires-clause-strict
-new-requires-clause-strict c =
-    subst (λ (s : Keys). IsStrict s.keys) c.self.view_is
-    (strict c.self.inside.index.items c.self.invariant.0 (subst (λ (s : Keys). (k : Key) → times k s.keys ≤ 1) (sym c.self.view_is) c.requires))
+pub walk-list-requires : goal.walk-list-requires
+walk-list-requires c = omega (arith, c.bucket.ensures, bucket-low c.self.inside.mask c.args.major, c.self.invariant.0.majors)
 
-pub new-requires-clause-fit : goal.new-requires-clause-fit
-new-requires-clause-fit c = subst (λ (s : Keys). HasMinors s.keys) c.self.view_is (minors c.self.inside.index.items c.self.invariant.1)
+pub new-requires : goal.new-requires
+new-requires c = rw c.deref.ensures.value (subst (λ m. AllByRecursion (λ n. n < m) c.walk-list.result) c.self.invariant.0.by_major.nodes c.walk-list.ensures.below)
+
+pub returns : goal.returns
+returns c = λ n.
+    let i = c.self.inside in
+    rw (c.new.ensures, c.deref.ensures.value, c.walk-list.ensures.nodes, c.bucket.ensures)
+    (minors-are c.args.major n i.slots.items i.by_major i.mask c.self.invariant.0.by_major ∙ ap (λ (s : Keys). times (record { major = c.args.major; minor = n }) s.keys) c.self.view_is)

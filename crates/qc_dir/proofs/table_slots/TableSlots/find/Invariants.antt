@@ -1,9 +1,9 @@
-use Rattle.qc_dir.specs.Slots.{numbers_from}
-use Rattle.qc_dir.proofs.SlotCalls.{NotBelow}
+use Rattle.std.proofs.Common.{length}
+use Rattle.qc_dir.proofs.SlotCalls.{AreLeft}
 use Rattle.qc_dir.proofs.table_slots.TableSlots.find.Given as goal
 
-abbrev pub invariant-loop-number : goal.invariant-loop-number
-invariant-loop-number l = NotBelow l.table l.from l.self.held
+abbrev pub invariant-loop-minor : goal.invariant-loop-minor
+invariant-loop-minor l = AreLeft l.table l.numbers l.self.held
 
-abbrev pub decreases-loop-number : goal.decreases-loop-number
-decreases-loop-number l = numbers_from l.from l.self.held
+abbrev pub decreases-loop-minor : goal.decreases-loop-minor
+decreases-loop-minor l = length l.numbers

@@ -1,79 +1,72 @@
-use Rattle.std.proofs.Common.{ℕ, ◌≡◌, ◌+◌, ◌==◌, map, sym, ap, ◌∙◌, subst, arith, Some}
+use Rattle.std.proofs.Common.{ℕ, ◌≡◌, ◌<◌, ◌+◌, ◌==◌, map, sym, ap, ◌∙◌, subst, arith, Some}
 use Rattle.std.specs.Vec.{vec_capacity}
 use Rattle.std.proofs.lemmas.Bool.Decides.{nat_tests}
-use Rattle.std.proofs.lemmas.Option.{same_Some}
 use Rattle.qc_index.specs.declared.keys.Key.{Key}
-use Rattle.qc_dir.specs.Keys.{IsLeastFrom, times, bit, same_key}
+use Rattle.qc_dir.specs.Keys.{times, bit, same_key}
 use Rattle.qc_dir.specs.Slots.{Tabled, held_from, moved_numbered, blocks_at}
 use Rattle.qc_dir.proofs.SlotSteps.{slot_of, get-within, slots-placed, held-map, total-set}
 use Rattle.qc_dir.proofs.SlotCalls.{slot_item, slot_full, placed_there, placed_first, none_placed, moved_same}
 use Rattle.qc_dir.proofs.table_slots.TableSlots.shift_one.Goals as goal
 
+abbrev place_at : ℕ → ℕ → Key
+place_at place number = record { major = place; minor = number }
+
 pub returns-in_default-clause-none : goal.returns-in_default-clause-none
 returns-in_default-clause-none c = λ _.
     let i = c.self.inside in
-    let least = subst (λ n. IsLeastFrom (record { major = n; minor = 0 }) i.places.keys c.first_from.result) c.from.ensures c.first_from.ensures.least in
     ap (λ (d : Tabled). blocks_at c.args.change.from d.held) (sym c.self.view_is)
-    ∙ none_placed c.args.change.from i.places (held_from 0 i.slots.items) c.first_from.result c.self.invariant.by_place least (λ k is same. c.in_default.not-Some k is)
-
-pub returns-then-key-from-clause-none : goal.returns-then-key-from-clause-none
-returns-then-key-from-clause-none c = λ _.
-    let i = c.self.inside in
-    let least = subst (λ n. IsLeastFrom (record { major = n; minor = 0 }) i.places.keys c.first_from.result) c.from.ensures c.first_from.ensures.least in
-    ap (λ (d : Tabled). blocks_at c.args.change.from d.held) (sym c.self.view_is)
-    ∙ none_placed c.args.change.from i.places (held_from 0 i.slots.items) c.first_from.result c.self.invariant.by_place least
-    (λ k is same. c.if-key-from.true (ap (λ (j : Key). j.major) (sym (same_Some k c.in-Some.key (sym is ∙ c.in-Some.is))) ∙ (same ∙ sym c.from-2.ensures)))
+    ∙ none_placed c.args.change.from i.places (held_from 0 i.slots.items) c.self.invariant.by_place (rw c.from.ensures at (c.in_default.ensures {u = tt}))
 
 pub index_mut-requires : goal.index_mut-requires
 index_mut-requires c =
     let i = c.self.inside in
-    let least = subst (λ n. IsLeastFrom (record { major = n; minor = 0 }) i.places.keys c.first_from.result) c.from.ensures c.first_from.ensures.least in
-    let stands = subst (λ o. IsLeastFrom (record { major = c.args.change.from; minor = 0 }) i.places.keys o) c.in-Some.is least in
-    let there = placed_there c.in-Some.key i.places (held_from 0 i.slots.items) c.self.invariant.by_place stands.1 in
-    let slot = slot_of c.in-Some.key.minor i.slots.items there in
-    omega (arith, get-within i.slots.items c.in-Some.key.minor (Some slot.0) slot.1, i.slots.ok.0)
+    let key = place_at c.args.change.from c.in-Some.number in
+    let stands : 0 < times (place_at c.args.change.from c.in-Some.number) i.places.keys = rw c.from.ensures at (c.in-Some.ensures {u = tt}) in
+    let there = placed_there key i.places (held_from 0 i.slots.items) c.self.invariant.by_place stands in
+    let slot = slot_of c.in-Some.number i.slots.items there in
+    omega (arith, get-within i.slots.items c.in-Some.number (Some slot.0) slot.1, i.slots.ok.0)
 
 pub unreachable-requires : goal.unreachable-requires
 unreachable-requires c =
     let i = c.self.inside in
-    let least = subst (λ n. IsLeastFrom (record { major = n; minor = 0 }) i.places.keys c.first_from.result) c.from.ensures c.first_from.ensures.least in
-    let stands = subst (λ o. IsLeastFrom (record { major = c.args.change.from; minor = 0 }) i.places.keys o) c.in-Some.is least in
-    let there = placed_there c.in-Some.key i.places (held_from 0 i.slots.items) c.self.invariant.by_place stands.1 in
-    slot_full c.in-Some.key.minor i.slots.items c.index_mut.result.now c.take.result there c.index_mut.ensures.value c.take.ensures.value c.in_default-take.not-Some
+    let key = place_at c.args.change.from c.in-Some.number in
+    let stands : 0 < times (place_at c.args.change.from c.in-Some.number) i.places.keys = rw c.from.ensures at (c.in-Some.ensures {u = tt}) in
+    let there = placed_there key i.places (held_from 0 i.slots.items) c.self.invariant.by_place stands in
+    slot_full c.in-Some.number i.slots.items c.index_mut.result.now c.take.result there c.index_mut.ensures.value c.take.ensures.value c.in_default-take.not-Some
 
 pub index_mut-requires-2 : goal.index_mut-requires-2
 index_mut-requires-2 c =
     let i = c.self.inside in
-    let least = subst (λ n. IsLeastFrom (record { major = n; minor = 0 }) i.places.keys c.first_from.result) c.from.ensures c.first_from.ensures.least in
-    let stands = subst (λ o. IsLeastFrom (record { major = c.args.change.from; minor = 0 }) i.places.keys o) c.in-Some.is least in
-    let there = placed_there c.in-Some.key i.places (held_from 0 i.slots.items) c.self.invariant.by_place stands.1 in
-    let slot = slot_of c.in-Some.key.minor i.slots.items there in
-    omega (arith, get-within i.slots.items c.in-Some.key.minor (Some slot.0) slot.1, i.slots.ok.0)
+    let key = place_at c.args.change.from c.in-Some.number in
+    let stands : 0 < times (place_at c.args.change.from c.in-Some.number) i.places.keys = rw c.from.ensures at (c.in-Some.ensures {u = tt}) in
+    let there = placed_there key i.places (held_from 0 i.slots.items) c.self.invariant.by_place stands in
+    let slot = slot_of c.in-Some.number i.slots.items there in
+    omega (arith, get-within i.slots.items c.in-Some.number (Some slot.0) slot.1, i.slots.ok.0)
 
 pub invariant_of-self : goal.invariant_of-self
 invariant_of-self c =
     let i = c.self.inside in
-    let least = subst (λ n. IsLeastFrom (record { major = n; minor = 0 }) i.places.keys c.first_from.result) c.from.ensures c.first_from.ensures.least in
-    let stands = subst (λ o. IsLeastFrom (record { major = c.args.change.from; minor = 0 }) i.places.keys o) c.in-Some.is least in
-    let there = placed_there c.in-Some.key i.places (held_from 0 i.slots.items) c.self.invariant.by_place stands.1 in
-    let slot = slot_item c.in-Some.key.minor i.slots.items c.index_mut.result.now c.take.result c.in-Some-take.item there c.index_mut.ensures.value c.take.ensures.value c.in-Some-take.is in
-    let key = placed_first c.in-Some.key i.places i.slots.items c.in-Some-take.item c.self.invariant.by_place stands.1 slot in
+    let key = place_at c.args.change.from c.in-Some.number in
+    let stands : 0 < times (place_at c.args.change.from c.in-Some.number) i.places.keys = rw c.from.ensures at (c.in-Some.ensures {u = tt}) in
+    let there = placed_there key i.places (held_from 0 i.slots.items) c.self.invariant.by_place stands in
+    let slot = slot_item c.in-Some.number i.slots.items c.index_mut.result.now c.take.result c.in-Some-take.item there c.index_mut.ensures.value c.take.ensures.value c.in-Some-take.is in
+    let first_key = placed_first key i.places i.slots.items c.in-Some-take.item c.self.invariant.by_place stands slot in
     rw c.take.ensures.after
-    (slots-placed c.in-Some.key.minor (vec_capacity i.free) c.args.change.to i.slots.items i.free.items c.in-Some-take.item i.names i.places c.remove.new.self c.insert.new.self c.self.invariant slot
-    (subst (λ q. (k : Key) → times k c.remove.new.self.keys + bit (same_key k q) ≡ times k i.places.keys) (sym key) c.remove.ensures.keys) c.remove.ensures.room
+    (slots-placed c.in-Some.number (vec_capacity i.free) c.args.change.to i.slots.items i.free.items c.in-Some-take.item i.names i.places c.remove.new.self c.insert.new.self c.self.invariant slot
+    (subst (λ q. (k : Key) → times k c.remove.new.self.keys + bit (same_key k q) ≡ times k i.places.keys) (sym first_key) (rw c.from-2.ensures at c.remove.ensures.keys)) c.remove.ensures.room
     (rw c.from-3.ensures at c.insert.ensures.keys) c.insert.ensures.room)
 
 pub returns-clause-held : goal.returns-clause-held
 returns-clause-held c =
     let i = c.self.inside in
-    let least = subst (λ n. IsLeastFrom (record { major = n; minor = 0 }) i.places.keys c.first_from.result) c.from.ensures c.first_from.ensures.least in
-    let stands = subst (λ o. IsLeastFrom (record { major = c.args.change.from; minor = 0 }) i.places.keys o) c.in-Some.is least in
-    let there = placed_there c.in-Some.key i.places (held_from 0 i.slots.items) c.self.invariant.by_place stands.1 in
-    let slot = slot_item c.in-Some.key.minor i.slots.items c.index_mut.result.now c.take.result c.in-Some-take.item there c.index_mut.ensures.value c.take.ensures.value c.in-Some-take.is in
-    let key = placed_first c.in-Some.key i.places i.slots.items c.in-Some-take.item c.self.invariant.by_place stands.1 slot in
-    let first : c.in-Some-take.item.block.first ≡ c.args.change.from = ap (λ (k : Key). k.major) key ∙ (c.if-key-from.false ∙ c.from-2.ensures) in
+    let key = place_at c.args.change.from c.in-Some.number in
+    let stands : 0 < times (place_at c.args.change.from c.in-Some.number) i.places.keys = rw c.from.ensures at (c.in-Some.ensures {u = tt}) in
+    let there = placed_there key i.places (held_from 0 i.slots.items) c.self.invariant.by_place stands in
+    let slot = slot_item c.in-Some.number i.slots.items c.index_mut.result.now c.take.result c.in-Some-take.item there c.index_mut.ensures.value c.take.ensures.value c.in-Some-take.is in
+    let first_key = placed_first key i.places i.slots.items c.in-Some-take.item c.self.invariant.by_place stands slot in
+    let first : c.in-Some-take.item.block.first ≡ c.args.change.from = ap (λ (k : Key). k.major) first_key in
     rw c.take.ensures.after
-    (held-map (moved_numbered c.args.change) 0 c.in-Some.key.minor i.slots.items c.in-Some-take.item _ slot (λ n. moved_same c.args.change c.in-Some-take.item n first c.requires)
+    (held-map (moved_numbered c.args.change) 0 c.in-Some.number i.slots.items c.in-Some-take.item _ slot (λ n. moved_same c.args.change c.in-Some-take.item n first c.requires)
     ∙ ap (λ (d : Tabled). map (moved_numbered c.args.change) d.held) c.self.view_is)
 
 stood : (a b : ℕ) → a ≡ b → bit (a == b) ≡ 1
@@ -85,12 +78,15 @@ stands_not a b e = grind (arith, nat_tests)
 pub returns-clause-one : goal.returns-clause-one
 returns-clause-one c = λ _.
     let i = c.self.inside in
-    let least = subst (λ n. IsLeastFrom (record { major = n; minor = 0 }) i.places.keys c.first_from.result) c.from.ensures c.first_from.ensures.least in
-    let stands = subst (λ o. IsLeastFrom (record { major = c.args.change.from; minor = 0 }) i.places.keys o) c.in-Some.is least in
-    let there = placed_there c.in-Some.key i.places (held_from 0 i.slots.items) c.self.invariant.by_place stands.1 in
-    let slot = slot_item c.in-Some.key.minor i.slots.items c.index_mut.result.now c.take.result c.in-Some-take.item there c.index_mut.ensures.value c.take.ensures.value c.in-Some-take.is in
-    let key = placed_first c.in-Some.key i.places i.slots.items c.in-Some-take.item c.self.invariant.by_place stands.1 slot in
-    let first : c.in-Some-take.item.block.first ≡ c.args.change.from = ap (λ (k : Key). k.major) key ∙ (c.if-key-from.false ∙ c.from-2.ensures) in
-    let counts = total-set (λ h. bit (h.table.block.first == c.args.change.from)) c.in-Some.key.minor i.slots.items c.in-Some-take.item
+    let key = place_at c.args.change.from c.in-Some.number in
+    let stands : 0 < times (place_at c.args.change.from c.in-Some.number) i.places.keys = rw c.from.ensures at (c.in-Some.ensures {u = tt}) in
+    let there = placed_there key i.places (held_from 0 i.slots.items) c.self.invariant.by_place stands in
+    let slot = slot_item c.in-Some.number i.slots.items c.index_mut.result.now c.take.result c.in-Some-take.item there c.index_mut.ensures.value c.take.ensures.value c.in-Some-take.is in
+    let first_key = placed_first key i.places i.slots.items c.in-Some-take.item c.self.invariant.by_place stands slot in
+    let first : c.in-Some-take.item.block.first ≡ c.args.change.from = ap (λ (k : Key). k.major) first_key in
+    let counts = total-set (λ h. bit (h.table.block.first == c.args.change.from)) c.in-Some.number i.slots.items c.in-Some-take.item
     (record { table = c.in-Some-take.item.table; block = record { first = c.args.change.to; words = c.in-Some-take.item.block.words } }) slot in
     rw (c.take.ensures.after, ← c.self.view_is) (omega (arith, counts, stood c.in-Some-take.item.block.first c.args.change.from first, stands_not c.args.change.from c.args.change.to c.requires))
+
+pub remove-requires : goal.remove-requires
+remove-requires c = rw (c.from.ensures, ← c.from-2.ensures) at (c.in-Some.ensures {u = tt})

@@ -1,31 +1,30 @@
-use Rattle.std.proofs.Common.{Some, None, sym, ap, ◌∙◌, subst}
-use Rattle.std.proofs.lemmas.Option.{none-some, same_Some}
-use Rattle.qc_index.specs.declared.keys.Key.{Key}
+use Rattle.std.proofs.Common.{◌∙◌, sym, ap, None, arith}
+use Rattle.std.proofs.lemmas.List.{get_or_read}
 use Rattle.qc_dir.specs.Directory.{entry_at}
-use Rattle.qc_dir.specs.Keys.{IsLeastFrom}
-use Rattle.qc_dir.specs.Uses.{Use, Used, entries_of, stamp_key}
-use Rattle.qc_dir.proofs.UseCalls.{entry-none, entry-some}
+use Rattle.qc_dir.specs.Uses.{Used, entries_of}
+use Rattle.qc_dir.proofs.UseSteps.{slot-found, entry-none, entry-some}
 use Rattle.qc_dir.proofs.uses.Uses.entry.Goals as goal
+
+pub slot_of-requires-clause-filed : goal.slot_of-requires-clause-filed
+slot_of-requires-clause-filed c = rw c.deref.ensures.value c.self.invariant.0.by_serial
+
+pub slot_of-requires-clause-many : goal.slot_of-requires-clause-many
+slot_of-requires-clause-many c = c.self.invariant.0.many
 
 pub returns-in_default : goal.returns-in_default
 returns-in_default c =
-    entry-none c.args.serial c.self.inside.entries.items _ c.self.inside.serials c.self.inside.idle c.first_from.result c.self.invariant.0 c.first_from.ensures.least (λ k is same. c.in_default.not-Some k is)
-    ∙ ap (λ (u : Used). entry_at c.args.serial (entries_of u)) c.self.view_is
+    let i = c.self.inside in
+    let u = c.self.invariant.0 in
+    sym (entry-none c.args.serial i.slots.items i.order u.ordered (omega (arith, u.two)) (rw c.deref.ensures.value at (c.in_default.ensures {u = tt}))) ∙ ap (λ (d : Used). entry_at c.args.serial (entries_of d)) c.self.view_is
 
-pub returns-then-key-serial : goal.returns-then-key-serial
-returns-then-key-serial c =
-    entry-none c.args.serial c.self.inside.entries.items _ c.self.inside.serials c.self.inside.idle c.first_from.result c.self.invariant.0 c.first_from.ensures.least
-    (λ k is same. c.if-key-serial.true (ap (λ (j : Key). j.major) (sym (same_Some k c.in-Some.key (sym is ∙ c.in-Some.is))) ∙ same))
-    ∙ ap (λ (u : Used). entry_at c.args.serial (entries_of u)) c.self.view_is
+pub index-requires : goal.index-requires
+index-requires c = omega (arith, rw c.deref.ensures.value at (c.in-Some.ensures {u = tt}).0, c.self.inside.slots.ok.0)
 
-pub returns-in-Some-first_from : goal.returns-in-Some-first_from
-returns-in-Some-first_from c =
-    let least = subst (λ o. IsLeastFrom (stamp_key c.args.serial) c.self.inside.serials.keys o) c.in-Some.is c.first_from.ensures.least in
-    let found = entry-some c.args.serial c.self.inside.entries.items _ c.self.inside.serials c.self.inside.idle c.in-Some.key (Some c.in-Some-first_from.member.now) c.self.invariant.0 least c.if-key-serial.false (c.in-Some-first_from.ensures {u = tt}).member in
-    ap (λ (m : Use). Some m.value) (same_Some c.in-Some-first_from.member.now found.0 found.1) ∙ (sym found.2 ∙ ap (λ (u : Used). entry_at c.args.serial (entries_of u)) c.self.view_is)
-
-pub returns-in-None : goal.returns-in-None
-returns-in-None c =
-    let least = subst (λ o. IsLeastFrom (stamp_key c.args.serial) c.self.inside.serials.keys o) c.in-Some.is c.first_from.ensures.least in
-    let found = entry-some c.args.serial c.self.inside.entries.items _ c.self.inside.serials c.self.inside.idle c.in-Some.key None c.self.invariant.0 least c.if-key-serial.false (c.in-None.ensures {u = tt}).member in
-    absurd (none-some found.0 found.1)
+pub returns : goal.returns
+returns c =
+    let i = c.self.inside in
+    let u = c.self.invariant.0 in
+    let is = rw c.deref.ensures.value at (c.in-Some.ensures {u = tt}) in
+    let at = slot-found c.args.serial c.in-Some.slot i.slots.items i.order i.by_serial i.mask i.count i.incomplete u is.0 is.1 in
+    c.as_ref.ensures.value ∙ (get_or_read i.slots.items c.in-Some.slot c.index.result.now is.0 c.index.ensures None ∙ (at.1.holds
+    ∙ (sym (entry-some c.args.serial c.in-Some.slot i.slots.items i.order at.0 at.1) ∙ ap (λ (d : Used). entry_at c.args.serial (entries_of d)) c.self.view_is)))

@@ -1,0 +1,5 @@
+use Rattle.qc_dir.specs.Filed.{IsFreeing}
+use Rattle.qc_dir.proofs.filed.all_free.Given as goal
+
+abbrev pub invariant-loop-slot : goal.invariant-loop-slot
+invariant-loop-slot l = IsFreeing l.mask l.slots l.slot l.lists
