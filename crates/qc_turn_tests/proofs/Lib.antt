@@ -1,3 +1,4 @@
 pub mod Chained
 pub mod Meetings
 pub mod Pushes
+pub mod Threes

@@ -1,3 +1,4 @@
 pub mod Logs
 pub mod Strips
 pub mod Shares
+pub mod Threes

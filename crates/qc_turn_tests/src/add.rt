@@ -5,6 +5,7 @@ ghost use Rattle.qc_turn.specs.Seats.{IsSeatOf, view};
 ghost use Rattle.qc_turn.specs.Views.{of_seat};
 ghost use Rattle.qc_turn.specs.declared.task.Task.TheVariants.{Rest};
 ghost use Rattle.qc_turn_tests.specs.Logs.{entry};
+ghost use Rattle.qc_turn_tests.specs.Threes.{three_entries, HasMetThree};
 
 use crate::log::{LOG_WORDS, Log, push};
 use qc_turn::{Busy, Kept, Seat, Task, Turn};
@@ -25,6 +26,7 @@ pub fn add<R: Wait>(
     ensures rests { (view seat.new).task ≡ Rest }
     ensures ok { OnOk result ((view seat.new).events ≡ (view seat.old).events ++ entry ((view seat.old).number - 1) number ∷ []) }
     ensures err { OnErr result ((view seat.new).events ≡ (view seat.old).events) }
+    ensures own { (view seat.new).events ≡ of_seat ⟦<Log as Kept>⟧ (view seat.new).number (view seat.new).seen }
 {
     let mut held = turn.take(rt, seat);
     let done = if held.value().len() < 1 << 32 {
@@ -63,9 +65,19 @@ pub fn asks_once(turn: &Turn<Log>, seat: &mut Seat<Log>) -> bool
     }
 }
 
-/// A second seat adds three entries, and the first one meets it. The log has these entries of it and no others.
+/// Closes the turn. The first seat, which has met a second one that had added three entries, has seen these and no others, and the log has no others.
+fn close_three(turn: Turn<Log>, first: Seat<Log>) -> Log
+    requires seated { IsSeatOf turn first × ((view first).number ≡ 1) }
+    requires met { HasMetThree (view first) }
+    ensures seen { (view first).seen ≡ three_entries }
+    ensures log { result.entries.items ≡ three_entries }
+{
+    turn.close(first)
+}
+
+/// A second seat adds three entries, and the first one meets it. The log has these entries and no others.
 pub fn three<R: Wait>(rt: &R, alloc: Global) -> Result<Option<Log>, NoMemory>
-    ensures { IfOk result (λ some. IfSome some (λ log. (of_seat ⟦<Log as Kept>⟧ 2 log.entries.items ≡ entry 1 1 ∷ entry 1 2 ∷ entry 1 3 ∷ []) × (of_seat ⟦<Log as Kept>⟧ 1 log.entries.items ≡ []))) }
+    ensures { IfOk result (λ some. IfSome some (λ log. log.entries.items ≡ three_entries)) }
 {
     let (turn, mut first) = Turn::new(alloc, Log::new(alloc), LOG_WORDS)?;
     let Ok(mut second) = first.split(alloc, &turn) else {
@@ -76,10 +88,10 @@ pub fn three<R: Wait>(rt: &R, alloc: Global) -> Result<Option<Log>, NoMemory>
     let two = add(rt, &turn, &mut second, 2).is_ok();
     let three = add(rt, &turn, &mut second, 3).is_ok();
     first.meet(&turn, second);
-    let log = turn.close(first);
     if one && two && three {
-        Ok(Some(log))
+        Ok(Some(close_three(turn, first)))
     } else {
+        let _log = turn.close(first);
         Ok(None)
     }
 }

@@ -1,13 +1,14 @@
 use Rattle.std.proofs.Common.{rules, sym, ◌∙◌}
 use Rattle.qc_turn.specs.Seats.{view}
-use Rattle.qc_turn_tests.proofs.Pushes.{row, done}
+use Rattle.qc_turn_tests.proofs.Pushes.{done}
+use Rattle.qc_turn_tests.proofs.Threes.{met_three}
 use Rattle.qc_turn_tests.proofs.add.three.Goals as goal
 
-pub returns-then-three : goal.returns-then-three
-returns-then-three g c =
-    row (view c.in_ok-turn.first) (view c.split.new.self) (view c.meet.new.self) (view c.in-Ok.second) (view c.add.new.seat) (view c.add-2.new.seat) (view c.add-3.new.seat) c.close-log-2.result
+pub close_three-requires-clause-met : goal.close_three-requires-clause-met
+close_three-requires-clause-met g c =
+    met_three (view c.in_ok-turn.first) (view c.split.new.self) (view c.meet.new.self) (view c.in-Ok.second) (view c.add.new.seat) (view c.add-2.new.seat) (view c.add-3.new.seat)
     (search rules) c.in-Ok.ensures.next.1 c.in-Ok.ensures.ok.0
     c.add.ensures.number (done _ _ c.add.ensures.ok c.if-one.ensures.value)
     c.add-2.ensures.number (done _ _ c.add-2.ensures.ok c.if-two.ensures.value)
     c.add-3.ensures.number (done _ _ c.add-3.ensures.ok c.if-three.ensures.value)
-    c.meet.ensures.view c.close-log-2.ensures
+    c.add-3.ensures.own c.meet.ensures.view
