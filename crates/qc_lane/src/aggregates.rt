@@ -1,0 +1,85 @@
+//! The sum, the least and the greatest of the values that a mask leaves.
+
+ghost use Rattle.std.specs.Prelude.{◌≡◌, ◌≤◌, ◌^◌, ◌+ℤ◌, ◌≤ℤ◌, length, neg_ℤ, pos};
+ghost use Rattle.qc_lane.specs.Lanes.{kept_or_zero, greatest, least, masked, or_greater, or_smaller, total, words_for, EndsAt};
+
+use crate::bits::has_bit;
+use qc_types::Wide;
+
+/// The sum of the values whose bit is set, and 0 where there is none. Linear in how many values there are.
+pub fn sum_masked(values: &[i64], mask: &[u64]) -> Wide
+    requires few { length values.now ≤ 1048576 }
+    requires words { length mask.now ≡ words_for (length values.now) }
+    requires ends { EndsAt mask.now (length values.now) }
+    ensures { result.0 ≡ total (masked mask.now values.now) }
+{
+    let mut sum = 0i128;
+    for i in (0..values.len()).rev() {
+        sum = added(sum, kept(values[i], has_bit(mask, i)));
+    }
+    Wide(sum)
+}
+
+/// The least of the values whose bit is set, `None` exactly where there is none. Linear in how many values there are.
+pub fn min_masked(values: &[i64], mask: &[u64]) -> Option<i64>
+    requires few { length values.now ≤ 1048576 }
+    requires words { length mask.now ≡ words_for (length values.now) }
+    requires ends { EndsAt mask.now (length values.now) }
+    ensures { result ≡ least (masked mask.now values.now) }
+{
+    let mut least = None;
+    for i in (0..values.len()).rev() {
+        let next = smaller(values[i], least);
+        if has_bit(mask, i) {
+            least = Some(next);
+        }
+    }
+    least
+}
+
+/// The greatest of the values whose bit is set, `None` exactly where there is none. Linear in how many values there are.
+pub fn max_masked(values: &[i64], mask: &[u64]) -> Option<i64>
+    requires few { length values.now ≤ 1048576 }
+    requires words { length mask.now ≡ words_for (length values.now) }
+    requires ends { EndsAt mask.now (length values.now) }
+    ensures { result ≡ greatest (masked mask.now values.now) }
+{
+    let mut greatest = None;
+    for i in (0..values.len()).rev() {
+        let next = greater(values[i], greatest);
+        if has_bit(mask, i) {
+            greatest = Some(next);
+        }
+    }
+    greatest
+}
+
+/// A value whose bit is set, and else 0.
+fn kept(value: i64, is_set: bool) -> i64
+    ensures { result ≡ kept_or_zero is_set value }
+{
+    if is_set { value } else { 0 }
+}
+
+/// A sum with one more value.
+fn added(sum: i128, value: i64) -> i128
+    requires low { neg_ℤ (pos (2 ^ 83)) ≤ℤ sum }
+    requires high { sum ≤ℤ pos (2 ^ 83) }
+    ensures { result ≡ value +ℤ sum }
+{
+    value as i128 + sum
+}
+
+/// The smaller of a value and what was found so far.
+fn smaller(value: i64, found: Option<i64>) -> i64
+    ensures { result ≡ or_smaller value found }
+{
+    found.map_or(value, |other| value.min(other))
+}
+
+/// The greater of a value and what was found so far.
+fn greater(value: i64, found: Option<i64>) -> i64
+    ensures { result ≡ or_greater value found }
+{
+    found.map_or(value, |other| value.max(other))
+}
