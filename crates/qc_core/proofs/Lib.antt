@@ -1,0 +1,16 @@
+pub mod Counting
+pub mod Seating
+pub mod Pinning
+pub mod Standing
+pub mod Spelling
+pub mod Noting
+pub mod TaskRoom
+pub mod Connecting
+pub mod Uses
+pub mod Seeking
+pub mod Leaving
+pub mod OwnBlocks
+pub mod Pruned
+pub mod Pruning
+pub mod Beginning
+pub mod Reserving

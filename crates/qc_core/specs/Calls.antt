@@ -1,0 +1,56 @@
+-- What the calls ask.
+use Rattle.std.specs.Prelude.{◌≡◌, ℕ, ◌+◌, ◌-◌, ◌<◌, ◌≤◌, Bool, true, List, [], Some, not, ◌&&◌}
+use Rattle.qc_model.specs.declared.events.Who.{Who}
+use Rattle.qc_model.specs.declared.events.Event.{Event}
+use Rattle.qc_model.specs.declared.events.How.{How}
+use Rattle.qc_model.specs.declared.events.How.TheVariants as how
+use Rattle.qc_model.specs.Journal.{event_count}
+use Rattle.qc_model.specs.Cache.{cache, entry_of}
+use Rattle.qc_model.specs.Cache.{Entry as Cached}
+use Rattle.std.specs.List.{list_all}
+use Rattle.qc_model.specs.Session.{State}
+use Rattle.qc_model.specs.Choice.{is_stale, wrote}
+use Rattle.qc_dir.specs.declared.entries.Entry.{Entry}
+use Rattle.qc_dir.specs.Directory.{entry_at}
+use Rattle.qc_model.specs.Licence.{IsCommitOn}
+use Rattle.qc_turn.specs.Seats.{Held, holder}
+use Rattle.qc_turn.specs.Tasks.{listed_for}
+use Rattle.qc_turn.specs.declared.kept.Kept.{Ghosts}
+use Rattle.qc_sound.specs.parts.Journal.{reserved}
+use Rattle.qc_core.specs.declared.parts.Parts.{Parts}
+use Rattle.qc_core.specs.Whole.{tasks_of}
+use Rattle.qc_core.specs.Connects.{is_connected}
+
+-- it is the session of the seat, which is connected, with its next number, and nothing is listed for the seat
+pub record IsNext {K : Ghosts Parts Event} (h : Held Parts Event K) (who : Who) : Type 0 where
+  pub session : who.session ≡ (holder h).number - 1
+  pub number : who.number ≡ event_count h.value.journal.events who.session + 1
+  pub connected : is_connected (holder h).number h.value ≡ true
+  pub free : listed_for (holder h).number (tasks_of h.value) ≡ []
+
+-- events that change nothing of the cache
+abbrev pub IsNoted : Parts → How → Type 0
+IsNoted s how.Other = Unit {0}
+IsNoted s (how.Conflict t key by) = IsCommitOn s.journal.events by t
+IsNoted s _ = ⊥
+
+-- there is room for one event beside those that the entries may still have
+abbrev pub HasSpare : Parts → Type 0
+HasSpare s = reserved (cache s.journal.events) < s.journal.spare
+
+-- the entry with a serial has a key
+abbrev pub HasKey : ℕ → List ℕ → Parts → Type 0
+HasKey n key s = (y : Cached) × (entry_of n (cache s.journal.events) ≡ Some y) × (y.key ≡ key)
+
+abbrev pub LacksKey : ℕ → List ℕ → Parts → Type 0
+LacksKey n key s = (y : Cached) → entry_of n (cache s.journal.events) ≡ Some y → y.key ≡ key → ⊥
+
+-- whether an entry is complete, and the session sees its tables as they are now
+abbrev pub MaySend : State → ℕ → Parts → Bool → Type 0
+MaySend state n s b = (e : Entry) → entry_at n s.dir.entries ≡ Some e → b ≡ (e.complete && list_all (λ t. not (wrote state t) && not (is_stale state s.journal.events t)) e.tables)
+
+-- The same server, with as much room in the journal or more.
+pub record HasMoreRoom (old new : Parts) : Type 0 where
+  pub same : new ≡ record old { journal = new.journal }
+  pub events : new.journal.events ≡ old.journal.events
+  pub spare : old.journal.spare ≤ new.journal.spare

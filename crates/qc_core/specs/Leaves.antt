@@ -1,0 +1,49 @@
+-- An entry leaves.
+use Rattle.std.specs.Prelude.{◌≡◌, ℕ, ◌+◌, List, [], ◌∷◌, ◌++◌, map, length, drop, Option, Some, None, slice_set, IsPermutation}
+use Rattle.qc_tiles.specs.declared.blocks.Tile.{Tile}
+use Rattle.qc_tiles.specs.declared.blocks.Block.{Block}
+use Rattle.qc_tiles.specs.Tiles.{IsTiling, region_words}
+use Rattle.qc_chain.specs.Chains.{Chain, Chained, Begun, AreHandedOut, after_release}
+use Rattle.qc_dir.specs.declared.entries.Entry.{Entry}
+use Rattle.qc_dir.specs.declared.tables.TableBlock.{TableBlock}
+use Rattle.qc_dir.specs.Directory.{Directory, entry_at, RemovesEntry}
+use Rattle.qc_core.specs.declared.parts.Parts.{Parts}
+
+-- the blocks of the tables in some places
+abbrev pub blocks_in : List (Option TableBlock) → List Block
+blocks_in [] = []
+blocks_in (None ∷ ps) = blocks_in ps
+blocks_in (Some t ∷ ps) = t.block ∷ blocks_in ps
+
+abbrev pub table_blocks : List TableBlock → List Block
+table_blocks ts = map (λ t. t.block) ts
+
+-- the blocks that an entry gives back: those of its chain, its text, and of tables
+abbrev pub own_blocks : Entry → Chain → List TableBlock → List Block
+own_blocks e held freed = held.blocks ++ (e.text ∷ table_blocks freed)
+
+-- the entry is there with its chain, and its blocks are handed out, whichever of the tables are freed
+pub record MayLeave (serial : ℕ) (s : Parts) : Type 0 where
+  pub entry : Entry
+  pub held : Chain
+  pub there : entry_at serial s.dir.entries ≡ Some entry
+  pub begun : Begun entry.chain.number s.chains held
+  pub tiling : IsTiling (region_words s.tiles) s.tiles
+  pub out : (freed rest : List TableBlock) → IsPermutation s.dir.tables (freed ++ rest) → AreHandedOut s.tiles (own_blocks entry held freed)
+
+abbrev pub released : ℕ → Chain → Chained → Chained
+released n held cs = record { chains = slice_set cs.chains n None; room = cs.room + length held.blocks }
+
+abbrev pub left_by : Directory → Entry → Chain → List TableBlock → Parts → Parts
+left_by dir e held freed s = record s { dir = dir; chains = released e.chain.number held s.chains; tiles = after_release (own_blocks e held freed) s.tiles }
+
+-- the entry is out, and its blocks were given back
+pub record Leaves (serial : ℕ) (e : Entry) (held : Chain) (freed : List TableBlock) (old new : Parts) : Type 0 where
+  pub removed : RemovesEntry serial freed old.dir new.dir
+  pub server : new ≡ left_by new.dir e held freed old
+
+-- so many of the places have been gone through
+pub record IsReturning (ps : List (Option TableBlock)) (k : ℕ) (old now : List Tile) : Type 0 where
+  pub tiling : IsTiling (region_words old) now
+  pub left : after_release (blocks_in (drop k ps)) now ≡ after_release (blocks_in ps) old
+  pub out : AreHandedOut now (blocks_in (drop k ps))

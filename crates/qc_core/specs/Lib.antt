@@ -1,0 +1,11 @@
+pub mod Reserved
+pub mod Counted
+pub mod Pins
+pub mod Whole
+pub mod Connects
+pub mod Calls
+pub mod Hits
+pub mod KeptLaws
+pub mod Spelled
+pub mod Leaves
+pub mod Prunes

@@ -1,0 +1,27 @@
+//! The server behind the turn, and its calls.
+#![tactic(auto)]
+
+mod begins;
+mod counted;
+mod hits;
+mod keys;
+mod leaves;
+mod looks;
+mod notes;
+mod parts;
+mod pins;
+mod reserved;
+mod rooms;
+mod seats;
+mod server;
+
+pub use counted::CountedJournal;
+pub use hits::Hit;
+pub use looks::look;
+pub use notes::note;
+pub use parts::{Parts, RunningTask};
+pub use pins::Unpinner;
+pub use reserved::ReservedList;
+pub use rooms::reserve;
+pub use seats::{Full, enter, leave};
+pub use server::Server;

@@ -1,0 +1,34 @@
+//! Room in the journal.
+
+ghost use Rattle.std.specs.Prelude.{◌≡◌, ◌+◌, ◌≤◌, length, OnOk};
+ghost use Rattle.qc_dir.specs.Directory.{incomplete};
+ghost use Rattle.qc_turn.specs.Seats.{MayRelease, SameHolder};
+ghost use Rattle.qc_core.specs.Calls.{HasSpare, HasMoreRoom};
+
+use crate::server::Server;
+use qc_turn::Held;
+use qc_types::NoMemory;
+
+impl Server {
+    /// Makes room in the journal for an event, beside one for each entry and one more for each that isn't complete.
+    fn reserve_events(&mut self) -> Result<(), NoMemory>
+        requires { (length self.old.dir.entries ≤ 65536) × (incomplete self.old.dir.entries ≤ 65536) }
+        ensures same { HasMoreRoom self.old self.new }
+        ensures room { OnOk result (length self.old.dir.entries + incomplete self.old.dir.entries + 1 ≤ self.new.journal.spare) }
+    {
+        let events = self.parts.dir.len() + self.parts.dir.incomplete() + 1;
+        self.parts.journal.reserve(events)
+    }
+}
+
+/// Makes room in the journal for one deciding event, beside one for each entry and one more for each fill that is under way. Where memory lacks, the
+/// server is as it was.
+pub fn reserve(held: &mut Held<'_, Server>) -> Result<(), NoMemory>
+    requires stands { MayRelease held.old }
+    ensures stands { MayRelease held.new × SameHolder held.old held.new }
+    ensures same { HasMoreRoom held.old.value held.new.value }
+    ensures room { OnOk result (HasSpare held.new.value) }
+    ensures ranges { held.new.ranges ≡ held.old.ranges }
+{
+    held.value().reserve_events()
+}

@@ -1,0 +1,98 @@
+//! Seats connect and leave.
+
+ghost use Rattle.std.specs.Prelude.{◌≡◌, ◌+◌, ◌<◌, ◌==◌, true, false, nat_le, is_ok, IfOk, OnErr, IfSome, IfNone, slice_get, Some};
+ghost use Rattle.std.specs.List.{list_any};
+ghost use Rattle.qc_laws.specs.history.Runs.{are_distinct};
+ghost use Rattle.qc_turn.specs.Seats.{MayRelease, SameHolder, holder};
+ghost use Rattle.qc_turn.specs.Words.{word_seats};
+ghost use Rattle.qc_core.specs.Connects.{is_connected, connects, disconnects};
+
+use crate::parts::Parts;
+use crate::server::Server;
+use qc_turn::Held;
+
+/// The largest number of a seat that may connect.
+pub(crate) const LAST_SEAT: u32 = 65;
+
+/// Too many sessions are connected.
+#[derive(Clone, Copy, Debug, PartialEq, Eq)]
+pub struct Full;
+
+impl Parts {
+    /// The seat isn't connected any more.
+    fn disconnect(&mut self, seat: u32)
+        requires connected { is_connected seat self.old ≡ true }
+        requires once { are_distinct self.old.connected.items ≡ true }
+        ensures { self.new ≡ disconnects seat self.old }
+    {
+        let Some(index) = position(self.connected.items(), seat) else {
+            unreachable!()
+        };
+        let _ = self.connected.remove(index);
+    }
+}
+
+impl Server {
+    /// The seat is connected from now on.
+    fn connect(&mut self, seat: u32)
+        requires { 0 < self.old.connected.room }
+        ensures { self.new ≡ connects seat self.old }
+    {
+        self.parts.connected.push(seat);
+    }
+
+    /// The same of what is in the box.
+    fn disconnect(&mut self, seat: u32)
+        requires connected { is_connected seat self.old ≡ true }
+        requires once { are_distinct self.old.connected.items ≡ true }
+        ensures { self.new ≡ disconnects seat self.old }
+    {
+        self.parts.disconnect(seat);
+    }
+}
+
+/// Where a number stands first, if it does.
+fn position(numbers: &[u32], number: u32) -> Option<usize>
+    ensures some { IfSome result (λ i. slice_get numbers.now i ≡ Some number) }
+    ensures none { IfNone result (list_any (λ m. m == number) numbers.now ≡ false) }
+{
+    let mut index = 0;
+    for item in numbers {
+        if *item == number {
+            return Some(index);
+        }
+        index += 1;
+    }
+    None
+}
+
+/// Connects the seat that holds the turn, and gives the number of its session, which is the seat's number less 1. Full exactly where the number of the
+/// seat is above 65; then nothing changes. Constant time.
+pub fn enter(held: &mut Held<'_, Server>) -> Result<u8, Full>
+    requires stands { MayRelease held.old }
+    requires free { is_connected (holder held.old).number held.old.value ≡ false }
+    ensures stands { MayRelease held.new × SameHolder held.old held.new }
+    ensures full { is_ok result ≡ nat_le (holder held.old).number word_seats }
+    ensures ok { IfOk result (λ session. (session + 1 ≡ (holder held.old).number) × (held.new.value ≡ connects (holder held.old).number held.old.value)) }
+    ensures err { OnErr result (held.new.value ≡ held.old.value) }
+    ensures ranges { held.new.ranges ≡ held.old.ranges }
+{
+    let seat = held.number();
+    if seat > LAST_SEAT {
+        return Err(Full);
+    }
+    held.value().connect(seat);
+    Ok((seat - 1) as u8)
+}
+
+/// Ends the connection of the seat that holds the turn, whose session this is.
+pub fn leave(held: &mut Held<'_, Server>, session: u8)
+    requires stands { MayRelease held.old }
+    requires session { session + 1 ≡ (holder held.old).number }
+    requires connected { is_connected (holder held.old).number held.old.value ≡ true }
+    ensures stands { MayRelease held.new × SameHolder held.old held.new }
+    ensures left { held.new.value ≡ disconnects (holder held.old).number held.old.value }
+    ensures ranges { held.new.ranges ≡ held.old.ranges }
+{
+    held.value().disconnect(u32::from(session) + 1);
+}
