@@ -1,5 +1,5 @@
 -- Bits of masks.
-use Rattle.std.proofs.Common.{◌≡◌, ℕ, ◌+◌, ◌-◌, ◌*◌, ◌/◌, ◌%◌, ◌<◌, ◌≤◌, ℤ, pos, negsuc, Bool, true, false, cond, not, List, [], ◌∷◌, map, length, length-drop, get_or, set, drop, zero, suc, refl, sym, ap, ◌∙◌, arith, min, bit_and, nat_eq, nat_lt, nat_le, Fits, FitsSigned, w64, of_z, to_z, ◌^◌}
+use Rattle.std.proofs.Common.{◌≡◌, ℕ, ◌+◌, ◌-◌, ◌*◌, ◌/◌, ◌%◌, ◌<◌, ◌≤◌, ℤ, pos, negsuc, Bool, true, false, true≢false, cond, not, List, [], ◌∷◌, map, length, length-drop, get_or, set, drop, zero, suc, refl, sym, ap, ◌∙◌, arith, min, bit_and, nat_eq, nat_lt, nat_le, Fits, FitsSigned, w64, of_z, to_z, ◌^◌}
 use Rattle.std.specs.Prelude.{◌==◌, ◌&&◌, int_le, int_lt, replicate}
 use Rattle.std.specs.Int.{bit_at}
 use mir.Val.{bool_byte}
@@ -13,7 +13,7 @@ use Rattle.std.proofs.Math.Pow.{pow_mono}
 use Rattle.std.proofs.lemmas.List.{drop_more, get_or-drop, get_or-map, get_or-set_same, get_or-set_other, get_or_past, length-map}
 use Rattle.std.proofs.lemmas.Nat.Bits.{bit_at_and, bit_at_not, bit_at-lt, bit_at-zero}
 use Rattle.std.proofs.lemmas.Simd.{bit_mask_l, bitmask_splat, get_or-chunk, length-chunk, mask_l-lt, mask_l-mod, tops_compared, zip2_splat_left}
-use Rattle.qc_lane.specs.Lanes.{is_set, masked_from}
+use Rattle.qc_lane.specs.Lanes.{is_set, masked_from, EndsAt}
 use Rattle.qc_lane.specs.SetBits.{AreClear}
 
 -- ---- numbers that are 0 or 1
@@ -182,6 +182,13 @@ pub next_kept : (mask : List ℕ) (xs : List ℤ) (from i : ℕ) → from ≤ i 
 next_kept mask xs from i come within clear set =
     let at : from + (i - from) ≡ i = omega (arith, come) in
     left_out mask xs (i - from) from (omega (arith, come, within)) (λ j behind before. clear j behind (omega (arith, before, come))) ∙ (ap (λ k. masked_from k mask (drop k xs)) at ∙ kept_here mask xs i within set)
+
+pub is_value : (mask : List ℕ) (xs : List ℤ) (i : ℕ) → EndsAt mask (length xs) → is_set mask i ≡ true → i < length xs
+is_value mask xs i ends here =
+    elim (nat_lt i (length xs)) as (λ b. nat_lt i (length xs) ≡ b → i < length xs) [
+      | true ↦ λ p. grind (arith, nat_tests)
+      | false ↦ λ p. let far : length xs ≤ i = grind (arith, nat_tests) in absurd (true≢false (sym here ∙ ends i far))
+    ] refl
 
 -- where no bit is set from one on, nothing is left
 pub none_kept : (mask : List ℕ) (xs : List ℤ) (from : ℕ) → ((i : ℕ) → from ≤ i → is_set mask i ≡ false) → masked_from from mask xs ≡ []

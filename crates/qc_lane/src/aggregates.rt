@@ -3,7 +3,7 @@
 ghost use Rattle.std.specs.Prelude.{◌≡◌, ◌≤◌, ◌^◌, ◌+ℤ◌, ◌≤ℤ◌, length, neg_ℤ, pos};
 ghost use Rattle.qc_lane.specs.Lanes.{greatest, least, masked, or_greater, or_smaller, total, words_for, EndsAt};
 
-use crate::bits::{SetBits, has_bit};
+use crate::bits::SetBits;
 use qc_types::Wide;
 
 /// The sum of the values whose bit is set, and 0 where there is none. Linear in how many values there are.
@@ -29,11 +29,9 @@ pub fn min_masked(values: &[i64], mask: &[u64]) -> Option<i64>
     ensures { result ≡ least (masked mask.now values.now) }
 {
     let mut least = None;
-    for i in (0..values.len()).rev() {
-        let next = smaller(values[i], least);
-        if has_bit(mask, i) {
-            least = Some(next);
-        }
+    let mut bits = SetBits::of(mask);
+    while let Some(i) = bits.next(mask) {
+        least = Some(smaller(values[i], least));
     }
     least
 }
@@ -46,11 +44,9 @@ pub fn max_masked(values: &[i64], mask: &[u64]) -> Option<i64>
     ensures { result ≡ greatest (masked mask.now values.now) }
 {
     let mut greatest = None;
-    for i in (0..values.len()).rev() {
-        let next = greater(values[i], greatest);
-        if has_bit(mask, i) {
-            greatest = Some(next);
-        }
+    let mut bits = SetBits::of(mask);
+    while let Some(i) = bits.next(mask) {
+        greatest = Some(greater(values[i], greatest));
     }
     greatest
 }

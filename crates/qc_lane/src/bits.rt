@@ -1,16 +1,8 @@
-//! Single bits.
+//! The bits of a mask that are set.
 
 ghost use Rattle.std.specs.Prelude.{◌≡◌, ℕ, ◌+◌, ◌/◌, ◌<◌, ◌≤◌, length, true, false, IfSome, IfNone};
 ghost use Rattle.qc_lane.specs.Lanes.{is_set};
 ghost use Rattle.qc_lane.specs.SetBits.{AreClear, IsAhead};
-
-/// Whether the bit of a value is set.
-pub(crate) fn has_bit(words: &[u64], at: usize) -> bool
-    requires { at / 64 < length words.now }
-    ensures { result ≡ is_set words.now at }
-{
-    (words[at / 64] >> (at % 64)) % 2 == 1
-}
 
 /// The bits of a mask that are set, from the lowest on.
 #[derive(Drop)]

@@ -1,23 +1,15 @@
 -- The next value whose bit is set is added.
-use Rattle.std.proofs.Common.{◌≡◌, ◌+ℤ◌, ◌∙◌, ◌+◌, ◌<◌, ◌≤◌, ℕ, ℤ, List, [], ap, arith, drop, length, sym, refl, rules, w64, to_z, of_z, FitsSigned, get_or, pos, true, false, true≢false, nat_lt}
+use Rattle.std.proofs.Common.{◌≡◌, ◌+ℤ◌, ◌∙◌, ◌+◌, ℤ, [], ap, arith, drop, sym, rules, w64, to_z, of_z, FitsSigned, get_or, pos}
 use Rattle.std.specs.Int.{w128}
-use Rattle.std.proofs.lemmas.Bool.Decides.{nat_tests}
 use Rattle.std.proofs.Math.IntN.{+ℤ_assoc, +ℤ_comm}
 use Rattle.std.proofs.lemmas.Int.{ints, to_z-of_z}
-use Rattle.qc_lane.specs.Lanes.{masked_from, total, is_set, EndsAt}
-use Rattle.qc_lane.proofs.BitSteps.{next_kept, none_kept}
+use Rattle.qc_lane.specs.Lanes.{masked_from, total}
+use Rattle.qc_lane.proofs.BitSteps.{is_value, next_kept, none_kept}
 use Rattle.qc_lane.proofs.aggregates.sum_masked.Goals as goal
 
 -- the sum so far, and one more value in front of the others
 moved_on : (x sum rest whole : ℤ) → sum +ℤ (x +ℤ rest) ≡ whole → (x +ℤ sum) +ℤ rest ≡ whole
 moved_on x sum rest whole is = ap (λ s. s +ℤ rest) (+ℤ_comm x sum) ∙ (+ℤ_assoc sum x rest ∙ is)
-
-is_value : (mask : List ℕ) (xs : List ℤ) (i : ℕ) → EndsAt mask (length xs) → is_set mask i ≡ true → i < length xs
-is_value mask xs i ends set =
-    elim (nat_lt i (length xs)) as (λ b. nat_lt i (length xs) ≡ b → i < length xs) [
-      | true ↦ λ p. grind (arith, nat_tests)
-      | false ↦ λ p. let far : length xs ≤ i = grind (arith, nat_tests) in absurd (true≢false (sym set ∙ ends i far))
-    ] refl
 
 pub loop-i-preserved : goal.loop-i-preserved
 loop-i-preserved c =
