@@ -1,19 +1,20 @@
 -- Bits of masks.
-use Rattle.std.proofs.Common.{◌≡◌, ℕ, ◌+◌, ◌-◌, ◌*◌, ◌/◌, ◌%◌, ◌<◌, ◌≤◌, ℤ, pos, negsuc, Bool, true, false, cond, not, List, [], ◌∷◌, map, length, length-drop, get_or, set, drop, zero, suc, refl, sym, ap, ◌∙◌, arith, min, bit_and, nat_eq, nat_lt, nat_le, Fits, FitsSigned, w64, of_z, to_z, ◌^◌, ◌+ℤ◌}
+use Rattle.std.proofs.Common.{◌≡◌, ℕ, ◌+◌, ◌-◌, ◌*◌, ◌/◌, ◌%◌, ◌<◌, ◌≤◌, ℤ, pos, negsuc, Bool, true, false, true≢false, cond, not, List, [], ◌∷◌, map, length, length-drop, get_or, set, drop, zero, suc, refl, sym, ap, ◌∙◌, arith, min, bit_and, nat_eq, nat_lt, nat_le, Fits, FitsSigned, w64, of_z, to_z, ◌^◌}
 use Rattle.std.specs.Prelude.{◌==◌, ◌&&◌, int_le, int_lt, replicate}
 use Rattle.std.specs.Int.{bit_at}
 use mir.Val.{bool_byte}
 use Rattle.std.specs.Simd.Lanes.{chunk, mask_l, top, zip2}
 use Rattle.std.specs.Ordering.{int_eq}
 use Rattle.std.specs.Cmp.{signed_Decides, unsigned_Decides}
-use Rattle.std.proofs.lemmas.Int.{ints, to_z-of_z}
+use Rattle.std.proofs.lemmas.Int.{to_z-of_z}
 use Rattle.std.proofs.lemmas.Bool.Decides.{nat_tests}
 use Rattle.std.proofs.Math.Nat.{lt_of_lt_of_le}
 use Rattle.std.proofs.Math.Pow.{pow_mono}
 use Rattle.std.proofs.lemmas.List.{drop_more, get_or-drop, get_or-map, get_or-set_same, get_or-set_other, get_or_past, length-map}
 use Rattle.std.proofs.lemmas.Nat.Bits.{bit_at_and, bit_at_not, bit_at-lt, bit_at-zero}
 use Rattle.std.proofs.lemmas.Simd.{bit_mask_l, bitmask_splat, get_or-chunk, length-chunk, mask_l-lt, mask_l-mod, tops_compared, zip2_splat_left}
-use Rattle.qc_lane.specs.Lanes.{is_set, masked_from, total, kept_or_zero}
+use Rattle.qc_lane.specs.Lanes.{is_set, masked_from, EndsAt}
+use Rattle.qc_lane.specs.SetBits.{AreClear}
 
 -- ---- numbers that are 0 or 1
 
@@ -160,16 +161,41 @@ one_left_out mask xs i some within set =
     let back : i - 1 + 1 ≡ i = omega (arith, some) in
     ap (masked_from (i - 1) mask) (drop_more xs (i - 1) (pos 0) (omega (arith, some, within))) ∙ rw (set, back) refl
 
-pub total_more : (mask : List ℕ) (xs : List ℤ) (i : ℕ) → 0 < i → i ≤ length xs
-    → total (masked_from (i - 1) mask (drop (i - 1) xs)) ≡ kept_or_zero (is_set mask (i - 1)) (get_or xs (i - 1) (pos 0)) +ℤ total (masked_from i mask (drop i xs))
-total_more mask xs i some within =
-    elim (is_set mask (i - 1)) as (λ b. is_set mask (i - 1) ≡ b → total (masked_from (i - 1) mask (drop (i - 1) xs)) ≡ kept_or_zero b (get_or xs (i - 1) (pos 0)) +ℤ total (masked_from i mask (drop i xs))) [
-      | true ↦ λ p. ap total (one_kept mask xs i some within p)
-      | false ↦ λ p.
-          let rest = total (masked_from i mask (drop i xs)) in
-          let same : pos 0 +ℤ rest ≡ rest = grind (arith, ints) in
-          ap total (one_left_out mask xs i some within p) ∙ sym same
+-- the next value whose bit is set, behind those whose bit isn't
+
+kept_here : (mask : List ℕ) (xs : List ℤ) (i : ℕ) → i < length xs → is_set mask i ≡ true → masked_from i mask (drop i xs) ≡ get_or xs i (pos 0) ∷ masked_from (i + 1) mask (drop (i + 1) xs)
+kept_here mask xs i within set = ap (masked_from i mask) (drop_more xs i (pos 0) within) ∙ rw set refl
+
+left_out_here : (mask : List ℕ) (xs : List ℤ) (i : ℕ) → i < length xs → is_set mask i ≡ false → masked_from i mask (drop i xs) ≡ masked_from (i + 1) mask (drop (i + 1) xs)
+left_out_here mask xs i within set = ap (masked_from i mask) (drop_more xs i (pos 0) within) ∙ rw set refl
+
+left_out : (mask : List ℕ) (xs : List ℤ) (n from : ℕ) → from + n ≤ length xs → AreClear mask from (from + n) → masked_from from mask (drop from xs) ≡ masked_from (from + n) mask (drop (from + n) xs)
+left_out mask xs zero from within clear = ap (λ k. masked_from k mask (drop k xs)) (omega arith)
+left_out mask xs (suc n) from within clear =
+    let one = left_out_here mask xs from (omega (arith, within)) (clear from (omega arith) (omega arith)) in
+    let rest = left_out mask xs n (from + 1) (omega (arith, within)) (λ i come before. clear i (omega (arith, come)) (omega (arith, before))) in
+    let at : from + 1 + n ≡ from + suc n = omega arith in
+    one ∙ (rest ∙ ap (λ k. masked_from k mask (drop k xs)) at)
+
+pub next_kept : (mask : List ℕ) (xs : List ℤ) (from i : ℕ) → from ≤ i → i < length xs → AreClear mask from i → is_set mask i ≡ true
+    → masked_from from mask (drop from xs) ≡ get_or xs i (pos 0) ∷ masked_from (i + 1) mask (drop (i + 1) xs)
+next_kept mask xs from i come within clear set =
+    let at : from + (i - from) ≡ i = omega (arith, come) in
+    left_out mask xs (i - from) from (omega (arith, come, within)) (λ j behind before. clear j behind (omega (arith, before, come))) ∙ (ap (λ k. masked_from k mask (drop k xs)) at ∙ kept_here mask xs i within set)
+
+pub is_value : (mask : List ℕ) (xs : List ℤ) (i : ℕ) → EndsAt mask (length xs) → is_set mask i ≡ true → i < length xs
+is_value mask xs i ends here =
+    elim (nat_lt i (length xs)) as (λ b. nat_lt i (length xs) ≡ b → i < length xs) [
+      | true ↦ λ p. grind (arith, nat_tests)
+      | false ↦ λ p. let far : length xs ≤ i = grind (arith, nat_tests) in absurd (true≢false (sym here ∙ ends i far))
     ] refl
+
+-- where no bit is set from one on, nothing is left
+pub none_kept : (mask : List ℕ) (xs : List ℤ) (from : ℕ) → ((i : ℕ) → from ≤ i → is_set mask i ≡ false) → masked_from from mask xs ≡ []
+none_kept mask [] from clear = refl
+none_kept mask (x ∷ xs) from clear =
+    let here : is_set mask from ≡ false = clear from (omega arith) in
+    rw here (none_kept mask xs (from + 1) (λ i come. clear i (omega (arith, come))))
 
 -- ---- words of a mask, one after another
 

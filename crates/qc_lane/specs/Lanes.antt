@@ -35,10 +35,6 @@ masked_from i mask (x ∷ xs) = if is_set mask i then x ∷ masked_from (i + 1) 
 abbrev pub masked : List ℕ → List ℤ → List ℤ
 masked mask xs = masked_from 0 mask xs
 
--- what a value adds to the sum of those whose bit is set
-abbrev pub kept_or_zero : Bool → ℤ → ℤ
-kept_or_zero set x = if set then x else pos 0
-
 abbrev pub total : List ℤ → ℤ
 total [] = pos 0
 total (x ∷ xs) = x +ℤ total xs

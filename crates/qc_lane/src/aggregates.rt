@@ -1,9 +1,9 @@
 //! The sum, the least and the greatest of the values that a mask leaves.
 
 ghost use Rattle.std.specs.Prelude.{◌≡◌, ◌≤◌, ◌^◌, ◌+ℤ◌, ◌≤ℤ◌, length, neg_ℤ, pos};
-ghost use Rattle.qc_lane.specs.Lanes.{kept_or_zero, greatest, least, masked, or_greater, or_smaller, total, words_for, EndsAt};
+ghost use Rattle.qc_lane.specs.Lanes.{greatest, least, masked, or_greater, or_smaller, total, words_for, EndsAt};
 
-use crate::bits::has_bit;
+use crate::bits::SetBits;
 use qc_types::Wide;
 
 /// The sum of the values whose bit is set, and 0 where there is none. Linear in how many values there are.
@@ -14,8 +14,9 @@ pub fn sum_masked(values: &[i64], mask: &[u64]) -> Wide
     ensures { result.0 ≡ total (masked mask.now values.now) }
 {
     let mut sum = 0i128;
-    for i in (0..values.len()).rev() {
-        sum = added(sum, kept(values[i], has_bit(mask, i)));
+    let mut bits = SetBits::of(mask);
+    while let Some(i) = bits.next(mask) {
+        sum = added(sum, values[i]);
     }
     Wide(sum)
 }
@@ -28,11 +29,9 @@ pub fn min_masked(values: &[i64], mask: &[u64]) -> Option<i64>
     ensures { result ≡ least (masked mask.now values.now) }
 {
     let mut least = None;
-    for i in (0..values.len()).rev() {
-        let next = smaller(values[i], least);
-        if has_bit(mask, i) {
-            least = Some(next);
-        }
+    let mut bits = SetBits::of(mask);
+    while let Some(i) = bits.next(mask) {
+        least = Some(smaller(values[i], least));
     }
     least
 }
@@ -45,20 +44,11 @@ pub fn max_masked(values: &[i64], mask: &[u64]) -> Option<i64>
     ensures { result ≡ greatest (masked mask.now values.now) }
 {
     let mut greatest = None;
-    for i in (0..values.len()).rev() {
-        let next = greater(values[i], greatest);
-        if has_bit(mask, i) {
-            greatest = Some(next);
-        }
+    let mut bits = SetBits::of(mask);
+    while let Some(i) = bits.next(mask) {
+        greatest = Some(greater(values[i], greatest));
     }
     greatest
-}
-
-/// A value whose bit is set, and else 0.
-fn kept(value: i64, is_set: bool) -> i64
-    ensures { result ≡ kept_or_zero is_set value }
-{
-    if is_set { value } else { 0 }
 }
 
 /// A sum with one more value.
