@@ -1,6 +1,6 @@
 //! Chains over the largest region, in blocks of 64 words.
 
-use super::calls::{append, begin, block, expect, extent, list, release, spot, trim_last, word};
+use super::calls::{append, begin, expect, extent, list, release, spot, trim_last, word};
 use super::{made, totals};
 use crate::told::{must, same};
 use qc_chain::{ChainName, Chains, Ranges, Tiles};
@@ -52,6 +52,21 @@ fn check_words(rt: &impl Abort, ranges: &Ranges) {
     }
 }
 
+/// One byte is left in the chain's last block, and each byte and word stands where it would in the region itself.
+fn cut_to_one_byte(
+    rt: &impl Abort,
+    alloc: Global,
+    chains: &mut Chains,
+    tiles: &mut Tiles,
+    chain: ChainName,
+) {
+    trim_last(rt, alloc, chains, chain, 67_107_841, tiles);
+    has(rt, chains, chain, 8_388_544, 67_107_841);
+    same(rt, tiles.totals(), totals(131_072, 1, 64));
+    check_spots(rt, chains, chain);
+    check_words(rt, &list(rt, alloc, chains, chain));
+}
+
 fn one_chain(rt: &impl Abort, alloc: Global) {
     let mut tiles = must(rt, region(alloc));
     let mut chains = must(rt, made(alloc, BLOCKS));
@@ -59,12 +74,7 @@ fn one_chain(rt: &impl Abort, alloc: Global) {
     grow_long(rt, &mut chains, &mut tiles, chain);
     has(rt, &chains, chain, 8_388_608, 67_108_864);
     same(rt, tiles.totals(), totals(131_071, 0, 0));
-    // one byte is left in the last block
-    trim_last(rt, alloc, &mut chains, chain, 67_107_841, &mut tiles);
-    has(rt, &chains, chain, 8_388_544, 67_107_841);
-    same(rt, tiles.totals(), totals(131_072, 1, 64));
-    check_spots(rt, &chains, chain);
-    check_words(rt, &list(rt, alloc, &chains, chain));
+    cut_to_one_byte(rt, alloc, &mut chains, &mut tiles, chain);
     release(rt, alloc, &mut chains, chain, &mut tiles);
     same(rt, tiles.totals(), totals(1, 1, 8_388_608));
     same(rt, (chains.room(), chains.has_free_name()), (BLOCKS, true));
@@ -163,13 +173,8 @@ fn check_third(rt: &impl Abort, alloc: Global, chains: &Chains, names: &[ChainNa
     let Some(third) = names.get(2) else {
         panic!(rt; "no third chain");
     };
-    let firsts = [
-        block(64, 64),
-        block(1_048_768, 64),
-        block(1_048_704, 64),
-        block(2_621_568, 64),
-    ];
-    expect(rt, &list(rt, alloc, chains, *third), &firsts, 2_048);
+    let blocks = [(64, 64), (1_048_768, 64), (1_048_704, 64), (2_621_568, 64)];
+    expect(rt, &list(rt, alloc, chains, *third), &blocks, 2_048);
 }
 
 fn many_chains(rt: &impl Abort, alloc: Global) {

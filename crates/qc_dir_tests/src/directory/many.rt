@@ -137,14 +137,18 @@ fn remove_by_age(rt: &impl Abort, alloc: Global, dir: &mut Dir) {
     same(rt, dir.oldest_idle(), None);
 }
 
+fn use_all(rt: &impl Abort, dir: &mut Dir) {
+    complete_all(rt, dir);
+    touch_some(rt, dir);
+    enter_all(rt, dir);
+    leave_all(rt, dir);
+}
+
 fn a_full_directory(rt: &impl Abort, alloc: Global) {
     let mut dir = must(rt, made(alloc, 8_388_608));
     fill(rt, alloc, &mut dir);
     same(rt, rooms(&dir), (0, 131_072 - 6_144));
-    complete_all(rt, &mut dir);
-    touch_some(rt, &mut dir);
-    enter_all(rt, &mut dir);
-    leave_all(rt, &mut dir);
+    use_all(rt, &mut dir);
     candidates(rt, alloc, &dir);
     remove_by_table(rt, alloc, &mut dir);
     same(rt, rooms(&dir), (32_768, 131_072 - 5_120));

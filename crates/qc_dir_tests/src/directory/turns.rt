@@ -159,8 +159,11 @@ fn next(seed: u64) -> u64 {
         .wrapping_add(1_442_695_040_888_963_407)
 }
 
-/// A call on an entry that is there, chosen by a number.
+/// A call on an entry, where it is there, chosen by a number.
 fn turn_on(rt: &impl Abort, run: &mut Run, serial: u64, choice: u32) {
+    if run.dir.entry(serial).is_none() {
+        return;
+    }
     match choice {
         0 | 1 => complete(rt, &mut run.dir, serial),
         2 | 3 => touch(rt, &mut run.dir, serial),
@@ -180,13 +183,8 @@ fn turn(rt: &impl Abort, run: &mut Run, table: &TableName, seed: u64) {
         4 => run.remove_on(rt, table),
         5 => run.remove_oldest(rt),
         6 | 7 => run.shift(serial, table, seed),
-        _ => {
-            if run.dir.entry(serial).is_some() {
-                turn_on(rt, run, serial, choice & 7);
-            }
-        }
+        _ => turn_on(rt, run, serial, choice & 7),
     }
-    run.check(rt, (seed >> 46) % 5, table)
 }
 
 fn turns(rt: &impl Abort, run: &mut Run, count: u32) {
@@ -195,6 +193,7 @@ fn turns(rt: &impl Abort, run: &mut Run, count: u32) {
         seed = next(seed);
         let table = must(rt, table(run.alloc, name(seed >> 33)));
         turn(rt, run, &table, seed);
+        run.check(rt, (seed >> 46) % 5, &table);
         run.count(rt);
     }
 }
