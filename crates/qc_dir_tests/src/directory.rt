@@ -5,17 +5,11 @@ mod many;
 mod steps;
 mod turns;
 
-use crate::told::{must, same};
-use calls::{made, table};
-use qc_dir::Dir;
-use qc_types::TableName;
-use std::alloc::Global;
-use std::process::Abort;
 use steps::Step::{
-    Block, Complete, Count, Drain, Enter, Entry, From, Insert, Leave, Oldest, OnTable, Remove,
-    RemoveOn, Rooms, Shift, Text, Touch, Under,
+    Block, Complete, Count, Drain, Elsewhere, Enter, Entry, FillAndEmpty, From, Insert, Leave,
+    Oldest, OnTable, Remove, RemoveOn, Rooms, Shift, Text, Thirty, Touch, Turns, Under,
 };
-use steps::{Step, take_step, take_steps};
+use steps::{Step, take_steps};
 
 /// What happens to directories of regions of so many words.
 const DIRECTORIES: &[(u32, &[Step<'static>])] = &[
@@ -149,6 +143,7 @@ const DIRECTORIES: &[(u32, &[Step<'static>])] = &[
             Text(2, None),
             Entry(1, 7, 1, false, 0),
             Block("tt", None),
+            Elsewhere("t"),
         ],
     ),
     // blocks that moved: a text block, a table's block, one that is another's, and one where its neighbour was
@@ -221,42 +216,20 @@ fn each_call_step_by_step(rt: HostRuntime) {
     }
 }
 
-/// That a table has no block, and no entry is on it.
-fn is_unknown(rt: &impl Abort, dir: &Dir, table: &TableName) {
-    same(rt, dir.table_block(table), None);
-    same(rt, dir.next_on_table(table), None);
-}
-
-#[test]
-fn a_table_of_the_same_name_in_another_database(rt: HostRuntime) {
-    let alloc = rt.alloc();
-    let mut dir = must(&rt, made(alloc, 1024));
-    take_step(&rt, alloc, &mut dir, Insert(1, 7, &["t"], 0));
-    let mut elsewhere = must(&rt, table(alloc, "t"));
-    must(&rt, elsewhere.db.extend(b"2"));
-    is_unknown(&rt, &dir, &elsewhere);
-}
-
-/// An entry leaves, and the table that others name keeps its block.
-fn remove_one(rt: &impl Abort, alloc: Global, dir: &mut Dir, serial: u64) {
-    take_step(rt, alloc, dir, Remove(serial, &[]));
-    take_step(rt, alloc, dir, Block("t", Some(64)));
-}
-
 #[test]
 fn a_block_is_shared_by_many_entries(rt: HostRuntime) {
-    let alloc = rt.alloc();
-    let mut dir = must(&rt, made(alloc, 4096));
-    for serial in 1..=30u32 {
-        let place = serial.wrapping_mul(64);
-        take_step(&rt, alloc, &mut dir, Insert(serial, 7, &["t"], place));
-        take_step(&rt, alloc, &mut dir, Block("t", Some(64)));
-    }
-    take_step(&rt, alloc, &mut dir, Rooms(2, 63));
-    for serial in 1..30 {
-        remove_one(&rt, alloc, &mut dir, serial);
-    }
-    take_step(&rt, alloc, &mut dir, Remove(30, &[64]));
-    take_step(&rt, alloc, &mut dir, Block("t", None));
-    take_step(&rt, alloc, &mut dir, Rooms(32, 64));
+    let steps = &[Thirty, Block("t", None), Rooms(32, 64)];
+    take_steps(&rt, rt.alloc(), 4096, steps);
+}
+
+#[test]
+fn entries_come_and_go_by_turns(rt: HostRuntime) {
+    let steps = &[Turns(8_000), Count(0, 0), Rooms(32, 64)];
+    take_steps(&rt, rt.alloc(), 4096, steps);
+}
+
+#[test]
+fn many_entries_come_and_go(rt: HostRuntime) {
+    let steps = &[FillAndEmpty, Oldest(None), Rooms(65_536, 131_072)];
+    take_steps(&rt, rt.alloc(), 8_388_608, steps);
 }

@@ -1,20 +1,14 @@
 //! Chains over the largest region, in blocks of 64 words.
 
 use super::calls::{append, begin, expect, extent, list, release, spot, trim_last, word};
-use super::{made, totals};
+use super::totals;
 use crate::told::{must, same};
 use qc_chain::{ChainName, Chains, Ranges, Tiles};
-use qc_types::NoMemory;
 use std::alloc::Global;
 use std::process::Abort;
 
 /// The blocks of a region of 8,388,608 words.
 const BLOCKS: u32 = 131_072;
-
-/// A region of which nothing is known.
-fn region(alloc: Global) -> Result<Tiles, NoMemory> {
-    Tiles::new(alloc, 8_388_608)
-}
 
 /// Puts a new block at the end of a chain.
 fn grow(rt: &impl Abort, chains: &mut Chains, tiles: &mut Tiles, chain: ChainName, words: u32) {
@@ -67,22 +61,16 @@ fn cut_to_one_byte(
     check_words(rt, &list(rt, alloc, chains, chain));
 }
 
-fn one_chain(rt: &impl Abort, alloc: Global) {
-    let mut tiles = must(rt, region(alloc));
-    let mut chains = must(rt, made(alloc, BLOCKS));
-    let chain = begin(rt, &mut chains);
-    grow_long(rt, &mut chains, &mut tiles, chain);
-    has(rt, &chains, chain, 8_388_608, 67_108_864);
+/// One chain has all blocks.
+pub fn one_chain(rt: &impl Abort, alloc: Global, chains: &mut Chains, tiles: &mut Tiles) {
+    let chain = begin(rt, chains);
+    grow_long(rt, chains, tiles, chain);
+    has(rt, chains, chain, 8_388_608, 67_108_864);
     same(rt, tiles.totals(), totals(131_071, 0, 0));
-    cut_to_one_byte(rt, alloc, &mut chains, &mut tiles, chain);
-    release(rt, alloc, &mut chains, chain, &mut tiles);
+    cut_to_one_byte(rt, alloc, chains, tiles, chain);
+    release(rt, alloc, chains, chain, tiles);
     same(rt, tiles.totals(), totals(1, 1, 8_388_608));
     same(rt, (chains.room(), chains.has_free_name()), (BLOCKS, true));
-}
-
-#[test]
-fn one_chain_of_a_whole_region(rt: HostRuntime) {
-    one_chain(&rt, rt.alloc())
 }
 
 /// Begins so many chains.
@@ -177,23 +165,17 @@ fn check_third(rt: &impl Abort, alloc: Global, chains: &Chains, names: &[ChainNa
     expect(rt, &list(rt, alloc, chains, *third), &blocks, 2_048);
 }
 
-fn many_chains(rt: &impl Abort, alloc: Global) {
-    let mut tiles = must(rt, region(alloc));
-    let mut chains = must(rt, made(alloc, BLOCKS));
-    let names = begin_many(rt, alloc, &mut chains, 32_768);
-    grow_many(rt, alloc, &mut chains, &mut tiles, names.as_slice());
-    release_half(rt, alloc, &mut chains, &mut tiles, names.as_slice(), false);
+/// Many chains have all blocks.
+pub fn many_chains(rt: &impl Abort, alloc: Global, chains: &mut Chains, tiles: &mut Tiles) {
+    let names = begin_many(rt, alloc, chains, 32_768);
+    grow_many(rt, alloc, chains, tiles, names.as_slice());
+    release_half(rt, alloc, chains, tiles, names.as_slice(), false);
     same(rt, tiles.totals(), totals(114_688, 49_152, 4_194_304));
     // the first block is the only one that stays
-    same(rt, flush(&mut chains, &mut tiles), 65_535);
+    same(rt, flush(chains, tiles), 65_535);
     same(rt, tiles.totals(), totals(65_537, 1, 4_194_304));
-    check_third(rt, alloc, &chains, names.as_slice());
-    release_half(rt, alloc, &mut chains, &mut tiles, names.as_slice(), true);
+    check_third(rt, alloc, chains, names.as_slice());
+    release_half(rt, alloc, chains, tiles, names.as_slice(), true);
     same(rt, tiles.totals(), totals(1, 1, 8_388_608));
     same(rt, chains.room(), BLOCKS);
-}
-
-#[test]
-fn many_chains_of_a_whole_region(rt: HostRuntime) {
-    many_chains(&rt, rt.alloc())
 }

@@ -13,7 +13,7 @@ use std::process::Abort;
 /// Chains with their tiles, and the names of those that were begun.
 #[derive(Drop)]
 pub struct Run {
-    alloc: Global,
+    pub alloc: Global,
     pub chains: Chains,
     pub tiles: Tiles,
     pub names: Vec<ChainName>,

@@ -1,8 +1,11 @@
 //! Calls on chains by the rows of a table, each with what it has to answer.
 
 use super::calls::{append, begin, block, expect, spot};
+use super::fills::fill_twice;
+use super::many::{many_chains, one_chain};
 use super::run::Run;
 use super::totals;
+use super::turns::turns;
 use crate::told::{must, same};
 use qc_chain::{ChainName, Chains, Move, Tiles};
 use std::alloc::Global;
@@ -38,6 +41,16 @@ pub enum Step<'a> {
     Room(u32, bool),
     /// Blocks, free blocks and free words of the region.
     Totals(u32, u32, u32),
+    /// A chain of 3,648 bytes is cut to so many; so many words are left of its last block, and so many are free then.
+    Cut(u32, u32, u32),
+    /// Ranges are filled from one chain after another.
+    Fills,
+    /// So many pseudo-random calls, after which all chains are released.
+    Turns(u32),
+    /// One chain has the whole of the largest region.
+    OneWhole,
+    /// Many have.
+    ManyWhole,
 }
 
 /// Takes the steps over a region of so many words, with room for so many blocks.
@@ -49,7 +62,7 @@ pub fn take_steps(rt: &impl Abort, alloc: Global, words: u32, blocks: u32, steps
     }
 }
 
-pub fn take_step(rt: &impl Abort, run: &mut Run, step: Step<'_>) {
+fn take_step(rt: &impl Abort, run: &mut Run, step: Step<'_>) {
     match step {
         Step::Begin => begin_new(rt, run),
         Step::BeginAgain(at) => {
@@ -63,10 +76,7 @@ pub fn take_step(rt: &impl Abort, run: &mut Run, step: Step<'_>) {
             let chain = named(rt, run, at);
             append(rt, &mut run.chains, chain, block(first, words))
         }
-        Step::Trim(at, bytes) => {
-            let chain = named(rt, run, at);
-            run.trim_last(rt, chain, bytes)
-        }
+        Step::Trim(at, bytes) => trim(rt, run, at, bytes),
         Step::Release(at) => {
             let chain = named(rt, run, at);
             run.release(rt, chain)
@@ -88,6 +98,14 @@ pub fn take_step(rt: &impl Abort, run: &mut Run, step: Step<'_>) {
             run.tiles.totals(),
             totals(blocks, free_blocks, free_words),
         ),
+        Step::Cut(bytes, words, free) => cut(rt, run, bytes, words, free),
+        Step::Fills => {
+            three_chains(rt, run);
+            fill_twice(rt, run.alloc, run)
+        }
+        Step::Turns(count) => turns(rt, run, count),
+        Step::OneWhole => one_chain(rt, run.alloc, &mut run.chains, &mut run.tiles),
+        Step::ManyWhole => many_chains(rt, run.alloc, &mut run.chains, &mut run.tiles),
     }
 }
 
@@ -138,4 +156,54 @@ fn bytes_of(chains: &Chains, chain: ChainName) -> Option<u32> {
         Some(extent) => Some(extent.bytes),
         None => None,
     }
+}
+
+fn begin_with(rt: &impl Abort, run: &mut Run, blocks: &[(u32, u32)]) {
+    begin_new(rt, run);
+    let at = run.names.len().saturating_sub(1);
+    for (first, words) in blocks {
+        let chain = named(rt, run, at);
+        append(rt, &mut run.chains, chain, block(*first, *words));
+    }
+}
+
+/// A long chain, a short one and one without blocks.
+fn three_chains(rt: &impl Abort, run: &mut Run) {
+    begin_with(rt, run, &[(0, 64), (64, 64), (200, 100)]);
+    begin_with(rt, run, &[(700, 70)]);
+    begin_with(rt, run, &[]);
+}
+
+/// A chain of 3,648 bytes behind another one is cut.
+fn cut(rt: &impl Abort, run: &mut Run, bytes: u32, words: u32, free: u32) {
+    begin_with(rt, run, &[(900, 10)]);
+    begin_new(rt, run);
+    for first in FIRSTS {
+        take(rt, run, 1, 64, *first);
+    }
+    take(rt, run, 1, 200, 256);
+    trim(rt, run, 1, bytes);
+    let blocks = [(0, 64), (64, 64), (128, 64), (192, 64), (256, words)];
+    has(rt, run, 1, &blocks, bytes);
+    same(rt, run.tiles.totals(), totals(6, 1, free));
+    has(rt, run, 0, &[(900, 10)], 80);
+    lengthen(rt, run, words);
+}
+
+const FIRSTS: &[u32] = &[0, 64, 128, 192];
+
+/// One more block makes the byte length that of all words again.
+fn lengthen(rt: &impl Abort, run: &mut Run, words: u32) {
+    let chain = named(rt, run, 1);
+    append(rt, &mut run.chains, chain, block(1000, 5));
+    same(
+        rt,
+        bytes_of(&run.chains, chain),
+        Some(words.wrapping_add(261).wrapping_mul(8)),
+    );
+}
+
+fn trim(rt: &impl Abort, run: &mut Run, at: usize, bytes: u32) {
+    let chain = named(rt, run, at);
+    run.trim_last(rt, chain, bytes);
 }

@@ -1,6 +1,6 @@
 //! A full directory of the largest region.
 
-use super::calls::{complete, enter, leave, made, put_in, remove, rooms, touch, under};
+use super::calls::{complete, enter, leave, put_in, remove, rooms, touch, under};
 use crate::told::{must, same};
 use qc_dir::{Block, ChainName, Dir, Entry};
 use qc_types::{NoMemory, TableName, Tables, Text};
@@ -144,19 +144,13 @@ fn use_all(rt: &impl Abort, dir: &mut Dir) {
     leave_all(rt, dir);
 }
 
-fn a_full_directory(rt: &impl Abort, alloc: Global) {
-    let mut dir = must(rt, made(alloc, 8_388_608));
-    fill(rt, alloc, &mut dir);
-    same(rt, rooms(&dir), (0, 131_072 - 6_144));
-    use_all(rt, &mut dir);
-    candidates(rt, alloc, &dir);
-    remove_by_table(rt, alloc, &mut dir);
-    same(rt, rooms(&dir), (32_768, 131_072 - 5_120));
-    remove_by_age(rt, alloc, &mut dir);
-    same(rt, rooms(&dir), (65_536, 131_072));
-}
-
-#[test]
-fn many_entries_come_and_go(rt: HostRuntime) {
-    a_full_directory(&rt, rt.alloc())
+/// Fills the largest directory and empties it.
+pub fn fill_and_empty(rt: &impl Abort, alloc: Global, dir: &mut Dir) {
+    fill(rt, alloc, dir);
+    same(rt, rooms(dir), (0, 131_072 - 6_144));
+    use_all(rt, dir);
+    candidates(rt, alloc, dir);
+    remove_by_table(rt, alloc, dir);
+    same(rt, rooms(dir), (32_768, 131_072 - 5_120));
+    remove_by_age(rt, alloc, dir);
 }

@@ -3,8 +3,11 @@
 use super::calls::{
     complete, drain, enter, insert, leave, made, remove, rooms, table, touch, under,
 };
+use super::many::fill_and_empty;
+use super::turns::turns;
 use crate::told::{must, same};
 use qc_dir::{Dir, Move};
+use qc_types::TableName;
 use std::alloc::Global;
 use std::process::Abort;
 
@@ -41,6 +44,14 @@ pub enum Step<'a> {
     Text(u64, Option<u32>),
     /// An entry's hash, its chain, whether it is complete, and its users.
     Entry(u64, u64, u32, bool, u32),
+    /// A table of this name in another database has no block, and no entry is on it.
+    Elsewhere(&'a str),
+    /// Thirty entries come on one table, and leave.
+    Thirty,
+    /// So many pseudo-random calls, after which all entries leave.
+    Turns(u32),
+    /// The largest directory is filled and emptied.
+    FillAndEmpty,
 }
 
 /// Takes the steps with a new directory of a region of so many words.
@@ -51,8 +62,7 @@ pub fn take_steps(rt: &impl Abort, alloc: Global, words: u32, steps: &[Step<'_>]
     }
 }
 
-/// Takes one step.
-pub fn take_step(rt: &impl Abort, alloc: Global, dir: &mut Dir, step: Step<'_>) {
+fn take_step(rt: &impl Abort, alloc: Global, dir: &mut Dir, step: Step<'_>) {
     match step {
         Step::Insert(serial, hash, names, first) => {
             insert(rt, alloc, dir, serial, hash, names, first)
@@ -80,6 +90,10 @@ pub fn take_step(rt: &impl Abort, alloc: Global, dir: &mut Dir, step: Step<'_>) 
             state_of(dir, serial),
             Some((hash, chain, complete, users)),
         ),
+        Step::Elsewhere(name) => is_unknown(rt, dir, &elsewhere(rt, alloc, name)),
+        Step::Thirty => thirty_on_a_table(rt, alloc, dir),
+        Step::Turns(count) => turns(rt, alloc, dir, count),
+        Step::FillAndEmpty => fill_and_empty(rt, alloc, dir),
     }
 }
 
@@ -133,4 +147,30 @@ fn state_of(dir: &Dir, serial: u64) -> Option<(u64, u32, bool, u32)> {
         Some(entry) => Some((entry.hash, entry.chain.number, entry.complete, entry.users)),
         None => None,
     }
+}
+
+/// A table of the database `db2`.
+fn elsewhere(rt: &impl Abort, alloc: Global, name: &str) -> TableName {
+    let mut table = must(rt, table(alloc, name));
+    must(rt, table.db.extend(b"2"));
+    table
+}
+
+fn is_unknown(rt: &impl Abort, dir: &Dir, table: &TableName) {
+    same(rt, dir.table_block(table), None);
+    same(rt, dir.next_on_table(table), None);
+}
+
+/// The table's block stays up to the last of them.
+fn thirty_on_a_table(rt: &impl Abort, alloc: Global, dir: &mut Dir) {
+    for serial in 1..=30u32 {
+        let place = serial.wrapping_mul(64);
+        insert(rt, alloc, dir, serial, 7, &["t"], place);
+        same(rt, block_of(rt, alloc, dir, "t"), Some(64));
+    }
+    for serial in 1..30 {
+        expect_places(rt, &remove(rt, alloc, dir, serial), &[]);
+        same(rt, block_of(rt, alloc, dir, "t"), Some(64));
+    }
+    expect_places(rt, &remove(rt, alloc, dir, 30), &[64]);
 }
