@@ -2,306 +2,234 @@
 
 mod calls;
 mod many;
+mod steps;
 mod turns;
 
-ghost use Rattle.std.specs.Prelude.{◌≡◌, Ok};
-
-use crate::told::{must, same};
-use calls::{
-    block, complete, drain, enter, insert, leave, made, remove, rooms, table, touch, under,
+use steps::Step::{
+    Block, Complete, Count, Drain, Elsewhere, Enter, Entry, FillAndEmpty, From, Insert, Leave,
+    Oldest, OnTable, Remove, RemoveOn, Rooms, Shift, Text, Thirty, Touch, Turns, Under,
 };
-use qc_dir::Move;
-use std::alloc::Global;
-use std::process::Abort;
+use steps::{Step, take_steps};
 
-fn the_oldest_idle_entry(rt: &impl Abort, alloc: Global) {
-    let mut dir = must(rt, made(alloc, 1024));
-    insert(rt, alloc, &mut dir, 1, 7, &["t"], 0);
-    insert(rt, alloc, &mut dir, 2, 7, &["t"], 64);
-    same(rt, dir.oldest_idle(), None);
-    complete(rt, &mut dir, 1);
-    complete(rt, &mut dir, 2);
-    same(rt, dir.oldest_idle(), Some(1));
-    touch(rt, &mut dir, 1);
-    same(rt, dir.oldest_idle(), Some(2));
-    enter(rt, &mut dir, 2);
-    same(rt, dir.oldest_idle(), Some(1));
-    enter(rt, &mut dir, 1);
-    same(rt, dir.oldest_idle(), None);
-    // an entry with two users is idle when both have left
-    enter(rt, &mut dir, 2);
-    leave(rt, &mut dir, 2);
-    same(rt, dir.oldest_idle(), None);
-    leave(rt, &mut dir, 2);
-    leave(rt, &mut dir, 1);
-    same(rt, drain(rt, alloc, &mut dir).as_slice(), [2, 1].as_slice());
-    same(rt, rooms(&dir), (8, 16));
-}
-
-fn what_is_completed_goes_to_the_end(rt: &impl Abort, alloc: Global) {
-    let mut dir = must(rt, made(alloc, 1024));
-    for serial in 1..=5 {
-        insert(rt, alloc, &mut dir, serial, 7, &["t"], 0);
-    }
-    for serial in [3, 1, 5, 2, 4] {
-        complete(rt, &mut dir, serial);
-    }
-    touch(rt, &mut dir, 3);
-    touch(rt, &mut dir, 5);
-    touch(rt, &mut dir, 5);
-    same(
-        rt,
-        drain(rt, alloc, &mut dir).as_slice(),
-        [1, 2, 4, 3, 5].as_slice(),
-    );
-}
-
-fn candidates_by_hash(rt: &impl Abort, alloc: Global) {
-    let mut dir = must(rt, made(alloc, 1024));
-    insert(rt, alloc, &mut dir, 1, 7, &["t"], 0);
-    insert(rt, alloc, &mut dir, 2, u64::MAX, &["t"], 0);
-    insert(rt, alloc, &mut dir, 3, 7, &["u"], 64);
-    let found = under(rt, alloc, &dir, 7);
-    same(rt, found.as_slice(), [1, 3].as_slice());
-    same(
-        rt,
-        under(rt, alloc, &dir, u64::MAX).as_slice(),
-        [2].as_slice(),
-    );
-    assert!(rt; under(rt, alloc, &dir, 8).is_empty());
-    remove(rt, alloc, &mut dir, 1);
-    same(rt, under(rt, alloc, &dir, 7).as_slice(), [3].as_slice());
-    remove(rt, alloc, &mut dir, 3);
-    assert!(rt; under(rt, alloc, &dir, 7).is_empty());
-}
-
-fn a_block_shared_by_many_entries(rt: &impl Abort, alloc: Global) {
-    let mut dir = must(rt, made(alloc, 4096));
-    let t = must(rt, table(alloc, "t"));
-    for serial in 1..=30 {
-        insert(
-            rt,
-            alloc,
-            &mut dir,
-            serial,
-            7,
-            &["t"],
-            serial.wrapping_mul(64),
-        );
-        assert_eq!(rt; dir.table_block(&t), Some(block(64)));
-    }
-    same(rt, rooms(&dir), (2, 63));
-    for serial in 1..30 {
-        assert!(rt; remove(rt, alloc, &mut dir, serial).is_empty());
-        assert_eq!(rt; dir.table_block(&t), Some(block(64)));
-    }
-    same(
-        rt,
-        remove(rt, alloc, &mut dir, 30).as_slice(),
-        [64].as_slice(),
-    );
-    same(rt, dir.table_block(&t), None);
-    same(rt, rooms(&dir), (32, 64));
-}
-
-fn entries_with_eight_tables(rt: &impl Abort, alloc: Global) {
-    let mut dir = must(rt, made(alloc, 1024));
-    let eight = ["a", "b", "c", "d", "e", "f", "g", "h"];
-    insert(rt, alloc, &mut dir, 1, 7, &eight, 0);
-    insert(rt, alloc, &mut dir, 2, 7, &["e", "i", "b"], 512);
-    same(
-        rt,
-        dir.table_block(&must(rt, table(alloc, "h"))),
-        Some(block(448)),
-    );
-    same(
-        rt,
-        dir.table_block(&must(rt, table(alloc, "i"))),
-        Some(block(512)),
-    );
-    same(rt, rooms(&dir), (6, 7));
-    same(
-        rt,
-        remove(rt, alloc, &mut dir, 1).as_slice(),
-        [0, 128, 192, 320, 384, 448].as_slice(),
-    );
-    same(
-        rt,
-        dir.table_block(&must(rt, table(alloc, "b"))),
-        Some(block(64)),
-    );
-    insert(rt, alloc, &mut dir, 3, 7, &eight, 1024);
-    same(
-        rt,
-        remove(rt, alloc, &mut dir, 2).as_slice(),
-        [512].as_slice(),
-    );
-    same(
-        rt,
-        remove(rt, alloc, &mut dir, 3).as_slice(),
-        [64, 256, 1024, 1088, 1152, 1216, 1280, 1344].as_slice(),
-    );
-    same(rt, rooms(&dir), (8, 16));
-}
-
-fn a_table_named_twice(rt: &impl Abort, alloc: Global) {
-    let mut dir = must(rt, made(alloc, 1024));
-    insert(rt, alloc, &mut dir, 1, 7, &["t", "u", "t"], 0);
-    same(rt, rooms(&dir), (7, 14));
-    same(rt, dir.next_on_table(&must(rt, table(alloc, "t"))), Some(1));
-    same(
-        rt,
-        remove(rt, alloc, &mut dir, 1).as_slice(),
-        [0, 64].as_slice(),
-    );
-    same(rt, dir.next_on_table(&must(rt, table(alloc, "t"))), None);
-}
-
-fn entries_on_a_table(rt: &impl Abort, alloc: Global) {
-    let mut dir = must(rt, made(alloc, 1024));
-    let (t, u, v) = (
-        must(rt, table(alloc, "t")),
-        must(rt, table(alloc, "u")),
-        must(rt, table(alloc, "v")),
-    );
-    insert(rt, alloc, &mut dir, 1, 7, &["t", "u"], 0);
-    insert(rt, alloc, &mut dir, 2, 7, &["u"], 128);
-    insert(rt, alloc, &mut dir, 3, 7, &["v", "u"], 192);
-    same(rt, dir.next_on_table(&t), Some(1));
-    same(rt, dir.next_on_table(&v), Some(3));
-    same(rt, dir.next_on_table(&must(rt, table(alloc, "w"))), None);
-    let mut count = 0u8;
-    for _ in 0..3 {
-        let Some(serial) = dir.next_on_table(&u) else {
-            break;
-        };
-        remove(rt, alloc, &mut dir, serial);
-        count = count.wrapping_add(1);
-    }
-    same(rt, count, 3);
-    same(
-        rt,
-        (dir.next_on_table(&t), dir.next_on_table(&u)),
-        (None, None),
-    );
-    same(rt, rooms(&dir), (8, 16));
-}
-
-fn what_is_not_there(rt: &impl Abort, alloc: Global) {
-    let mut dir = must(rt, made(alloc, 1024));
-    assert!(rt; dir.entry(1).is_none());
-    insert(rt, alloc, &mut dir, 1, 7, &["t"], 0);
-    assert!(rt; dir.entry(0).is_none() && dir.entry(2).is_none());
-    let Some(entry) = dir.entry(1) else {
-        panic!(rt; "no entry 1");
-    };
-    same(
-        rt,
-        (entry.hash, entry.text, entry.chain.number),
-        (7, block(100), 1),
-    );
-    assert!(rt; !entry.complete && entry.users == 0);
-    // the same name in another database, and a longer name
-    let mut elsewhere = must(rt, table(alloc, "t"));
-    must(rt, elsewhere.db.extend(b"2"));
-    same(rt, dir.table_block(&elsewhere), None);
-    same(rt, dir.table_block(&must(rt, table(alloc, "tt"))), None);
-    same(rt, dir.next_on_table(&elsewhere), None);
-}
-
-/// A directory without entries, for so many words, that has this room.
-fn empty_directory(rt: &impl Abort, alloc: Global, words: u32, room: (u32, u32)) {
-    let dir = must(rt, made(alloc, words));
-    let none = must(rt, table(alloc, "t"));
-    same(rt, rooms(&dir), room);
-    same(rt, dir.entry(0).is_none(), true);
-    same(rt, under(rt, alloc, &dir, 0).len(), 0);
-    same(rt, dir.table_block(&none), None);
-    same(rt, dir.oldest_idle(), None);
-    same(rt, dir.next_on_table(&none), None);
-}
-
-fn room_for_each_region(rt: &impl Abort, alloc: Global) {
-    empty_directory(rt, alloc, 0, (0, 0));
-    empty_directory(rt, alloc, 63, (0, 0));
-    empty_directory(rt, alloc, 127, (0, 1));
-    empty_directory(rt, alloc, 128, (1, 2));
-    empty_directory(rt, alloc, 8_388_608, (65_536, 131_072));
+/// What happens to directories of regions of so many words.
+const DIRECTORIES: &[(u32, &[Step<'static>])] = &[
+    // the oldest idle entry
+    (
+        1024,
+        &[
+            Insert(1, 7, &["t"], 0),
+            Insert(2, 7, &["t"], 64),
+            Oldest(None),
+            Complete(1),
+            Complete(2),
+            Oldest(Some(1)),
+            Touch(1),
+            Oldest(Some(2)),
+            Enter(2),
+            Oldest(Some(1)),
+            Enter(1),
+            Entry(1, 7, 1, true, 1),
+            Oldest(None),
+            // an entry with two users is idle when both have left
+            Enter(2),
+            Leave(2),
+            Oldest(None),
+            Leave(2),
+            Leave(1),
+            Drain(&[2, 1]),
+            Rooms(8, 16),
+        ],
+    ),
+    // what is completed goes to the end
+    (
+        1024,
+        &[
+            Insert(1, 7, &["t"], 0),
+            Insert(2, 7, &["t"], 0),
+            Insert(3, 7, &["t"], 0),
+            Insert(4, 7, &["t"], 0),
+            Insert(5, 7, &["t"], 0),
+            Count(5, 5),
+            Complete(3),
+            Complete(1),
+            Count(5, 3),
+            Complete(5),
+            Complete(2),
+            Complete(4),
+            Complete(4),
+            Count(5, 0),
+            Touch(3),
+            Touch(5),
+            Touch(5),
+            Drain(&[1, 2, 4, 3, 5]),
+            Count(0, 0),
+        ],
+    ),
+    // candidates by their hash
+    (
+        1024,
+        &[
+            Insert(3, 7, &["t"], 0),
+            Insert(2, u64::MAX, &["t"], 0),
+            Insert(1, 7, &["u"], 64),
+            Under(7, &[1, 3]),
+            Under(u64::MAX, &[2]),
+            Under(8, &[]),
+            From(7, 0, Some(1)),
+            From(7, 1, Some(1)),
+            From(7, 2, Some(3)),
+            From(7, 4, None),
+            From(8, 0, None),
+            Remove(1, &[64]),
+            Under(7, &[3]),
+            Count(2, 2),
+            Remove(3, &[]),
+            Under(7, &[]),
+            From(7, 0, None),
+        ],
+    ),
+    // entries with eight tables
+    (
+        1024,
+        &[
+            Insert(1, 7, &["a", "b", "c", "d", "e", "f", "g", "h"], 0),
+            Insert(2, 7, &["e", "i", "b"], 512),
+            Block("h", Some(448)),
+            Block("i", Some(512)),
+            Rooms(6, 7),
+            Remove(1, &[0, 128, 192, 320, 384, 448]),
+            Block("b", Some(64)),
+            Insert(3, 7, &["a", "b", "c", "d", "e", "f", "g", "h"], 1024),
+            Remove(2, &[512]),
+            Remove(3, &[64, 256, 1024, 1088, 1152, 1216, 1280, 1344]),
+            Rooms(8, 16),
+        ],
+    ),
+    // a table that is named twice
+    (
+        1024,
+        &[
+            Insert(1, 7, &["t", "u", "t"], 0),
+            Rooms(7, 14),
+            OnTable("t", Some(1)),
+            Remove(1, &[0, 64]),
+            OnTable("t", None),
+        ],
+    ),
+    // entries on a table
+    (
+        1024,
+        &[
+            Insert(1, 7, &["t", "u"], 0),
+            Insert(2, 7, &["u"], 128),
+            Insert(3, 7, &["v", "u"], 192),
+            OnTable("t", Some(1)),
+            OnTable("v", Some(3)),
+            OnTable("w", None),
+            RemoveOn("u", 3),
+            OnTable("t", None),
+            OnTable("u", None),
+            Rooms(8, 16),
+        ],
+    ),
+    // what is not there
+    (
+        1024,
+        &[
+            Text(1, None),
+            Insert(1, 7, &["t"], 0),
+            Text(0, None),
+            Text(1, Some(100)),
+            Text(2, None),
+            Entry(1, 7, 1, false, 0),
+            Block("tt", None),
+            Elsewhere("t"),
+        ],
+    ),
+    // blocks that moved: a text block, a table's block, one that is another's, and one where its neighbour was
+    (
+        1024,
+        &[
+            Insert(1, 7, &["t"], 0),
+            Insert(2, 7, &["u"], 64),
+            Shift(200, 190),
+            Shift(64, 30),
+            Shift(500, 100),
+            Shift(30, 64),
+            Text(1, Some(100)),
+            Text(2, Some(190)),
+            Block("t", Some(0)),
+            Block("u", Some(64)),
+            Shift(0, 700),
+            Remove(1, &[700]),
+            Remove(2, &[64]),
+        ],
+    ),
+    // room for each region
+    (0, NO_ENTRIES),
+    (0, &[Rooms(0, 0)]),
+    (63, NO_ENTRIES),
+    (63, &[Rooms(0, 0)]),
+    (127, NO_ENTRIES),
+    (127, &[Rooms(0, 1)]),
+    (128, NO_ENTRIES),
+    (
+        8_388_608,
+        &[
+            Rooms(65_536, 131_072),
+            Count(0, 0),
+            Text(0, None),
+            Under(0, &[]),
+            Block("t", None),
+            Oldest(None),
+            OnTable("t", None),
+        ],
+    ),
     // the last room is used and comes back
-    let mut dir = must(rt, made(alloc, 128));
-    insert(rt, alloc, &mut dir, 1, 7, &["t", "u"], 0);
-    same(rt, rooms(&dir), (0, 0));
-    same(
-        rt,
-        remove(rt, alloc, &mut dir, 1).as_slice(),
-        [0, 64].as_slice(),
-    );
-    insert(rt, alloc, &mut dir, 2, 7, &["v", "w"], 128);
-    same(
-        rt,
-        remove(rt, alloc, &mut dir, 2).as_slice(),
-        [128, 192].as_slice(),
-    );
-}
+    (
+        128,
+        &[
+            Rooms(1, 2),
+            Insert(1, 7, &["t", "u"], 0),
+            Rooms(0, 0),
+            Remove(1, &[0, 64]),
+            Insert(2, 7, &["v", "w"], 128),
+            Remove(2, &[128, 192]),
+        ],
+    ),
+];
 
-fn blocks_that_moved(rt: &impl Abort, alloc: Global) {
-    let mut dir = must(rt, made(alloc, 1024));
-    insert(rt, alloc, &mut dir, 1, 7, &["t"], 0);
-    insert(rt, alloc, &mut dir, 2, 7, &["u"], 64);
-    // a text block, a table's block, one that is another's, and one where its neighbour was
-    for (from, to) in [(200, 190), (64, 30), (500, 100), (30, 64)] {
-        dir.shift(Move {
-            from,
-            to,
-            words: 64,
-        });
+const NO_ENTRIES: &[Step<'static>] = &[
+    Count(0, 0),
+    Text(0, None),
+    Under(0, &[]),
+    From(0, 0, None),
+    Block("t", None),
+    Oldest(None),
+    OnTable("t", None),
+];
+
+#[test]
+fn each_call_step_by_step(rt: HostRuntime) {
+    for (words, steps) in DIRECTORIES {
+        take_steps(&rt, rt.alloc(), *words, *steps);
     }
-    let (first, second) = (dir.entry(1), dir.entry(2));
-    let (Some(first), Some(second)) = (first, second) else {
-        panic!(rt; "an entry is lost");
-    };
-    same(rt, (first.text, second.text), (block(100), block(190)));
-    same(
-        rt,
-        dir.table_block(&must(rt, table(alloc, "t"))),
-        Some(block(0)),
-    );
-    same(
-        rt,
-        dir.table_block(&must(rt, table(alloc, "u"))),
-        Some(block(64)),
-    );
-    dir.shift(Move {
-        from: 0,
-        to: 700,
-        words: 64,
-    });
-    same(
-        rt,
-        remove(rt, alloc, &mut dir, 1).as_slice(),
-        [700].as_slice(),
-    );
-    same(
-        rt,
-        remove(rt, alloc, &mut dir, 2).as_slice(),
-        [64].as_slice(),
-    );
-}
-
-fn each_call(rt: &impl Abort, alloc: Global) {
-    the_oldest_idle_entry(rt, alloc);
-    what_is_completed_goes_to_the_end(rt, alloc);
-    candidates_by_hash(rt, alloc);
-    a_block_shared_by_many_entries(rt, alloc);
-    entries_with_eight_tables(rt, alloc);
-    a_table_named_twice(rt, alloc);
-    entries_on_a_table(rt, alloc);
-    what_is_not_there(rt, alloc);
-    room_for_each_region(rt, alloc);
-    blocks_that_moved(rt, alloc)
 }
 
 #[test]
-fn each_call_of_the_directory(rt: HostRuntime) {
-    each_call(&rt, rt.alloc())
+fn a_block_is_shared_by_many_entries(rt: HostRuntime) {
+    let steps = &[Thirty, Block("t", None), Rooms(32, 64)];
+    take_steps(&rt, rt.alloc(), 4096, steps);
+}
+
+#[test]
+fn entries_come_and_go_by_turns(rt: HostRuntime) {
+    let steps = &[Turns(8_000), Count(0, 0), Rooms(32, 64)];
+    take_steps(&rt, rt.alloc(), 4096, steps);
+}
+
+#[test]
+fn many_entries_come_and_go(rt: HostRuntime) {
+    let steps = &[FillAndEmpty, Oldest(None), Rooms(65_536, 131_072)];
+    take_steps(&rt, rt.alloc(), 8_388_608, steps);
 }

@@ -3,6 +3,7 @@
 ghost use Rattle.std.specs.Prelude.{◌≡◌, ◌+◌, ◌<◌, ◌≤◌, Ok};
 
 use crate::told::{must, same};
+use Step::{First, Insert, Last, Remove, Replace};
 use qc_index::{Blank, Index, Key, Keyed};
 use qc_types::NoMemory;
 use std::alloc::Global;
@@ -26,87 +27,106 @@ fn taken(member: Option<Keyed<u64>>) -> Option<(Key, u64)> {
     borrowed(member.as_ref())
 }
 
-#[test]
-fn a_small_list_step_by_step(rt: HostRuntime) {
-    let mut list: Index<u64> = must(&rt, Index::new(rt.alloc(), 4));
-    same(&rt, borrowed(list.last()), None);
-    same(&rt, borrowed(list.first_from(key(0, 0))), None);
-    same(&rt, taken(list.remove_from(key(0, 0))), None);
-    list.insert(key(2, 5), 25);
-    list.insert(key(1, 9), 19);
-    list.insert(key(2, 1), 21);
-    list.insert(key(2, 5), 26);
-    same(
-        &rt,
-        borrowed(list.first_from(key(0, 0))),
-        Some((key(1, 9), 19)),
-    );
-    same(
-        &rt,
-        borrowed(list.first_from(key(2, 0))),
-        Some((key(2, 1), 21)),
-    );
-    same(
-        &rt,
-        borrowed(list.first_from(key(2, 2))),
-        Some((key(2, 5), 26)),
-    );
-    same(&rt, borrowed(list.first_from(key(2, 6))), None);
-    same(&rt, borrowed(list.last()), Some((key(2, 5), 25)));
-    let first = list.remove_from(key(2, 5));
-    assert!(rt; first.is_some());
-    // in the room of the one that went
-    list.insert(key(0, u64::MAX), 1);
-    same(&rt, taken(first), Some((key(2, 5), 26)));
-    same(
-        &rt,
-        taken(list.remove_from(key(2, 5))),
-        Some((key(2, 5), 25)),
-    );
-    same(&rt, taken(list.remove_from(key(2, 5))), None);
-    same(
-        &rt,
-        taken(list.remove_from(key(0, 0))),
-        Some((key(0, u64::MAX), 1)),
-    );
-    same(
-        &rt,
-        taken(list.remove_from(key(0, 0))),
-        Some((key(1, 9), 19)),
-    );
-    same(&rt, borrowed(list.last()), Some((key(2, 1), 21)));
+/// A call on a list, and what it has to answer.
+#[derive(Clone, Copy)]
+enum Step {
+    /// A member with this key comes, and stands before those of the same key.
+    Insert(u64, u64, u64),
+    /// The first member from a key on.
+    First(u64, u64, Option<Member>),
+    /// The same, which leaves.
+    Remove(u64, u64, Option<Member>),
+    /// The same, and another one comes into its room before it is looked at.
+    Replace(u64, u64, Option<Member>, Member),
+    Last(Option<Member>),
 }
 
+/// The two numbers of a key, and the value.
+type Member = (u64, u64, u64);
+
+fn keyed(member: Option<Member>) -> Option<(Key, u64)> {
+    member.map(|(major, minor, value)| (key(major, minor), value))
+}
+
+fn insert(rt: &impl Abort, list: &mut Index<u64>, (major, minor, value): Member) {
+    assert!(rt; list.room() > 0);
+    list.insert(key(major, minor), value);
+}
+
+fn take_step(rt: &impl Abort, list: &mut Index<u64>, step: Step) {
+    match step {
+        Step::Insert(major, minor, value) => insert(rt, list, (major, minor, value)),
+        Step::First(major, minor, wanted) => same(
+            rt,
+            borrowed(list.first_from(key(major, minor))),
+            keyed(wanted),
+        ),
+        Step::Remove(major, minor, wanted) => same(
+            rt,
+            taken(list.remove_from(key(major, minor))),
+            keyed(wanted),
+        ),
+        Step::Replace(major, minor, wanted, by) => {
+            let gone = list.remove_from(key(major, minor));
+            insert(rt, list, by);
+            same(rt, taken(gone), keyed(wanted))
+        }
+        Step::Last(wanted) => same(rt, borrowed(list.last()), keyed(wanted)),
+    }
+}
+
+/// What happens to lists with room for so many members.
+const LISTS: &[(u32, &[Step])] = &[
+    (
+        4,
+        &[
+            Last(None),
+            First(0, 0, None),
+            Remove(0, 0, None),
+            Insert(2, 5, 25),
+            Insert(1, 9, 19),
+            Insert(2, 1, 21),
+            Insert(2, 5, 26),
+            First(0, 0, Some((1, 9, 19))),
+            First(2, 0, Some((2, 1, 21))),
+            First(2, 2, Some((2, 5, 26))),
+            First(2, 6, None),
+            Last(Some((2, 5, 25))),
+            Replace(2, 5, Some((2, 5, 26)), (0, u64::MAX, 1)),
+            Remove(2, 5, Some((2, 5, 25))),
+            Remove(2, 5, None),
+            Remove(0, 0, Some((0, u64::MAX, 1))),
+            Remove(0, 0, Some((1, 9, 19))),
+            Last(Some((2, 1, 21))),
+        ],
+    ),
+    // equal keys
+    (
+        3,
+        &[
+            Last(None),
+            Remove(0, 0, None),
+            Insert(7, 7, 1),
+            Insert(7, 7, 2),
+            Insert(7, 0, 3),
+            First(7, 0, Some((7, 0, 3))),
+            First(7, 1, Some((7, 7, 2))),
+            Last(Some((7, 7, 1))),
+            Remove(7, 1, Some((7, 7, 2))),
+            Remove(7, 0, Some((7, 0, 3))),
+            Remove(8, 0, None),
+        ],
+    ),
+];
+
 #[test]
-fn equal_keys_step_by_step(rt: HostRuntime) {
-    let mut list: Index<u64> = must(&rt, Index::new(rt.alloc(), 3));
-    same(&rt, borrowed(list.last()), None);
-    same(&rt, taken(list.remove_from(key(0, 0))), None);
-    list.insert(key(7, 7), 1);
-    list.insert(key(7, 7), 2);
-    list.insert(key(7, 0), 3);
-    same(
-        &rt,
-        borrowed(list.first_from(key(7, 0))),
-        Some((key(7, 0), 3)),
-    );
-    same(
-        &rt,
-        borrowed(list.first_from(key(7, 1))),
-        Some((key(7, 7), 2)),
-    );
-    same(&rt, borrowed(list.last()), Some((key(7, 7), 1)));
-    same(
-        &rt,
-        taken(list.remove_from(key(7, 1))),
-        Some((key(7, 7), 2)),
-    );
-    same(
-        &rt,
-        taken(list.remove_from(key(7, 0))),
-        Some((key(7, 0), 3)),
-    );
-    same(&rt, taken(list.remove_from(key(8, 0))), None);
+fn each_call_step_by_step(rt: HostRuntime) {
+    for (room, steps) in LISTS {
+        let mut list: Index<u64> = must(&rt, Index::new(rt.alloc(), *room));
+        for step in *steps {
+            take_step(&rt, &mut list, *step);
+        }
+    }
 }
 
 /// What a list of one member answers, with the blank value of its type as that member's.

@@ -8,6 +8,8 @@ mod directory;
 #[cfg(test)]
 mod index;
 #[cfg(test)]
+mod links;
+#[cfg(test)]
 mod tiles;
 #[cfg(test)]
 mod told;

@@ -1,10 +1,35 @@
 //! Regions of a few hundred words, an empty one, a small one and the largest, by public calls. What is expected was worked out by hand.
 
-ghost use Rattle.std.specs.Prelude.{◌≡◌, ◌<◌, Ok, vec_len};
+ghost use Rattle.std.specs.Prelude.{◌<◌, vec_len};
 
 use crate::told::{must, same};
+use Step::{GiveBack, HandedOut, Has, Largest, MoveDown, NoMove, NoTake, Pin, Take, Trim, Unpin};
 use qc_tiles::{Block, Move, NoTile, Tiles, Totals};
+use std::alloc::Global;
 use std::process::Abort;
+
+/// A call, and what it has to answer. A block is told by its first word and its words.
+#[derive(Clone, Copy)]
+enum Step {
+    /// So many words are taken, as this block.
+    Take(u32, u32, u32),
+    /// So many words are not to be had: what was looked for, and the largest free block.
+    NoTake(u32, u32, u32),
+    /// A block is cut to so many words, and has so many then.
+    Trim(u32, u32, u32, u32),
+    GiveBack(u32, u32),
+    Pin(u32, u32),
+    Unpin(u32, u32),
+    /// A block goes from a place to another one, with so many words.
+    MoveDown(u32, u32, u32),
+    NoMove,
+    /// Whether a block is handed out.
+    HandedOut(u32, u32, bool),
+    /// The words of the largest free block.
+    Largest(u32),
+    /// Blocks, free blocks and free words.
+    Has(u32, u32, u32),
+}
 
 fn block(first: u32, words: u32) -> Block {
     Block { first, words }
@@ -39,256 +64,189 @@ fn unpin(rt: &impl Abort, tiles: &mut Tiles, block: Block) {
     tiles.unpin(block);
 }
 
-#[test]
-fn a_small_region_step_by_step(rt: HostRuntime) {
-    let mut tiles = must(&rt, Tiles::new(rt.alloc(), 384));
-    same(&rt, tiles.words(), 384);
-    same(&rt, tiles.take(10), Ok(block(0, 64)));
-    same(&rt, tiles.take(300), Ok(block(64, 320)));
-    same(
-        &rt,
-        tiles.take(64),
-        Err(NoTile {
-            need: 64,
-            largest: 0,
-        }),
-    );
-    same(
-        &rt,
-        trim(&rt, &mut tiles, block(64, 320), 100),
-        block(64, 100),
-    );
-    give_back(&rt, &mut tiles, block(0, 64));
-    same(&rt, tiles.totals(), totals(3, 2, 284));
-    same(
-        &rt,
-        tiles.move_down(),
-        Some(Move {
-            from: 64,
-            to: 0,
-            words: 100,
-        }),
-    );
-    same(&rt, tiles.move_down(), None);
-    same(&rt, tiles.totals(), totals(2, 1, 284));
-    same(&rt, tiles.largest(), 284);
-}
-
-#[test]
-fn a_region_of_no_words(rt: HostRuntime) {
-    let mut none = must(&rt, Tiles::new(rt.alloc(), 0));
-    same(
-        &rt,
-        none.take(1),
-        Err(NoTile {
-            need: 64,
-            largest: 0,
-        }),
-    );
-    same(&rt, none.move_down(), None);
-    same(&rt, (none.totals(), none.largest()), (totals(0, 0, 0), 0));
-}
-
-#[test]
-fn a_region_of_two_blocks(rt: HostRuntime) {
-    let mut small = must(&rt, Tiles::new(rt.alloc(), 128));
-    same(
-        &rt,
-        small.take(129),
-        Err(NoTile {
-            need: 129,
-            largest: 128,
-        }),
-    );
-    same(&rt, small.take(1), Ok(block(0, 64)));
-    same(&rt, small.take(63), Ok(block(64, 64)));
-    same(
-        &rt,
-        small.take(1),
-        Err(NoTile {
-            need: 64,
-            largest: 0,
-        }),
-    );
-    give_back(&rt, &mut small, block(0, 64));
-    same(
-        &rt,
-        small.take(65),
-        Err(NoTile {
-            need: 65,
-            largest: 64,
-        }),
-    );
-    give_back(&rt, &mut small, block(64, 64));
-    same(&rt, small.take(65), Ok(block(0, 128)));
-}
-
-#[test]
-fn the_largest_region(rt: HostRuntime) {
-    let mut large = must(&rt, Tiles::new(rt.alloc(), 8_388_608));
-    same(&rt, large.totals(), totals(1, 1, 8_388_608));
-    same(&rt, large.take(1), Ok(block(0, 64)));
-    same(&rt, large.take(63), Ok(block(64, 64)));
-    same(&rt, large.take(64), Ok(block(128, 64)));
-    same(&rt, large.take(65), Ok(block(192, 65)));
-    same(&rt, large.totals(), totals(5, 1, 8_388_351));
-    same(
-        &rt,
-        large.take(8_388_352),
-        Err(NoTile {
-            need: 8_388_352,
-            largest: 8_388_351,
-        }),
-    );
-    same(
-        &rt,
-        large.take(u32::MAX),
-        Err(NoTile {
-            need: u32::MAX,
-            largest: 8_388_351,
-        }),
-    );
-    same(&rt, large.take(8_388_351), Ok(block(257, 8_388_351)));
-    same(&rt, large.totals(), totals(5, 0, 0));
-}
-
-#[test]
-fn a_block_is_joined_with_its_free_neighbours(rt: HostRuntime) {
-    let mut tiles = must(&rt, Tiles::new(rt.alloc(), 640));
-    for first in [0, 64, 128, 192] {
-        assert_eq!(rt; tiles.take(64), Ok(block(first, 64)));
+fn take_step(rt: &impl Abort, tiles: &mut Tiles, step: Step) {
+    match step {
+        Step::Take(need, first, words) => same(rt, tiles.take(need), Ok(block(first, words))),
+        Step::NoTake(words, need, largest) => {
+            same(rt, tiles.take(words), Err(NoTile { need, largest }))
+        }
+        Step::Trim(first, words, used, left) => same(
+            rt,
+            trim(rt, tiles, block(first, words), used),
+            block(first, left),
+        ),
+        Step::GiveBack(first, words) => give_back(rt, tiles, block(first, words)),
+        Step::Pin(first, words) => pin(rt, tiles, block(first, words)),
+        Step::Unpin(first, words) => unpin(rt, tiles, block(first, words)),
+        Step::MoveDown(from, to, words) => {
+            same(rt, tiles.move_down(), Some(Move { from, to, words }))
+        }
+        Step::NoMove => same(rt, tiles.move_down(), None),
+        Step::HandedOut(first, words, is) => {
+            same(rt, tiles.is_handed_out(block(first, words)), is)
+        }
+        Step::Largest(words) => same(rt, tiles.largest(), words),
+        Step::Has(blocks, free_blocks, free_words) => {
+            same(rt, tiles.totals(), totals(blocks, free_blocks, free_words))
+        }
     }
-    same(&rt, tiles.take(384), Ok(block(256, 384)));
-    // alone, at the lower end, between two free ones, at the upper end, and the last
-    for (first, words, left) in [
-        (128, 64, totals(5, 1, 64)),
-        (0, 64, totals(5, 2, 128)),
-        (64, 64, totals(3, 1, 192)),
-        (256, 384, totals(3, 2, 576)),
-        (192, 64, totals(1, 1, 640)),
-    ] {
-        give_back(&rt, &mut tiles, block(first, words));
-        assert_eq!(rt; tiles.totals(), left, "after the block at {first}");
-    }
-    same(&rt, tiles.take(640), Ok(block(0, 640)));
 }
 
-#[test]
-fn the_smallest_and_then_the_lowest_is_taken(rt: HostRuntime) {
-    let mut tiles = must(&rt, Tiles::new(rt.alloc(), 1024));
-    for (words, first) in [
-        (100, 0),
-        (64, 100),
-        (200, 164),
-        (64, 364),
-        (100, 428),
-        (64, 528),
-    ] {
-        assert_eq!(rt; tiles.take(words), Ok(block(first, words)));
+/// Takes the steps with a new region of so many words.
+fn take_steps(rt: &impl Abort, alloc: Global, words: u32, steps: &[Step]) {
+    assert!(rt; words % 128 == 0 && words <= 8_388_608);
+    let mut tiles = must(rt, Tiles::new(alloc, words));
+    same(rt, tiles.words(), words);
+    for step in steps {
+        take_step(rt, &mut tiles, *step);
     }
-    for (first, words) in [(164, 200), (428, 100), (0, 100)] {
-        give_back(&rt, &mut tiles, block(first, words));
-    }
-    same(&rt, tiles.take(70), Ok(block(0, 100)));
-    same(&rt, tiles.take(70), Ok(block(428, 100)));
-    same(&rt, tiles.take(70), Ok(block(164, 70)));
-    same(&rt, tiles.take(64), Ok(block(234, 64)));
-    same(&rt, tiles.take(67), Ok(block(592, 67)));
-    same(
-        &rt,
-        (tiles.totals(), tiles.largest()),
-        (totals(10, 2, 431), 365),
-    );
 }
 
-#[test]
-fn a_rest_stays_from_64_words_on(rt: HostRuntime) {
-    let mut tiles = must(&rt, Tiles::new(rt.alloc(), 256));
-    same(&rt, tiles.take(193), Ok(block(0, 256)));
-    same(
-        &rt,
-        trim(&rt, &mut tiles, block(0, 256), 193),
-        block(0, 256),
-    );
-    same(
-        &rt,
-        trim(&rt, &mut tiles, block(0, 256), 192),
-        block(0, 192),
-    );
-    same(&rt, tiles.totals(), totals(2, 1, 64));
-    same(
-        &rt,
-        trim(&rt, &mut tiles, block(0, 192), 129),
-        block(0, 192),
-    );
-    same(&rt, trim(&rt, &mut tiles, block(0, 192), 1), block(0, 64));
-    same(&rt, tiles.totals(), totals(2, 1, 192));
-    same(&rt, trim(&rt, &mut tiles, block(0, 64), 64), block(0, 64));
-}
+/// What happens to regions of so many words.
+const REGIONS: &[(u32, &[Step])] = &[
+    // a small region
+    (
+        384,
+        &[
+            Take(10, 0, 64),
+            Take(300, 64, 320),
+            NoTake(64, 64, 0),
+            Trim(64, 320, 100, 100),
+            GiveBack(0, 64),
+            Has(3, 2, 284),
+            MoveDown(64, 0, 100),
+            NoMove,
+            Has(2, 1, 284),
+            Largest(284),
+        ],
+    ),
+    // a region of no words
+    (0, &[NoTake(1, 64, 0), NoMove, Has(0, 0, 0), Largest(0)]),
+    // a region of two blocks
+    (
+        128,
+        &[
+            NoTake(129, 129, 128),
+            Take(1, 0, 64),
+            Take(63, 64, 64),
+            NoTake(1, 64, 0),
+            GiveBack(0, 64),
+            NoTake(65, 65, 64),
+            GiveBack(64, 64),
+            Take(65, 0, 128),
+        ],
+    ),
+    // the largest region
+    (
+        8_388_608,
+        &[
+            Has(1, 1, 8_388_608),
+            Take(1, 0, 64),
+            Take(63, 64, 64),
+            Take(64, 128, 64),
+            Take(65, 192, 65),
+            Has(5, 1, 8_388_351),
+            NoTake(8_388_352, 8_388_352, 8_388_351),
+            NoTake(u32::MAX, u32::MAX, 8_388_351),
+            Take(8_388_351, 257, 8_388_351),
+            Has(5, 0, 0),
+        ],
+    ),
+    // a block is joined with its free neighbours: alone, at the lower end, between two free ones, at the upper end, and the last
+    (
+        640,
+        &[
+            Take(64, 0, 64),
+            Take(64, 64, 64),
+            Take(64, 128, 64),
+            Take(64, 192, 64),
+            Take(384, 256, 384),
+            GiveBack(128, 64),
+            Has(5, 1, 64),
+            GiveBack(0, 64),
+            Has(5, 2, 128),
+            GiveBack(64, 64),
+            Has(3, 1, 192),
+            GiveBack(256, 384),
+            Has(3, 2, 576),
+            GiveBack(192, 64),
+            Has(1, 1, 640),
+            Take(640, 0, 640),
+        ],
+    ),
+    // the smallest and then the lowest is taken
+    (
+        1024,
+        &[
+            Take(100, 0, 100),
+            Take(64, 100, 64),
+            Take(200, 164, 200),
+            Take(64, 364, 64),
+            Take(100, 428, 100),
+            Take(64, 528, 64),
+            GiveBack(164, 200),
+            GiveBack(428, 100),
+            GiveBack(0, 100),
+            Take(70, 0, 100),
+            Take(70, 428, 100),
+            Take(70, 164, 70),
+            Take(64, 234, 64),
+            Take(67, 592, 67),
+            Has(10, 2, 431),
+            Largest(365),
+        ],
+    ),
+    // a rest stays from 64 words on
+    (
+        256,
+        &[
+            Take(193, 0, 256),
+            Trim(0, 256, 193, 256),
+            Trim(0, 256, 192, 192),
+            Has(2, 1, 64),
+            Trim(0, 192, 129, 192),
+            Trim(0, 192, 1, 64),
+            Has(2, 1, 192),
+            Trim(0, 64, 64, 64),
+        ],
+    ),
+    // a pinned block stays
+    (
+        384,
+        &[
+            Take(64, 0, 64),
+            Take(200, 64, 200),
+            Take(120, 264, 120),
+            Pin(64, 200),
+            GiveBack(0, 64),
+            // cut, it is still pinned, and between two free blocks
+            Trim(64, 200, 100, 100),
+            Has(4, 2, 164),
+            MoveDown(264, 164, 120),
+            NoMove,
+            Has(4, 2, 164),
+            Unpin(64, 100),
+            MoveDown(64, 0, 100),
+            MoveDown(164, 100, 120),
+            NoMove,
+            Has(3, 1, 164),
+            // given back, it is pinned no longer
+            Pin(100, 120),
+            GiveBack(100, 120),
+            Take(64, 100, 64),
+            GiveBack(0, 100),
+            MoveDown(100, 0, 64),
+            HandedOut(100, 64, false),
+            HandedOut(0, 64, true),
+        ],
+    ),
+];
 
 #[test]
-fn a_pinned_block_stays(rt: HostRuntime) {
-    let mut tiles = must(&rt, Tiles::new(rt.alloc(), 384));
-    for (words, first) in [(64, 0), (200, 64), (120, 264)] {
-        assert_eq!(rt; tiles.take(words), Ok(block(first, words)));
+fn each_call_step_by_step(rt: HostRuntime) {
+    for (words, steps) in REGIONS {
+        take_steps(&rt, rt.alloc(), *words, *steps);
     }
-    pin(&rt, &mut tiles, block(64, 200));
-    give_back(&rt, &mut tiles, block(0, 64));
-    // cut, it is still pinned, and between two free blocks
-    same(
-        &rt,
-        trim(&rt, &mut tiles, block(64, 200), 100),
-        block(64, 100),
-    );
-    same(&rt, tiles.totals(), totals(4, 2, 164));
-    same(
-        &rt,
-        tiles.move_down(),
-        Some(Move {
-            from: 264,
-            to: 164,
-            words: 120,
-        }),
-    );
-    same(&rt, tiles.move_down(), None);
-    same(&rt, tiles.totals(), totals(4, 2, 164));
-    unpin(&rt, &mut tiles, block(64, 100));
-    same(
-        &rt,
-        tiles.move_down(),
-        Some(Move {
-            from: 64,
-            to: 0,
-            words: 100,
-        }),
-    );
-    same(
-        &rt,
-        tiles.move_down(),
-        Some(Move {
-            from: 164,
-            to: 100,
-            words: 120,
-        }),
-    );
-    same(&rt, tiles.move_down(), None);
-    same(&rt, tiles.totals(), totals(3, 1, 164));
-    // given back, it is pinned no longer
-    pin(&rt, &mut tiles, block(100, 120));
-    give_back(&rt, &mut tiles, block(100, 120));
-    same(&rt, tiles.take(64), Ok(block(100, 64)));
-    give_back(&rt, &mut tiles, block(0, 100));
-    same(
-        &rt,
-        tiles.move_down(),
-        Some(Move {
-            from: 100,
-            to: 0,
-            words: 64,
-        }),
-    );
-    same(&rt, tiles.is_handed_out(block(100, 64)), false);
-    same(&rt, tiles.is_handed_out(block(0, 64)), true);
 }
 
 fn next(seed: u64) -> u64 {

@@ -35,15 +35,6 @@ pub fn append(rt: &impl Abort, chains: &mut Chains, chain: ChainName, block: Blo
     chains.append_block(chain, block);
 }
 
-/// Begins a chain with these blocks.
-pub fn begin_with(rt: &impl Abort, chains: &mut Chains, blocks: &[Block]) -> ChainName {
-    let chain = begin(rt, chains);
-    for block in blocks {
-        append(rt, chains, chain, *block);
-    }
-    chain
-}
-
 pub fn spot(rt: &impl Abort, chains: &Chains, chain: ChainName, byte: u32) -> Spot {
     let has = extent(rt, chains, chain);
     assert!(rt; byte < has.bytes);
@@ -129,15 +120,15 @@ pub fn word(rt: &impl Abort, ranges: &Ranges, index: u32) -> u32 {
     ranges.word(index)
 }
 
-/// That ranges have these blocks and so many bytes, and what follows from that.
-pub fn expect(rt: &impl Abort, ranges: &Ranges, blocks: &[Block], bytes: u32) {
+/// That ranges have these blocks, by their first words and their words, and so many bytes, and what follows from that.
+pub fn expect(rt: &impl Abort, ranges: &Ranges, blocks: &[(u32, u32)], bytes: u32) {
     same(rt, ranges.blocks() as usize, blocks.len());
-    let mut words: u64 = 0;
-    for (index, block) in (0..ranges.blocks()).zip(blocks) {
+    let mut sum: u64 = 0;
+    for (index, (first, words)) in (0..ranges.blocks()).zip(blocks) {
         assert!(rt; index < ranges.blocks());
-        assert_eq!(rt; ranges.block(index), *block, "at {index}");
-        words = words.wrapping_add(u64::from(block.words));
+        same(rt, ranges.block(index), block(*first, *words));
+        sum = sum.wrapping_add(u64::from(*words));
     }
-    same(rt, u64::from(ranges.words()), words);
+    same(rt, u64::from(ranges.words()), sum);
     same(rt, ranges.bytes(), bytes);
 }

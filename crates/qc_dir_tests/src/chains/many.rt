@@ -1,20 +1,14 @@
 //! Chains over the largest region, in blocks of 64 words.
 
-use super::calls::{append, begin, block, expect, extent, list, release, spot, trim_last, word};
-use super::{made, totals};
+use super::calls::{append, begin, expect, extent, list, release, spot, trim_last, word};
+use super::totals;
 use crate::told::{must, same};
 use qc_chain::{ChainName, Chains, Ranges, Tiles};
-use qc_types::NoMemory;
 use std::alloc::Global;
 use std::process::Abort;
 
 /// The blocks of a region of 8,388,608 words.
 const BLOCKS: u32 = 131_072;
-
-/// A region of which nothing is known.
-fn region(alloc: Global) -> Result<Tiles, NoMemory> {
-    Tiles::new(alloc, 8_388_608)
-}
 
 /// Puts a new block at the end of a chain.
 fn grow(rt: &impl Abort, chains: &mut Chains, tiles: &mut Tiles, chain: ChainName, words: u32) {
@@ -52,27 +46,31 @@ fn check_words(rt: &impl Abort, ranges: &Ranges) {
     }
 }
 
-fn one_chain(rt: &impl Abort, alloc: Global) {
-    let mut tiles = must(rt, region(alloc));
-    let mut chains = must(rt, made(alloc, BLOCKS));
-    let chain = begin(rt, &mut chains);
-    grow_long(rt, &mut chains, &mut tiles, chain);
-    has(rt, &chains, chain, 8_388_608, 67_108_864);
-    same(rt, tiles.totals(), totals(131_071, 0, 0));
-    // one byte is left in the last block
-    trim_last(rt, alloc, &mut chains, chain, 67_107_841, &mut tiles);
-    has(rt, &chains, chain, 8_388_544, 67_107_841);
+/// One byte is left in the chain's last block, and each byte and word stands where it would in the region itself.
+fn cut_to_one_byte(
+    rt: &impl Abort,
+    alloc: Global,
+    chains: &mut Chains,
+    tiles: &mut Tiles,
+    chain: ChainName,
+) {
+    trim_last(rt, alloc, chains, chain, 67_107_841, tiles);
+    has(rt, chains, chain, 8_388_544, 67_107_841);
     same(rt, tiles.totals(), totals(131_072, 1, 64));
-    check_spots(rt, &chains, chain);
-    check_words(rt, &list(rt, alloc, &chains, chain));
-    release(rt, alloc, &mut chains, chain, &mut tiles);
-    same(rt, tiles.totals(), totals(1, 1, 8_388_608));
-    same(rt, (chains.room(), chains.has_free_name()), (BLOCKS, true));
+    check_spots(rt, chains, chain);
+    check_words(rt, &list(rt, alloc, chains, chain));
 }
 
-#[test]
-fn one_chain_of_a_whole_region(rt: HostRuntime) {
-    one_chain(&rt, rt.alloc())
+/// One chain has all blocks.
+pub fn one_chain(rt: &impl Abort, alloc: Global, chains: &mut Chains, tiles: &mut Tiles) {
+    let chain = begin(rt, chains);
+    grow_long(rt, chains, tiles, chain);
+    has(rt, chains, chain, 8_388_608, 67_108_864);
+    same(rt, tiles.totals(), totals(131_071, 0, 0));
+    cut_to_one_byte(rt, alloc, chains, tiles, chain);
+    release(rt, alloc, chains, chain, tiles);
+    same(rt, tiles.totals(), totals(1, 1, 8_388_608));
+    same(rt, (chains.room(), chains.has_free_name()), (BLOCKS, true));
 }
 
 /// Begins so many chains.
@@ -163,32 +161,21 @@ fn check_third(rt: &impl Abort, alloc: Global, chains: &Chains, names: &[ChainNa
     let Some(third) = names.get(2) else {
         panic!(rt; "no third chain");
     };
-    let firsts = [
-        block(64, 64),
-        block(1_048_768, 64),
-        block(1_048_704, 64),
-        block(2_621_568, 64),
-    ];
-    expect(rt, &list(rt, alloc, chains, *third), &firsts, 2_048);
+    let blocks = [(64, 64), (1_048_768, 64), (1_048_704, 64), (2_621_568, 64)];
+    expect(rt, &list(rt, alloc, chains, *third), &blocks, 2_048);
 }
 
-fn many_chains(rt: &impl Abort, alloc: Global) {
-    let mut tiles = must(rt, region(alloc));
-    let mut chains = must(rt, made(alloc, BLOCKS));
-    let names = begin_many(rt, alloc, &mut chains, 32_768);
-    grow_many(rt, alloc, &mut chains, &mut tiles, names.as_slice());
-    release_half(rt, alloc, &mut chains, &mut tiles, names.as_slice(), false);
+/// Many chains have all blocks.
+pub fn many_chains(rt: &impl Abort, alloc: Global, chains: &mut Chains, tiles: &mut Tiles) {
+    let names = begin_many(rt, alloc, chains, 32_768);
+    grow_many(rt, alloc, chains, tiles, names.as_slice());
+    release_half(rt, alloc, chains, tiles, names.as_slice(), false);
     same(rt, tiles.totals(), totals(114_688, 49_152, 4_194_304));
     // the first block is the only one that stays
-    same(rt, flush(&mut chains, &mut tiles), 65_535);
+    same(rt, flush(chains, tiles), 65_535);
     same(rt, tiles.totals(), totals(65_537, 1, 4_194_304));
-    check_third(rt, alloc, &chains, names.as_slice());
-    release_half(rt, alloc, &mut chains, &mut tiles, names.as_slice(), true);
+    check_third(rt, alloc, chains, names.as_slice());
+    release_half(rt, alloc, chains, tiles, names.as_slice(), true);
     same(rt, tiles.totals(), totals(1, 1, 8_388_608));
     same(rt, chains.room(), BLOCKS);
-}
-
-#[test]
-fn many_chains_of_a_whole_region(rt: HostRuntime) {
-    many_chains(&rt, rt.alloc())
 }

@@ -1,6 +1,6 @@
 //! A full directory of the largest region.
 
-use super::calls::{complete, enter, leave, made, put_in, remove, rooms, touch, under};
+use super::calls::{complete, enter, leave, put_in, remove, rooms, touch, under};
 use crate::told::{must, same};
 use qc_dir::{Block, ChainName, Dir, Entry};
 use qc_types::{NoMemory, TableName, Tables, Text};
@@ -137,22 +137,20 @@ fn remove_by_age(rt: &impl Abort, alloc: Global, dir: &mut Dir) {
     same(rt, dir.oldest_idle(), None);
 }
 
-fn a_full_directory(rt: &impl Abort, alloc: Global) {
-    let mut dir = must(rt, made(alloc, 8_388_608));
-    fill(rt, alloc, &mut dir);
-    same(rt, rooms(&dir), (0, 131_072 - 6_144));
-    complete_all(rt, &mut dir);
-    touch_some(rt, &mut dir);
-    enter_all(rt, &mut dir);
-    leave_all(rt, &mut dir);
-    candidates(rt, alloc, &dir);
-    remove_by_table(rt, alloc, &mut dir);
-    same(rt, rooms(&dir), (32_768, 131_072 - 5_120));
-    remove_by_age(rt, alloc, &mut dir);
-    same(rt, rooms(&dir), (65_536, 131_072));
+fn use_all(rt: &impl Abort, dir: &mut Dir) {
+    complete_all(rt, dir);
+    touch_some(rt, dir);
+    enter_all(rt, dir);
+    leave_all(rt, dir);
 }
 
-#[test]
-fn many_entries_come_and_go(rt: HostRuntime) {
-    a_full_directory(&rt, rt.alloc())
+/// Fills the largest directory and empties it.
+pub fn fill_and_empty(rt: &impl Abort, alloc: Global, dir: &mut Dir) {
+    fill(rt, alloc, dir);
+    same(rt, rooms(dir), (0, 131_072 - 6_144));
+    use_all(rt, dir);
+    candidates(rt, alloc, dir);
+    remove_by_table(rt, alloc, dir);
+    same(rt, rooms(dir), (32_768, 131_072 - 5_120));
+    remove_by_age(rt, alloc, dir);
 }
