@@ -1,5 +1,5 @@
 -- Tables with changes, and databases of them.
-use Rattle.std.proofs.Common.{◌≡◌, ℤ, true, false, List, [], ◌∷◌, ◌++◌, length, refl, sym, ap, ◌∙◌, arith, subst, cond, Option, Some, None}
+use Rattle.std.proofs.Common.{◌≡◌, ℤ, true, false, List, [], ◌∷◌, ◌++◌, length, refl, ap, ◌∙◌, arith, subst, cond, Option, Some, None}
 use Rattle.std.specs.Prelude.{Err, nat_lt}
 use Rattle.std.specs.Ordering.{int_cmp, match_ordering}
 use Rattle.std.specs.declared.cmp.Ordering.TheVariants.{Less, Equal, Greater}

@@ -1,17 +1,16 @@
 -- Databases that one operation changes where they stand.
-use Rattle.std.proofs.Common.{◌≡◌, ℕ, ◌-◌, ◌<◌, ◌≤◌, Bool, true, false, cond, List, [], ◌∷◌, length, get_or, map, refl, ap, sym, ◌∙◌, subst, zero, suc, arith, Some, None}
-use Rattle.std.specs.Prelude.{◌&&◌, not, Result, Ok, Err, nat_le, nat_lt, is_some}
+use Rattle.std.proofs.Common.{◌≡◌, ℕ, ◌-◌, ◌<◌, ◌≤◌, Bool, true, false, cond, List, [], ◌∷◌, length, get_or, refl, ap, sym, ◌∙◌, subst, zero, suc, arith, Some}
+use Rattle.std.specs.Prelude.{◌&&◌, not, Result, Ok, Err}
 use Rattle.std.specs.Result.{IsErrAnd}
 use Rattle.std.specs.Ordering.{match_ordering}
 use Rattle.std.specs.declared.cmp.Ordering.TheVariants.{Less, Equal, Greater}
 use Rattle.std.specs.BTreeMap.{insert_entry, is_at}
 use Rattle.std.specs.Map.{remove_entry}
 use Rattle.std.specs.List.{list_all, slice_get}
-use Rattle.std.proofs.lemmas.Bool.Decides.{nat_tests}
 use Rattle.qc_types.specs.declared.memory.NoMemory.{NoMemory}
 use Rattle.qc_types.specs.declared.names.TableName.{TableName}
 use Rattle.qc_sql.specs.declared.tables.RowOp.{RowOp}
-use Rattle.qc_sql.specs.Database.{Name, MapOf, Database, Table, Tables, name_cmp, at_name, apply_one, change_at, change_table, empty_database, change_tables, most_rows}
+use Rattle.qc_sql.specs.Database.{Name, MapOf, Database, Table, Tables, name_cmp, at_name, apply_one, change_at, change_table, empty_database}
 use Rattle.qc_model.specs.Licence.{is_within_rows}
 use Rattle.qc_table.specs.Borrowed.{IsSetAt, EndsWith}
 use Rattle.qc_table.specs.Fitting.{IsCarriedOut, IsChanged, fitting, is_within}

@@ -1,6 +1,6 @@
 -- The name is new, and gets no tables.
-use Rattle.std.proofs.Common.{◌≡◌, refl, true, false}
-use Rattle.std.specs.Prelude.{is_some, not}
+use Rattle.std.proofs.Common.{refl}
+use Rattle.std.specs.Prelude.{is_some}
 use Rattle.qc_sql.specs.Database.{tables_of, no_tables}
 use Rattle.qc_table.specs.Fitting.{is_within}
 use Rattle.qc_table.proofs.InPlace.{each, each_inserted, is_new}

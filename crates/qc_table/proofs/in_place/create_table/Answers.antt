@@ -1,5 +1,5 @@
 -- The database is there, and what is inserted into its tables changes it there alone.
-use Rattle.std.proofs.Common.{◌≡◌, [], refl, ap, ◌∙◌, true}
+use Rattle.std.proofs.Common.{◌≡◌, [], refl, ap, true}
 use Rattle.std.specs.Prelude.{is_some}
 use Rattle.std.specs.BTreeMap.{insert_entry}
 use Rattle.qc_sql.specs.Database.{Table, name_cmp, tables_of}

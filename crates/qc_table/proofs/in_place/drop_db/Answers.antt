@@ -1,5 +1,4 @@
 -- What is removed leaves the others.
-use Rattle.std.proofs.Common.{refl}
 use Rattle.std.specs.BTreeMap.{is_at}
 use Rattle.qc_sql.specs.Database.{name_cmp}
 use Rattle.qc_table.specs.Fitting.{is_within}

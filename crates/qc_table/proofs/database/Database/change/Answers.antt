@@ -1,5 +1,5 @@
 -- The one operation was carried out.
-use Rattle.std.proofs.Common.{◌≡◌, refl, subst, sym, ap, ◌∙◌}
+use Rattle.std.proofs.Common.{sym, ap, ◌∙◌}
 use Rattle.std.specs.Prelude.{Ok}
 use Rattle.qc_sql.specs.Database.{apply}
 use Rattle.qc_table.specs.Fitting.{fitting}

@@ -1,5 +1,4 @@
 -- What is written through the shared value is the database.
-use Rattle.std.proofs.Common.{◌≡◌, refl, subst, sym, ◌∙◌}
 use Rattle.qc_table.specs.Tables.{IsHeld}
 use Rattle.qc_table.proofs.InPlace.{carried_held}
 use Rattle.qc_table.proofs.database.Database.change_alone.Goals as goal
