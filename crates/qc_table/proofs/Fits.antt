@@ -8,7 +8,7 @@ use Rattle.qc_sql.specs.Database.{Name, Database, Tables, most_rows}
 use Rattle.qc_sql.specs.Words.{◌or_else◌, when}
 use Rattle.qc_model.specs.Licence.{is_within_rows}
 use Rattle.qc_model.specs.Machine.{full_in, full_table}
-use Rattle.qc_table.specs.Fitting.{unless}
+use Rattle.qc_table.specs.Fitting.{fitting, unless}
 use Rattle.qc_table.proofs.Rows.{both}
 
 not_more : (n m : _) → nat_lt m n ≡ false → nat_le n m ≡ true
@@ -46,6 +46,9 @@ within_rows (t ∷ ts) none =
       | Some name ↦ λ p q. absurd cc
     ] refl none
 
-pub fitted : {X : Type 0} (full : Option TableName) (d x : X) → unless full d ≡ Ok x → (full ≡ None) × (x ≡ d)
-fitted None d x is = (refl, cc)
-fitted (Some t) d x is = absurd cc
+pub unless_ok : {X : Type 0} (full : Option TableName) (d x : X) → unless full d ≡ Ok x → (full ≡ None) × (x ≡ d)
+unless_ok None d x is = (refl, cc)
+unless_ok (Some t) d x is = absurd cc
+
+pub fitted : (d x : Database) → fitting d ≡ Ok x → (full_table d ≡ None) × (x ≡ d)
+fitted d x is = unless_ok (full_table d) d x is

@@ -10,7 +10,7 @@ use Rattle.qc_sql.specs.Words.{◌or_else◌}
 use Rattle.qc_model.specs.Machine.{full_in, full_table}
 use Rattle.qc_table.proofs.Maps.{named}
 use Rattle.qc_table.proofs.Drafts.{insert_behind}
-use Rattle.qc_table.proofs.Fits.{fitted}
+use Rattle.qc_table.proofs.Fits.{unless_ok}
 use Rattle.qc_table.proofs.draft.Draft.versions.Goals as goal
 
 pub loop-db-preserved : goal.loop-db-preserved
@@ -19,7 +19,7 @@ loop-db-preserved c =
     let more = rest_more deref_pair _ _ c.next.result (c.in-Some.db, c.in-Some.tables) c.in-Some.is c.next.ensures.steps in
     let before = ap (λ es. c.loop-db.made ++ named (λ k. k.items) es) (sym more) ∙ c.loop-db.invariant.made in
     let ordered = subst (λ (m : Database). IsStrictlySortedBy name_cmp (keys_of m)) (c.self.view_is ∙ sym before) c.is_in_order.ensures in
-    let fits = fitted (full_in c.in-Some.db.now.items tables) tables c.in_ok-versions.versions (rw c.as_slice.ensures.value at c.in_ok-versions.ensures) in
+    let fits = unless_ok (full_in c.in-Some.db.now.items tables) tables c.in_ok-versions.versions (rw c.as_slice.ensures.value at c.in_ok-versions.ensures) in
     record {
       made = rw (c.in_ok-insert.ensures.ok, c.as_slice-in-loop-db.ensures.value, fits.1) (insert_behind c.loop-db.made _ _ _ ordered ∙ before);
       full = c.loop-db.invariant.full ∙ (ap (λ es. full_table (named (λ k. k.items) es)) more ∙ ap (λ o. o or_else full_table (named (λ k. k.items) c.next.new.self)) fits.0);
