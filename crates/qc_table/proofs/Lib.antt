@@ -3,6 +3,7 @@ pub mod Cutting
 pub mod Drafts
 pub mod Fits
 pub mod Found
+pub mod InPlace
 pub mod IntSteps
 pub mod Maps
 pub mod Merges
