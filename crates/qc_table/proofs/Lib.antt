@@ -1,3 +1,4 @@
+pub mod Appending
 pub mod BitSteps
 pub mod Cutting
 pub mod Drafts

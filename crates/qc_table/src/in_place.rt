@@ -134,11 +134,14 @@ impl TableVersion {
     }
 
     /// Puts a copy of the row, in the place of the one that its key may have. Answers `false`, and leaves all as it was, where there would be too many rows.
-    /// Linear in what the rows hold.
+    /// Costs what the row holds over many calls where it comes behind the others and no other one shares the version, and else what all rows hold.
     fn put(&mut self, alloc: Global, row: &StoredRow) -> Result<bool, NoMemory>
         requires { row_fits self.old.columns row.now ≡ true }
         ensures { IsChanged (with_row row.now self.old) self.old result self.new }
     {
+        if self.append(row)? {
+            return Ok(true);
+        }
         let mut draft = DraftTable::of(alloc, self)?;
         draft.put(alloc, row)?;
         self.become_draft(alloc, &draft)

@@ -12,6 +12,7 @@ mod keys;
 mod merge;
 mod name_map;
 mod nulls;
+mod row_ends;
 mod table_rows;
 mod table_version;
 mod texts;
