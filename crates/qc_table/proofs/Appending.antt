@@ -1,13 +1,13 @@
 -- Rows put behind the others of a table.
-use Rattle.std.proofs.Common.{◌≡◌, ℕ, ◌+◌, ◌-◌, ◌<◌, ◌≤◌, ℤ, Bool, true, false, List, [], ◌∷◌, ◌++◌, map, length, length-append, get_or, set, zero, suc, refl, sym, ap, ◌∙◌, arith, subst, Option, Some, None, nat_eq}
+use Rattle.std.proofs.Common.{◌≡◌, ℕ, ◌+◌, ◌-◌, ◌<◌, ◌≤◌, ℤ, Bool, true, false, List, [], ◌∷◌, ◌++◌, length, length-append, get_or, set, suc, refl, sym, ap, ◌∙◌, arith, subst, Option, Some, None, nat_eq}
 use Rattle.std.specs.Prelude.{IfSome, Result, Ok, Err, int_lt, nat_le}
 use Rattle.std.specs.Result.{IsErrAnd}
-use Rattle.std.specs.List.{slice_get, AllByRecursion}
+use Rattle.std.specs.List.{slice_get}
 use Rattle.std.specs.List.Sorted.{IsStrictlySortedBy}
 use Rattle.std.specs.Map.{keys_of}
 use Rattle.std.specs.BTreeMap.{insert_entry}
-use Rattle.std.specs.Ordering.{int_cmp, match_ordering, ordering_reverse}
-use Rattle.std.specs.declared.cmp.Ordering.TheVariants.{Less, Equal, Greater}
+use Rattle.std.specs.Ordering.{int_cmp, ordering_reverse}
+use Rattle.std.specs.declared.cmp.Ordering.TheVariants.{Less, Greater}
 use Rattle.std.proofs.lemmas.Bool.Decides.{nat_tests}
 use Rattle.std.proofs.lemmas.Cmp.{int_cmp_total}
 use Rattle.std.proofs.lemmas.List.{get_or-set_same, get_or-set_other, length-set, map-append}
@@ -19,7 +19,7 @@ use Rattle.qc_sql.specs.declared.tables.Column.{Column}
 use Rattle.qc_sql.specs.declared.tables.Kind.{Kind}
 use Rattle.qc_sql.specs.Database.{MapOf, Table, key_of, most_rows, with_row}
 use Rattle.qc_model.specs.Licence.{kind_fits, row_fits}
-use Rattle.qc_model.specs.Sound.{IsRow, IsSoundTable}
+use Rattle.qc_model.specs.Sound.{IsSoundTable}
 use Rattle.qc_table.specs.declared.cells.Cells.{Cells}
 use Rattle.qc_table.specs.Stored.{and_one, column_of, is_ints, rows_of, takes, values_of, AreFilled, AreMade, HasRoom, HaveRoom, IsCells, IsColumn, IsFilled, IsMade, IsStore, TakeRow}
 use Rattle.qc_table.specs.Views.{kind_at, value_at}
@@ -113,7 +113,7 @@ all_room row cs i room all j c low is = let within = slice_get_within cs j c is 
 
 -- ---- the rows of columns with one more value each
 
-made_from : (f : List Value → List Value) (o : Option Cells) (c : Cells) → IsMade f o c → (b : Cells) × ((o ≡ Some b) × IsMade f (Some b) c)
+pub made_from : (f : List Value → List Value) (o : Option Cells) (c : Cells) → IsMade f o c → (b : Cells) × ((o ≡ Some b) × IsMade f (Some b) c)
 made_from f None c h = absurd h
 made_from f (Some b) c h = (b, (refl, h))
 
@@ -140,7 +140,7 @@ filled_more columns keys bs cs ds key row store same more = (
 pub lower : (x y : ℤ) → int_lt x y ≡ true → int_cmp x y ≡ Less
 lower x y h = rw h refl
 
-higher : (x y : ℤ) → int_cmp x y ≡ Less → int_cmp y x ≡ Greater
+pub higher : (x y : ℤ) → int_cmp x y ≡ Less → int_cmp y x ≡ Greater
 higher x y h = int_cmp_total.antisymm y x ∙ ap ordering_reverse h
 
 -- among rows that rise, one whose key stands above the last stands behind all
@@ -207,7 +207,7 @@ filled_same columns keys bs cs store same = (
     kept_filled (Some kind) n vs b c h is m = (m.0, m.1 ∙ is, m.2 ∙ h.2)
 
 -- columns that are filled with the rows of a sound table store it
-stood : (columns : List Column) (rows : MapOf ℤ (List Value)) (keys : List ℤ) (cs : List Cells) → keys ≡ keys_of rows → AreFilled columns rows (length columns) cs → IsSoundTable (record { columns = columns; rows = rows })
+pub stood : (columns : List Column) (rows : MapOf ℤ (List Value)) (keys : List ℤ) (cs : List Cells) → keys ≡ keys_of rows → AreFilled columns rows (length columns) cs → IsSoundTable (record { columns = columns; rows = rows })
     → (IsStore columns (length keys) cs × IsSoundTable (stored columns keys cs)) × (rows_of (length columns) keys cs ≡ rows)
 stood columns rows keys cs is filled sound =
     let back = rows_filled columns rows cs filled (rows_wide columns rows sound.rows) in

@@ -1,8 +1,8 @@
 //! Columns as they are stored.
 
-ghost use Rattle.std.specs.Prelude.{◌≡◌, ◌-◌, ◌<◌, ◌≤◌, [], ◌∷◌, ◌++◌, length, take, drop, true, false, option_copied, IsOk, OnOk};
+ghost use Rattle.std.specs.Prelude.{◌≡◌, ◌-◌, ◌<◌, ◌≤◌, [], ◌∷◌, ◌++◌, length, take, drop, true, false, option_copied, IsOk, OnOk, Some};
 ghost use Rattle.qc_table.specs.Columns.{text_length};
-ghost use Rattle.qc_table.specs.Stored.{is_ints, takes, values_of, HasRoom, IsCells};
+ghost use Rattle.qc_table.specs.Stored.{is_ints, takes, values_of, with_one, CanPut, HasRoom, IsCells, IsMade};
 ghost use Rattle.qc_sql.specs.Database.{is_int};
 ghost use Rattle.qc_table.specs.Views.{int_value, text_value, value_at, IsNulls};
 
@@ -95,6 +95,35 @@ impl Cells {
         }
     }
 
+    /// Whether a value of the column's kind can be put in the place of the one at an index: a number and NULL can, a text where it is the same. Linear in
+    /// the length of a text.
+    pub(crate) fn can_put(&self, row: usize, value: &Value) -> bool
+        requires ready { IsCells self.now }
+        requires takes { takes (is_ints self.now) value.now ≡ true }
+        requires row { row < length (values_of self.now) }
+        ensures { result ≡ true → CanPut row value.now self.now }
+    {
+        match self {
+            Cells::Ints(_) => true,
+            Cells::Texts(texts) => is_same(texts.get(row), bytes(value)),
+        }
+    }
+
+    /// Puts a value of the column's kind in the place of the one at an index. Constant time.
+    pub(crate) fn put(&mut self, row: usize, value: &Value)
+        requires ready { IsCells self.old }
+        requires takes { takes (is_ints self.old) value.now ≡ true }
+        requires row { row < length (values_of self.old) }
+        requires fits { CanPut row value.now self.old }
+        ensures { IsMade (with_one row value.now) (Some self.old) self.new }
+    {
+        match self {
+            Cells::Ints(ints) => ints.put(row, number(value)),
+            // It is the same text.
+            Cells::Texts(_) => {}
+        }
+    }
+
     /// The bits that tell which values are NULL.
     pub(crate) fn nulls(&self) -> &[u64]
         requires { IsCells self.now }
@@ -126,6 +155,17 @@ fn bytes(value: &Value) -> Option<&[u8]>
         Value::Null => None,
         Value::Str(text) => Some(text.bytes()),
         Value::Int(_) => unreachable!(),
+    }
+}
+
+/// Whether two texts, or their lack, are the same.
+fn is_same(text: Option<&[u8]>, other: Option<&[u8]>) -> bool
+    ensures { result ≡ true → option_copied text.entry ≡ option_copied other.entry }
+{
+    match (text, other) {
+        (None, None) => true,
+        (Some(text), Some(other)) => text == other,
+        (None, Some(_)) | (Some(_), None) => false,
     }
 }
 

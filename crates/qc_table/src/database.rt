@@ -107,9 +107,10 @@ impl Database {
 
     /// Makes of it what the operations make, the first of them first, or names the first table that would have too many rows; it is as before then, and also
     /// where memory runs out. One operation alone is carried out in place where no other one shares the database: it costs the logarithm of how many databases
-    /// and tables there are, and what the table holds that it touches; but only what the row holds, over many calls, where a row is put whose key stands above
-    /// all others of a version of the table that is shared with no one. Else it costs as much as `apply`, which copies each table that is touched. The copy
-    /// is shared with no one, so what comes next changes it in place.
+    /// and tables there are, and what the table holds that it touches. Where no other one shares the version of that table, a row costs less: what it holds,
+    /// over many calls, where its key stands above all others, and beside it the logarithm of how many rows there are where it replaces one and no VARCHAR
+    /// changes. Else it costs as much as `apply`, which copies each table that is touched. The copy is shared with no one, so what comes next changes it in
+    /// place.
     pub fn change(&mut self, alloc: Global, ops: &Ops) -> Result<(), Or<TableFull>>
         requires { ops_fit ops.now self.old ≡ true }
         ensures made { Gives (λ _. self.new) (λ full. full.table) result (fitting (apply ops.now self.old)) }

@@ -134,12 +134,16 @@ impl TableVersion {
     }
 
     /// Puts a copy of the row, in the place of the one that its key may have. Answers `false`, and leaves all as it was, where there would be too many rows.
-    /// Costs what the row holds over many calls where it comes behind the others and no other one shares the version, and else what all rows hold.
+    /// Where no other one shares the version, it costs what the row holds over many calls where it comes behind the others, and the logarithm of how many there
+    /// are beside where it replaces one of the same texts; else what all rows hold.
     fn put(&mut self, alloc: Global, row: &StoredRow) -> Result<bool, NoMemory>
         requires { row_fits self.old.columns row.now ≡ true }
         ensures { IsChanged (with_row row.now self.old) self.old result self.new }
     {
         if self.append(row)? {
+            return Ok(true);
+        }
+        if self.replace(row) {
             return Ok(true);
         }
         let mut draft = DraftTable::of(alloc, self)?;

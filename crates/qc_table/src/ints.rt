@@ -1,10 +1,10 @@
 //! BIGINT columns as they are stored.
 
-ghost use Rattle.std.specs.Prelude.{◌≡◌, ◌<◌, [], ◌∷◌, ◌++◌, length, IsOk, OnOk};
+ghost use Rattle.std.specs.Prelude.{◌≡◌, ◌<◌, [], ◌∷◌, ◌++◌, length, slice_set, IsOk, OnOk};
 ghost use Rattle.qc_table.specs.Columns.{ints_of, HasIntRoom, IsInts};
 ghost use Rattle.qc_table.specs.Views.{int_value, value_at};
 
-use crate::nulls::{has_bit, push_bit};
+use crate::nulls::{has_bit, push_bit, put_bit};
 use qc_types::NoMemory;
 use std::alloc::Global;
 
@@ -48,6 +48,17 @@ impl Ints {
         push_bit(&mut self.nulls, self.values.len(), value.is_none())?;
         self.values.push(value.unwrap_or(0))?;
         Ok(())
+    }
+
+    /// Puts a number or NULL in the place of the one at an index. Constant time.
+    pub(crate) fn put(&mut self, row: usize, value: Option<i64>)
+        requires ready { IsInts self.old }
+        requires row { row < length self.old.values.items }
+        ensures ready { IsInts self.new }
+        ensures values { ints_of self.new ≡ slice_set (ints_of self.old) row (int_value value) }
+    {
+        put_bit(&mut self.nulls, row, value.is_none());
+        self.values[row] = value.unwrap_or(0);
     }
 
     /// The number at an index, or `None` where it is NULL.

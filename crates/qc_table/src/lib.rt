@@ -13,6 +13,7 @@ mod merge;
 mod name_map;
 mod nulls;
 mod row_ends;
+mod row_places;
 mod table_rows;
 mod table_version;
 mod texts;

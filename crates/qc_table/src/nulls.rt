@@ -44,6 +44,32 @@ fn set_bit(words: &mut [u64], at: usize)
     words[at / 64] = word + (1 << (at % 64));
 }
 
+/// Clears a bit that is 1, by taking it away.
+fn clear_bit(words: &mut [u64], at: usize)
+    requires there { at / 64 < length words.old }
+    requires set { bit_at words.old at ≡ true }
+    ensures { (i : ℕ) → bit_at words.new i ≡ (if i == at then false else bit_at words.old i) }
+{
+    let word = words[at / 64];
+    words[at / 64] = word - (1 << (at % 64));
+}
+
+/// Puts a bit in the place of the one that stands there.
+pub(crate) fn put_bit(words: &mut Vec<u64>, at: usize, bit: bool)
+    requires { at / 64 < length words.old.items }
+    ensures bits { (i : ℕ) → bit_at words.new.items i ≡ (if i == at then bit else bit_at words.old.items i) }
+    ensures len { length words.new.items ≡ length words.old.items }
+{
+    if has_bit(words, at) == bit {
+        return;
+    }
+    if bit {
+        set_bit(words, at);
+    } else {
+        clear_bit(words, at);
+    }
+}
+
 /// Whether a bit is set.
 pub(crate) fn has_bit(words: &[u64], at: usize) -> bool
     requires { at / 64 < length words.now }

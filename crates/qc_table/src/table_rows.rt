@@ -1,10 +1,10 @@
 //! Tables as they are stored.
 
-ghost use Rattle.std.specs.Prelude.{◌≡◌, ◌-◌, ◌<◌, ◌≤◌, [], ◌∷◌, ◌++◌, length, take, drop, map, option_copied, IfOk, IfSome, OnOk, Some, true};
+ghost use Rattle.std.specs.Prelude.{◌≡◌, ◌-◌, ◌<◌, ◌≤◌, [], ◌∷◌, ◌++◌, length, take, drop, map, option_copied, IfOk, IfSome, Ok, OnOk, Some, true};
 ghost use Rattle.std.specs.Map.{keys_of};
 ghost use Rattle.std.specs.Vec.{vec_capacity, vec_len};
 ghost use Rattle.qc_sql.specs.declared.tables.Kind.TheVariants as kind;
-ghost use Rattle.qc_sql.specs.Database.{key_value, is_int, with_row};
+ghost use Rattle.qc_sql.specs.Database.{key_value, is_int, most_rows, with_row};
 ghost use Rattle.qc_model.specs.Licence.{columns_fit, row_fits};
 ghost use Rattle.qc_model.specs.Sound.{IsSoundTable};
 ghost use Rattle.qc_table.specs.Changes.{above, below, is_above};
@@ -15,6 +15,7 @@ ghost use Rattle.qc_table.specs.Views.{int_value, text_value, kind_at, row_at, v
 use crate::cells::Cells;
 use crate::keys::key_of_row;
 use crate::row_ends::{push_row, reserve_row};
+use crate::row_places::{can_put_row, put_row};
 use qc_sql::tables::{Columns, StoredRow};
 use qc_types::NoMemory;
 use std::cmp::Ordering;
@@ -148,6 +149,24 @@ impl TableRows {
         push_row(&mut self.cells, row.items());
         push_key(&mut self.keys, key);
         Ok(true)
+    }
+
+    /// Puts a copy of the row in the place of the one with its key, where it stands. Answers `false`, and leaves all as it was, where there is none, and where
+    /// a VARCHAR would change. Costs the logarithm of how many rows there are, and what the row holds.
+    pub(crate) fn replace(&mut self, row: &StoredRow) -> bool
+        requires fits { row_fits self.old.columns row.now ≡ true }
+        requires within { length self.old.rows ≤ most_rows }
+        ensures { IsChanged (with_row row.now self.old) self.old (Ok result) self.new }
+    {
+        let key = key_of_row(&self.columns, row);
+        let Ok(at) = self.keys.binary_search(&key) else {
+            return false;
+        };
+        if !can_put_row(&self.cells, at, row.items()) {
+            return false;
+        }
+        put_row(&mut self.cells, at, row.items());
+        true
     }
 
     /// The number in a BIGINT column, `None` where it is NULL.

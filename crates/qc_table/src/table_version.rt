@@ -1,6 +1,6 @@
 //! Versions of tables.
 
-ghost use Rattle.std.specs.Prelude.{◌≡◌, true, ◌+◌, ◌<◌, ◌≤◌, length, None, Some, IfOk, MatchOption};
+ghost use Rattle.std.specs.Prelude.{◌≡◌, true, ◌+◌, ◌<◌, ◌≤◌, length, None, Some, Ok, IfOk, MatchOption};
 ghost use Rattle.std.specs.List.{slice_get};
 ghost use Rattle.std.specs.Ordering.{int_cmp};
 ghost use Rattle.std.specs.BTreeMap.{is_at};
@@ -89,6 +89,18 @@ impl TableVersion {
         match Arc::get_mut(&mut self.stored) {
             Some(rows) => rows.append(row),
             None => Ok(false),
+        }
+    }
+
+    /// Puts a copy of the row in the place of the one with its key, where it stands. Answers `false`, and leaves all as it was, where another one shares the
+    /// version, where there is none, and where a VARCHAR would change. Costs the logarithm of how many rows there are, and what the row holds.
+    pub(crate) fn replace(&mut self, row: &StoredRow) -> bool
+        requires { row_fits self.old.columns row.now ≡ true }
+        ensures { IsChanged (with_row row.now self.old) self.old (Ok result) self.new }
+    {
+        match Arc::get_mut(&mut self.stored) {
+            Some(rows) => rows.replace(row),
+            None => false,
         }
     }
 

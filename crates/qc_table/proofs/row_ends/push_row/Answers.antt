@@ -1,8 +1,8 @@
 -- One more column has its value.
-use Rattle.std.proofs.Common.{◌≡◌, ◌<◌, ◌≤◌, arith, get_or, length, sym, subst, ap, ◌∙◌, true}
+use Rattle.std.proofs.Common.{◌<◌, arith, length, sym, subst, ◌∙◌}
 use Rattle.std.proofs.lemmas.List.{get_or_default}
 use Rattle.qc_types.specs.declared.names.Value.TheVariants as value
-use Rattle.qc_table.specs.Stored.{and_one, is_ints, takes, HasRoom, IsMade}
+use Rattle.qc_table.specs.Stored.{and_one, HasRoom, IsMade}
 use Rattle.std.specs.Prelude.{Some}
 use Rattle.qc_table.specs.Views.{value_at}
 use Rattle.qc_table.proofs.Appending.{all_made, found, none_made, one_made}

@@ -1,5 +1,5 @@
 -- One more column has room, and all have their values.
-use Rattle.std.proofs.Common.{◌≡◌, ◌<◌, ◌≤◌, arith, get_or, length, sym, subst, ◌∙◌}
+use Rattle.std.proofs.Common.{◌<◌, arith, length, sym, subst, ◌∙◌}
 use Rattle.std.proofs.lemmas.List.{get_or_default}
 use Rattle.qc_types.specs.declared.names.Value.TheVariants as value
 use Rattle.qc_table.specs.Stored.{HasRoom}

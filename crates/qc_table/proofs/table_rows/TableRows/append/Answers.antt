@@ -1,13 +1,11 @@
 -- The columns get room first, and then the row.
-use Rattle.std.proofs.Common.{◌≡◌, List, subst, ◌+◌, ◌<◌, ◌++◌, ◌∷◌, [], ◌∙◌, ap, arith, length, rules, sym, w64, FitsSigned, true}
+use Rattle.std.proofs.Common.{◌≡◌, List, subst, ◌<◌, ◌∙◌, ap, arith, length, rules, sym, w64, FitsSigned}
 use Rattle.std.proofs.lemmas.Int.{to_z-of_z}
 use Rattle.qc_sql.specs.Database.{key_of, most_rows, with_row}
-use Rattle.qc_model.specs.Licence.{row_fits}
 use Rattle.qc_types.specs.declared.names.Value.{Value}
-use Rattle.qc_table.specs.Changes.{is_above}
 use Rattle.qc_table.specs.Stored.{and_one, AreMade, TakeRow}
 use Rattle.qc_table.specs.Views.{value_at}
-use Rattle.qc_table.proofs.Appending.{appended, row_taken, same_stored, same_taken, stored, unchanged}
+use Rattle.qc_table.proofs.Appending.{appended, row_taken, same_stored, same_taken, unchanged}
 use Rattle.qc_table.proofs.table_rows.TableRows.append.Goals as goal
 
 pub reserve_row-requires : goal.reserve_row-requires

@@ -1,5 +1,4 @@
 -- What is written through the shared value is the version.
-use Rattle.std.proofs.Common.{◌≡◌}
 use Rattle.qc_table.specs.Tables.{IsStored}
 use Rattle.qc_table.proofs.Appending.{put_stored}
 use Rattle.qc_table.proofs.table_version.TableVersion.append.Goals as goal
