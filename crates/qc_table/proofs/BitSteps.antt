@@ -1,5 +1,5 @@
 -- A bit that is added where it is 0.
-use Rattle.std.proofs.Common.{◌≡◌, ℕ, ◌+◌, ◌*◌, ◌/◌, ◌%◌, ◌<◌, ◌^◌, true, false, List, [], ◌∷◌, ◌++◌, length, get_or, set, zero, suc, refl, ap, arith, nat_eq, ◌≢◌, get_or-set_same, get_or-set_other}
+use Rattle.std.proofs.Common.{◌≡◌, ℕ, ◌+◌, ◌-◌, ◌*◌, ◌/◌, ◌%◌, ◌<◌, ◌≤◌, ◌^◌, Bool, true, false, List, [], ◌∷◌, ◌++◌, length, get_or, set, zero, suc, refl, sym, ap, ◌∙◌, arith, nat_eq, ◌≢◌, get_or-set_same, get_or-set_other}
 use Rattle.std.specs.Prelude.{◌==◌, if◌then◌else◌}
 use Rattle.std.proofs.Math.Nat.{pow-succ', div-div-eq-div-mul}
 use Rattle.std.proofs.lemmas.Bool.Decides.{nat_tests}
@@ -93,6 +93,66 @@ bit_set ws at w there is clear i =
       | false ↦ λ p.
           let apart : i / 64 ≢ at / 64 = grind (arith, nat_tests) in
           rw (get_or-set_other ws (at / 64) (i / 64) (w + 2 ^ (at % 64)) 0 apart, other_place i at apart) refl
+    ] refl
+
+-- ---- a bit that is taken away where it is 1
+
+odd : (w : ℕ) → (w % 2 == 1) ≡ true → w % 2 ≡ 1
+odd w h = grind (arith, nat_tests)
+
+-- a bit that is 1 is part of the word
+pub bit_part : (k w : ℕ) → bit_of w k ≡ true → 2 ^ k ≤ w
+bit_part zero w one = let o = odd w one in omega (arith, o)
+bit_part (suc k) w one =
+    let p : 2 ^ suc k ≡ 2 * 2 ^ k = pow-succ' 2 k in
+    let half = bit_part k (w / 2) one in
+    omega (arith, p, half)
+
+-- and is 0 in the difference
+none_left : (k w : ℕ) → bit_of w k ≡ true → bit_of (w - 2 ^ k) k ≡ false
+none_left zero w one =
+    let o = odd w one in
+    let e : (w - 1) % 2 ≡ 0 = omega (arith, o) in
+    rw e refl
+none_left (suc k) w one =
+    let half = bit_part k (w / 2) one in
+    let same : (w - 2 * 2 ^ k) / 2 ≡ w / 2 - 2 ^ k = omega (arith, half) in
+    rw (pow-succ' 2 k, same) (none_left k (w / 2) one)
+
+-- the difference lacks this bit, and has the others as before
+pub bit_taken : (k w l : ℕ) → bit_of w k ≡ true → bit_of (w - 2 ^ k) l ≡ (if l == k then false else bit_of w l)
+bit_taken k w l one =
+    let part = bit_part k w one in
+    let whole : w - 2 ^ k + 2 ^ k ≡ w = omega (arith, part) in
+    let sum = ap (λ v. bit_of v l) (sym whole) ∙ bit_added k (w - 2 ^ k) l (none_left k w one) in
+    elim (l == k) as (λ b. (l == k) ≡ b → bit_of (w - 2 ^ k) l ≡ (if b then false else bit_of w l)) [
+      | true ↦ λ p.
+          let same : l ≡ k = grind (arith, nat_tests) in
+          rw same (none_left k w one)
+      | false ↦ λ p. sym (sum ∙ ap (λ b. if b then true else bit_of (w - 2 ^ k) l) p)
+    ] refl
+
+-- one bit is cleared, and the others stay
+pub bit_cleared : (ws : List ℕ) (at w : ℕ) → at / 64 < length ws → w ≡ get_or ws (at / 64) 0 → bit_at ws at ≡ true → (i : ℕ) → bit_at (set ws (at / 64) (w - 2 ^ (at % 64))) i ≡ (if i == at then false else bit_at ws i)
+bit_cleared ws at w there is one i =
+    let some : bit_of w (at % 64) ≡ true = rw is one in
+    elim (nat_eq (i / 64) (at / 64)) as (λ b. nat_eq (i / 64) (at / 64) ≡ b → bit_at (set ws (at / 64) (w - 2 ^ (at % 64))) i ≡ (if i == at then false else bit_at ws i)) [
+      | true ↦ λ p.
+          let row : i / 64 ≡ at / 64 = grind (arith, nat_tests) in
+          rw (row, get_or-set_same ws (at / 64) (w - 2 ^ (at % 64)) 0 there, ← is, ← (same_place i at row)) (bit_taken (at % 64) w (i % 64) some)
+      | false ↦ λ p.
+          let apart : i / 64 ≢ at / 64 = grind (arith, nat_tests) in
+          rw (get_or-set_other ws (at / 64) (i / 64) (w - 2 ^ (at % 64)) 0 apart, other_place i at apart) refl
+    ] refl
+
+-- a bit that is as it shall be
+pub bit_same : (ws : List ℕ) (at : ℕ) (bit : Bool) → bit_at ws at ≡ bit → (i : ℕ) → bit_at ws i ≡ (if i == at then bit else bit_at ws i)
+bit_same ws at bit is i =
+    elim (i == at) as (λ b. (i == at) ≡ b → bit_at ws i ≡ (if b then bit else bit_at ws i)) [
+      | true ↦ λ p.
+          let same : i ≡ at = grind (arith, nat_tests) in
+          ap (bit_at ws) same ∙ is
+      | false ↦ λ p. refl
     ] refl
 
 -- a bit is tested by shifting it to the end

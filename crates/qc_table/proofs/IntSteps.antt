@@ -1,8 +1,8 @@
 -- The numbers of a column, and one more.
-use Rattle.std.proofs.Common.{◌≡◌, ℕ, ◌+◌, ◌<◌, ℤ, pos, Bool, true, false, List, [], ◌∷◌, ◌++◌, map, length, get_or, zero, suc, refl, sym, ap, ◌∙◌, arith, ◌≤◌, ◌⊎◌, inl, inr, nat_lt, Option, Some, None, add-zero}
+use Rattle.std.proofs.Common.{◌≡◌, ℕ, ◌+◌, ◌<◌, ℤ, pos, Bool, true, false, List, [], ◌∷◌, ◌++◌, map, length, get_or, set, zero, suc, refl, sym, ap, ◌∙◌, arith, ◌≤◌, ◌⊎◌, inl, inr, nat_lt, Option, Some, None, add-zero}
 use Rattle.std.specs.Prelude.{◌==◌, if◌then◌else◌, is_none, is_some, not, unwrap_or}
 use Rattle.std.proofs.lemmas.Bool.Decides.{nat_tests}
-use Rattle.std.proofs.lemmas.List.{map-append}
+use Rattle.std.proofs.lemmas.List.{map-append, map-set}
 use Rattle.qc_types.specs.declared.names.Value.{Value}
 use Rattle.qc_types.specs.declared.names.Value.TheVariants as value
 use Rattle.qc_sql.specs.Database.{key_value}
@@ -35,6 +35,32 @@ pushed at i [] n null ws vs agree is =
 pushed at i (m ∷ ns) n null ws vs agree is =
     rw (bit_kept at i null ws vs agree (omega arith)) (ap (λ rest. int_cell (bit_at ws i) m ∷ rest) (pushed at (i + 1) ns n null ws vs agree (omega arith)))
 
+-- ---- one in the place of another
+
+bit_other : (at i : ℕ) (null : Bool) (ws vs : List ℕ) → Agree at null ws vs → (i ≡ at → ⊥) → bit_at vs i ≡ bit_at ws i
+bit_other at i null ws vs agree apart =
+    let other : (i == at) ≡ false = grind (arith, nat_tests) in
+    agree i ∙ rw other refl
+
+behind : (at i : ℕ) (ns : List ℤ) (null : Bool) (ws vs : List ℕ) → Agree at null ws vs → at < i → ints_from i ns vs ≡ ints_from i ns ws
+behind at i [] null ws vs agree low = refl
+behind at i (n ∷ ns) null ws vs agree low =
+    rw (bit_other at i null ws vs agree (λ e. omega (arith, e, low))) (ap (λ rest. int_cell (bit_at ws i) n ∷ rest) (behind at (i + 1) ns null ws vs agree (omega arith)))
+
+pub replaced : (at i r : ℕ) (ns : List ℤ) (n : ℤ) (null : Bool) (ws vs : List ℕ) → Agree at null ws vs → at ≡ i + r → ints_from i (set ns r n) vs ≡ set (ints_from i ns ws) r (int_cell null n)
+replaced at i r [] n null ws vs agree is = refl
+replaced at i zero (m ∷ ns) n null ws vs agree is =
+    let here : i ≡ at = omega arith in
+    rw (here, bit_new at null ws vs agree) (ap (λ rest. int_cell null n ∷ rest) (behind at (at + 1) ns null ws vs agree (omega arith)))
+replaced at i (suc r) (m ∷ ns) n null ws vs agree is =
+    rw (bit_kept at i null ws vs agree (omega arith)) (ap (λ rest. int_cell (bit_at ws i) m ∷ rest) (replaced at (i + 1) r ns n null ws vs agree (omega arith)))
+
+pub packed_kept : (at n : ℕ) (null : Bool) (ws vs : List ℕ) → Agree at null ws vs → length vs ≡ length ws → at < n → IsPacked ws n → IsPacked vs n
+packed_kept at n null ws vs agree same low packed = record {
+  enough = same ∙ packed.enough;
+  rest = λ i high. bit_other at i null ws vs agree (λ e. omega (arith, e, high, low)) ∙ packed.rest i high;
+}
+
 pub cell_is : (o : Option ℤ) → int_cell (is_none o) (unwrap_or o (pos 0)) ≡ int_value o
 cell_is None = refl
 cell_is (Some n) = refl
@@ -45,6 +71,9 @@ number_is (Some n) = refl
 
 pub zero_kept : (vs : List Value) (ns : List ℤ) (o : Option ℤ) → map key_value vs ≡ ns → map key_value (vs ++ int_value o ∷ []) ≡ ns ++ unwrap_or o (pos 0) ∷ []
 zero_kept vs ns o is = map-append key_value vs (int_value o ∷ []) ∙ rw (is, number_is o) refl
+
+pub zero_put : (vs : List Value) (ns : List ℤ) (r : ℕ) (o : Option ℤ) → map key_value vs ≡ ns → map key_value (set vs r (int_value o)) ≡ set ns r (unwrap_or o (pos 0))
+zero_put vs ns r o is = map-set key_value vs r (int_value o) ∙ rw (is, number_is o) refl
 
 pub ints_length : (i : ℕ) (ns : List ℤ) (ws : List ℕ) → length (ints_from i ns ws) ≡ length ns
 ints_length i [] ws = refl

@@ -1,14 +1,17 @@
+pub mod Appending
 pub mod BitSteps
 pub mod Cutting
 pub mod Drafts
 pub mod Fits
 pub mod Found
+pub mod InPlace
 pub mod IntSteps
 pub mod Maps
 pub mod Merges
 pub mod Merging
 pub mod Parts
 pub mod Places
+pub mod Replacing
 pub mod RowKeys
 pub mod Rows
 pub mod Stores

@@ -133,7 +133,7 @@ pub column_ready : (o : Option Kind) (n : ℕ) (c : Cells) → IsColumn o n c �
 column_ready None n c h = absurd h
 column_ready (Some k) n c h = h.0
 
-column_full : (o : Option Kind) (n : ℕ) (c : Cells) → IsColumn o n c → length (values_of c) ≡ n
+pub column_full : (o : Option Kind) (n : ℕ) (c : Cells) → IsColumn o n c → length (values_of c) ≡ n
 column_full None n c h = absurd h
 column_full (Some k) n c h = h.1
 

@@ -1,7 +1,8 @@
 //! Columns as they are stored.
 
-ghost use Rattle.std.specs.Prelude.{◌≡◌, ◌-◌, ◌<◌, ◌≤◌, [], ◌∷◌, ◌++◌, length, take, drop, true, false, option_copied, OnOk};
-ghost use Rattle.qc_table.specs.Stored.{is_ints, takes, values_of, IsCells};
+ghost use Rattle.std.specs.Prelude.{◌≡◌, ◌-◌, ◌<◌, ◌≤◌, [], ◌∷◌, ◌++◌, length, take, drop, true, false, option_copied, IsOk, OnOk, Some};
+ghost use Rattle.qc_table.specs.Columns.{text_length};
+ghost use Rattle.qc_table.specs.Stored.{is_ints, takes, values_of, with_one, CanPut, HasRoom, IsCells, IsMade};
 ghost use Rattle.qc_sql.specs.Database.{is_int};
 ghost use Rattle.qc_table.specs.Views.{int_value, text_value, value_at, IsNulls};
 
@@ -31,13 +32,28 @@ impl Cells {
         }
     }
 
-    /// Puts a value of the column's kind at the end. Linear in its length over many calls.
+    /// Makes room for a value. Linear in its length over many calls.
+    pub(crate) fn reserve(&mut self, value: &Value) -> Result<(), NoMemory>
+        requires ready { IsCells self.old }
+        ensures ready { IsCells self.new }
+        ensures kind { is_ints self.new ≡ is_ints self.old }
+        ensures values { values_of self.new ≡ values_of self.old }
+        ensures room { OnOk result (HasRoom value.now self.new) }
+    {
+        match self {
+            Cells::Ints(ints) => ints.reserve(),
+            Cells::Texts(texts) => texts.reserve(byte_count(value)),
+        }
+    }
+
+    /// Puts a value of the column's kind at the end. Linear in its length over many calls. Can't fail where there is room.
     pub(crate) fn push(&mut self, value: &Value) -> Result<(), NoMemory>
         requires ready { IsCells self.old }
         requires takes { takes (is_ints self.old) value.now ≡ true }
         ensures ready { OnOk result (IsCells self.new) }
         ensures kind { OnOk result (is_ints self.new ≡ is_ints self.old) }
         ensures values { OnOk result (values_of self.new ≡ values_of self.old ++ value.now ∷ []) }
+        ensures succeeds { HasRoom value.now self.old → IsOk result }
     {
         match self {
             Cells::Ints(ints) => ints.push(number(value)),
@@ -79,6 +95,35 @@ impl Cells {
         }
     }
 
+    /// Whether a value of the column's kind can be put in the place of the one at an index: a number and NULL can, a text where it is the same. Linear in
+    /// the length of a text.
+    pub(crate) fn can_put(&self, row: usize, value: &Value) -> bool
+        requires ready { IsCells self.now }
+        requires takes { takes (is_ints self.now) value.now ≡ true }
+        requires row { row < length (values_of self.now) }
+        ensures { result ≡ true → CanPut row value.now self.now }
+    {
+        match self {
+            Cells::Ints(_) => true,
+            Cells::Texts(texts) => is_same(texts.get(row), bytes(value)),
+        }
+    }
+
+    /// Puts a value of the column's kind in the place of the one at an index. Constant time.
+    pub(crate) fn put(&mut self, row: usize, value: &Value)
+        requires ready { IsCells self.old }
+        requires takes { takes (is_ints self.old) value.now ≡ true }
+        requires row { row < length (values_of self.old) }
+        requires fits { CanPut row value.now self.old }
+        ensures { IsMade (with_one row value.now) (Some self.old) self.new }
+    {
+        match self {
+            Cells::Ints(ints) => ints.put(row, number(value)),
+            // It is the same text.
+            Cells::Texts(_) => {}
+        }
+    }
+
     /// The bits that tell which values are NULL.
     pub(crate) fn nulls(&self) -> &[u64]
         requires { IsCells self.now }
@@ -110,5 +155,26 @@ fn bytes(value: &Value) -> Option<&[u8]>
         Value::Null => None,
         Value::Str(text) => Some(text.bytes()),
         Value::Int(_) => unreachable!(),
+    }
+}
+
+/// Whether two texts, or their lack, are the same.
+fn is_same(text: Option<&[u8]>, other: Option<&[u8]>) -> bool
+    ensures { result ≡ true → option_copied text.entry ≡ option_copied other.entry }
+{
+    match (text, other) {
+        (None, None) => true,
+        (Some(text), Some(other)) => text == other,
+        (None, Some(_)) | (Some(_), None) => false,
+    }
+}
+
+/// How many bytes a value has, where it is a text.
+fn byte_count(value: &Value) -> usize
+    ensures { result ≡ text_length value.now }
+{
+    match value {
+        Value::Str(text) => text.bytes().len(),
+        Value::Null | Value::Int(_) => 0,
     }
 }
