@@ -9,3 +9,4 @@ pub mod KeptLaws
 pub mod Spelled
 pub mod Leaves
 pub mod Prunes
+pub mod Strikes
