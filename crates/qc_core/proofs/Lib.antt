@@ -17,3 +17,4 @@ pub mod Reserving
 pub mod Striking
 pub mod Struck
 pub mod Resting
+pub mod Sweeping

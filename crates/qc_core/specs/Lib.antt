@@ -10,3 +10,5 @@ pub mod Spelled
 pub mod Leaves
 pub mod Prunes
 pub mod Strikes
+pub mod Sweeps
+pub mod Statuses

@@ -86,7 +86,7 @@ impl Parts {
 
 impl Server {
     /// The same of what is in the box.
-    fn rest(&mut self, seat: u32)
+    pub(crate) fn rest(&mut self, seat: u32)
         requires may { MayRest seat self.old }
         requires valid { IsDirectory self.old.dir }
         ensures rested { self.new ≡ rested seat self.old }
@@ -103,6 +103,7 @@ pub(crate) fn strike_own(held: &mut Held<'_, Server>)
     ensures stands { MayRelease held.new × SameHolder held.old held.new }
     ensures struck { held.new.value ≡ rested (holder held.old).number held.old.value }
     ensures rests { listed_for (holder held.old).number (tasks_of held.new.value) ≡ [] }
+    ensures connected { held.new.value.connected ≡ held.old.value.connected }
     ensures ranges { held.new.ranges ≡ held.old.ranges }
 {
     let seat = held.number();
