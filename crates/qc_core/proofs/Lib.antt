@@ -14,3 +14,7 @@ pub mod Pruned
 pub mod Pruning
 pub mod Beginning
 pub mod Reserving
+pub mod Striking
+pub mod Struck
+pub mod Resting
+pub mod Sweeping

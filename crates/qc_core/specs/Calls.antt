@@ -14,7 +14,8 @@ use Rattle.qc_dir.specs.declared.entries.Entry.{Entry}
 use Rattle.qc_dir.specs.Directory.{entry_at}
 use Rattle.qc_model.specs.Licence.{IsCommitOn}
 use Rattle.qc_turn.specs.Seats.{Held, holder}
-use Rattle.qc_turn.specs.Tasks.{listed_for}
+use Rattle.qc_turn.specs.Tasks.{listed_for, IsListed}
+use Rattle.qc_turn.specs.declared.task.Task.TheVariants as task
 use Rattle.qc_turn.specs.declared.kept.Kept.{Ghosts}
 use Rattle.qc_sound.specs.parts.Journal.{reserved}
 use Rattle.qc_core.specs.declared.parts.Parts.{Parts}
@@ -28,11 +29,20 @@ pub record IsNext {K : Ghosts Parts Event} (h : Held Parts Event K) (who : Who) 
   pub connected : is_connected (holder h).number h.value ≡ true
   pub free : listed_for (holder h).number (tasks_of h.value) ≡ []
 
--- events that change nothing of the cache
+-- the seat rests: nothing is listed for it, or a stream that it has ended
+abbrev pub Rests : {K : Ghosts Parts Event} → Held Parts Event K → Type 0
+Rests h = IsListed (holder h).number task.Rest [] (listed_for (holder h).number (tasks_of h.value))
+
+-- a command that changed no data, or a conflict
 abbrev pub IsNoted : Parts → How → Type 0
 IsNoted s how.Other = Unit {0}
 IsNoted s (how.Conflict t key by) = IsCommitOn s.journal.events by t
 IsNoted s _ = ⊥
+
+-- runs that change nothing of the cache
+abbrev pub ChangesNothing : Parts → How → Type 0
+ChangesNothing s (how.Status totals) = Unit {0}
+ChangesNothing s h = IsNoted s h
 
 -- there is room for one event beside those that the entries may still have
 abbrev pub HasSpare : Parts → Type 0

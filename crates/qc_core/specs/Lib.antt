@@ -9,3 +9,6 @@ pub mod KeptLaws
 pub mod Spelled
 pub mod Leaves
 pub mod Prunes
+pub mod Strikes
+pub mod Sweeps
+pub mod Statuses

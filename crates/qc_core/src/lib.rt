@@ -14,6 +14,9 @@ mod reserved;
 mod rooms;
 mod seats;
 mod server;
+mod statuses;
+mod strikes;
+mod sweeps;
 
 pub use counted::CountedJournal;
 pub use hits::Hit;
@@ -25,3 +28,4 @@ pub use reserved::ReservedList;
 pub use rooms::reserve;
 pub use seats::{Full, enter, leave};
 pub use server::Server;
+pub use statuses::status;
