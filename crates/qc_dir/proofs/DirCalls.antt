@@ -192,22 +192,23 @@ none_text place texts es stands empty = none es (each_counted (λ e. e.text.firs
         differ : (n : ℕ) → (n ≡ place → ⊥) → (n == place) ≡ false
         differ n e = grind (arith, nat_tests)
 
-pub text_there : (k : Key) (es : List Entry) → ((n : ℕ) → total (λ e. bit (has_serial n e)) es ≤ 1) → 0 < total (λ e. bit (same_key k (text_key e))) es → (e : Entry) × (entry_at k.minor es ≡ Some e) × (text_key e ≡ k)
-text_there k [] once h = absurd (omega (arith, h))
-text_there k (x ∷ xs) once h =
-    elim (has_serial k.minor x) as (λ v. has_serial k.minor x ≡ v → (e : Entry) × (cond v (Some x) (entry_at k.minor xs) ≡ Some e) × (text_key e ≡ k)) [
-      | true ↦ λ p. (x, refl, sym (same_both k (text_key x) (bit_true (same_key k (text_key x)) (omega (arith, h, none xs (omega (arith, rw p at (once k.minor))))))))
-      | false ↦ λ p. text_there k xs (λ n. omega (arith, once n)) (omega (arith, h, other p))
+-- the entry of a key with its serial
+pub entry_of : (f : Entry → Key) (k : Key) (es : List Entry) → ((e : Entry) → (f e).minor ≡ e.serial) → ((n : ℕ) → total (λ e. bit (has_serial n e)) es ≤ 1) → 0 < total (λ e. bit (same_key k (f e))) es → (e : Entry) × (entry_at k.minor es ≡ Some e) × (f e ≡ k)
+entry_of f k [] own once h = absurd (omega (arith, h))
+entry_of f k (x ∷ xs) own once h =
+    elim (has_serial k.minor x) as (λ v. has_serial k.minor x ≡ v → (e : Entry) × (cond v (Some x) (entry_at k.minor xs) ≡ Some e) × (f e ≡ k)) [
+      | true ↦ λ p. (x, refl, sym (same_both k (f x) (bit_true (same_key k (f x)) (omega (arith, h, none xs (omega (arith, rw p at (once k.minor))))))))
+      | false ↦ λ p. entry_of f k xs own (λ n. omega (arith, once n)) (omega (arith, h, rw p at (lower x)))
     ] refl
   where
-    other : has_serial k.minor x ≡ false → bit (same_key k (text_key x)) ≡ 0
-    other p = let test : same_key k (text_key x) ≡ false = grind (arith, nat_tests) in rw test refl
+    lower : (y : Entry) → bit (same_key k (f y)) ≤ bit (has_serial k.minor y)
+    lower y = by (f y) (own y)
+      where
+        by : (j : Key) → j.minor ≡ y.serial → bit (same_key k j) ≤ bit (has_serial k.minor y)
+        by j e = rw (← e) (grind (arith, nat_tests))
 
-    lower : (y : Entry) → bit (same_key k (text_key y)) ≤ bit (has_serial k.minor y)
-    lower y = grind (arith, nat_tests)
-
-    none : (ys : List Entry) → total (λ e. bit (has_serial k.minor e)) ys ≡ 0 → total (λ e. bit (same_key k (text_key e))) ys ≡ 0
-    none ys q = omega (arith, q, total-le (λ e. bit (same_key k (text_key e))) (λ e. bit (has_serial k.minor e)) ys lower)
+    none : (ys : List Entry) → total (λ e. bit (has_serial k.minor e)) ys ≡ 0 → total (λ e. bit (same_key k (f e))) ys ≡ 0
+    none ys q = omega (arith, q, total-le (λ e. bit (same_key k (f e))) (λ e. bit (has_serial k.minor e)) ys lower)
 
 pub text_same : (change : Move) (e : Entry) → e.text.first ≡ change.from → (change.from ≡ change.to → ⊥) → moved_entry change (placed_text change.to e) ≡ moved_entry change e
 text_same change e is other =

@@ -2,7 +2,7 @@
 use Rattle.std.proofs.Common.{◌≡◌, ◌≢◌, ℕ, zero, suc, ◌+◌, ◌<◌, ◌≤◌, Bool, true, false, cond, nat_lt, ◌&&◌, List, [], ◌∷◌, ◌++◌, length, set, get_or, replicate, zero-add, refl, sym, ap, ◌∙◌, subst, inl, inr, Option, Some, None, ◌==◌, arith}
 use Rattle.std.specs.List.{AllByRecursion, slice_get}
 use Rattle.std.specs.Option.{option_to_list}
-use Rattle.std.proofs.lemmas.List.{length-set, length-append, length-replicate, get_or-replicate, get_or-set_same, get_or-set_other, append-nil}
+use Rattle.std.proofs.lemmas.List.{length-set, length-append, length-replicate, get_or-replicate, get_or-set_same, get_or-set_other}
 use Rattle.std.proofs.lemmas.Option.{none-some, same_Some}
 use Rattle.std.proofs.lemmas.Bool.{eq-eqb, ne_eqb, eqb-true, cases_eq, lt-ltb, le-ltb}
 use Rattle.std.proofs.lemmas.Bool.Decides.{nat_tests}
@@ -86,8 +86,8 @@ count-bit i v true ns h = count-one i v ns h
 count-bit i v false ns h = count-none i v ns h
 
 -- over a list, and over the slots that belong to it
-pub listed : {X : Type 0} (home : Option X → ℕ) (u : Option X → ℕ) (slots : List (Option X)) (filed : Linked) (list : ℕ) → IsFiled home slots filed → list < length filed.lists → total (λ n. u (in_slot n slots)) (nodes_of list filed.lists) ≡ total (λ s. cond (home s == list) (u s) 0) slots
-listed home u slots filed list h l =
+pub listed : {X : Type 0} (home : Option X → ℕ) (many : ℕ) (u : Option X → ℕ) (slots : List (Option X)) (filed : Linked) (list : ℕ) → IsFiled home many slots filed → list < many → total (λ n. u (in_slot n slots)) (nodes_of list filed.lists) ≡ total (λ s. cond (home s == list) (u s) 0) slots
+listed home many u slots filed list h l =
     by-place (λ n. u (in_slot n slots)) (length slots) (nodes_of list filed.lists) (h.below list l)
     ∙ (sum-same (length slots) (λ i. total (λ m. cond (m == i) (u (in_slot i slots)) 0) (nodes_of list filed.lists)) (λ i. cond (home (in_slot i slots) == list) (u (in_slot i slots)) 0)
     (λ i k. count-bit i (u (in_slot i slots)) (home (in_slot i slots) == list) (nodes_of list filed.lists) (h.placed list i l k))
@@ -98,10 +98,10 @@ total-alike w v [] h = refl
 total-alike w v (x ∷ xs) h = omega (arith, h x, total-alike w v xs h)
 
 -- where only what belongs to the list counts
-pub listed-all : {X : Type 0} (home : Option X → ℕ) (u : Option X → ℕ) (slots : List (Option X)) (filed : Linked) (list : ℕ) → IsFiled home slots filed → list < length filed.lists → ((s : Option X) → home s ≢ list → u s ≡ 0)
+pub listed-all : {X : Type 0} (home : Option X → ℕ) (many : ℕ) (u : Option X → ℕ) (slots : List (Option X)) (filed : Linked) (list : ℕ) → IsFiled home many slots filed → list < many → ((s : Option X) → home s ≢ list → u s ≡ 0)
     → total (λ n. u (in_slot n slots)) (nodes_of list filed.lists) ≡ total u slots
-listed-all home u slots filed list h l only =
-    listed home u slots filed list h l
+listed-all home many u slots filed list h l only =
+    listed home many u slots filed list h l
     ∙ total-alike (λ s. cond (home s == list) (u s) 0) u slots
     (λ s. elim (cases_eq (home s) list) [ inl same ↦ rw (eq-eqb (home s) list same) refl | inr other ↦ rw (ne_eqb (home s) list other) (sym (only s other)) ])
 
@@ -135,22 +135,24 @@ all-end P [] x true all here = (here, tt)
 all-end P [] x false all here = tt
 all-end P (y ∷ ys) x b all here = (all.0, all-end P ys x b all.1 here)
 
+abbrev pub moved : ℕ → ℕ → Linked → Linked
+moved x l filed = record { lists = moved_last x l filed.lists; nodes = filed.nodes }
+
 -- a slot's content changes, and its number goes where that belongs
-pub filed-moved : {X : Type 0} (home : Option X → ℕ) (slots : List (Option X)) (filed filed' : Linked) (x l : ℕ) (v : Option X) → IsFiled home slots filed → x < length slots → home v ≡ l → filed' ≡ record { lists = moved_last x l filed.lists; nodes = filed.nodes } → IsFiled home (set slots x v) filed'
-filed-moved {X = X} home slots filed filed' x l v h low is e = subst (λ (f : Linked). IsFiled home (set slots x v) f) (sym e) (record {
+pub filed-moved : {X : Type 0} (home : Option X → ℕ) (many : ℕ) (slots : List (Option X)) (filed filed' : Linked) (x l : ℕ) (v : Option X) → IsFiled home many slots filed → x < length slots → home v ≡ l → filed' ≡ moved x l filed → IsFiled home many (set slots x v) filed'
+filed-moved {X = X} home many slots filed filed' x l v h low is e = subst (λ (f : Linked). IsFiled home many (set slots x v) f) (sym e) (record {
   nodes = h.nodes ∙ sym (length-set slots x v);
-  homes = λ s. omega (arith, h.homes s, length-moved x l filed.lists);
-  placed = λ list n k m. let k' : list < length filed.lists = omega (arith, k, length-moved x l filed.lists) in
-      rw (nodes-moved x l list filed.lists k') (total-append (λ y. bit (y == n)) (without x (nodes_of list filed.lists)) (cond (list == l) (x ∷ []) []) ∙ by list n k' (omega (arith, m, length-set slots x v)));
-  below = λ list k. let k' : list < length filed.lists = omega (arith, k, length-moved x l filed.lists) in
-      rw (nodes-moved x l list filed.lists k', length-set slots x v) (all-end (λ n. n < length slots) (without x (nodes_of list filed.lists)) x (list == l) (all-without (λ n. n < length slots) x (nodes_of list filed.lists) (h.below list k')) low);
+  lists = length-moved x l filed.lists ∙ h.lists;
+  homes = h.homes;
+  placed = λ list n k m. rw (nodes-moved x l list filed.lists (omega (arith, k, h.lists))) (total-append (λ y. bit (y == n)) (without x (nodes_of list filed.lists)) (cond (list == l) (x ∷ []) []) ∙ by list n k (omega (arith, m, length-set slots x v)));
+  below = λ list k. rw (nodes-moved x l list filed.lists (omega (arith, k, h.lists)), length-set slots x v) (all-end (λ n. n < length slots) (without x (nodes_of list filed.lists)) x (list == l) (all-without (λ n. n < length slots) x (nodes_of list filed.lists) (h.below list k)) low);
 })
   where
     never : (b : Bool) → ◌≡◌ {A = ℕ} (cond b 0 0) 0
     never true = refl
     never false = refl
 
-    by : (list n : ℕ) → list < length filed.lists → n < length slots → count n (without x (nodes_of list filed.lists)) + count n (cond (list == l) (x ∷ []) []) ≡ bit (home (in_slot n (set slots x v)) == list)
+    by : (list n : ℕ) → list < many → n < length slots → count n (without x (nodes_of list filed.lists)) + count n (cond (list == l) (x ∷ []) []) ≡ bit (home (in_slot n (set slots x v)) == list)
     by list n k m =
         elim (cases_eq n x) [
           | inl same ↦ rw (same, in-set slots x v low, is, count-without x (nodes_of list filed.lists), count-end x x list l, eq-eqb x x refl) (zero-add (bit (l == list)))
@@ -158,9 +160,10 @@ filed-moved {X = X} home slots filed filed' x l v h low is e = subst (λ (f : Li
         ]
 
 -- it changes, and belongs where it did
-pub filed-still : {X : Type 0} (home : Option X → ℕ) (slots : List (Option X)) (filed : Linked) (x : ℕ) (v : Option X) → IsFiled home slots filed → x < length slots → home v ≡ home (in_slot x slots) → IsFiled home (set slots x v) filed
-filed-still home slots filed x v h low is = record {
+pub filed-still : {X : Type 0} (home : Option X → ℕ) (many : ℕ) (slots : List (Option X)) (filed : Linked) (x : ℕ) (v : Option X) → IsFiled home many slots filed → x < length slots → home v ≡ home (in_slot x slots) → IsFiled home many (set slots x v) filed
+filed-still home many slots filed x v h low is = record {
   nodes = h.nodes ∙ sym (length-set slots x v);
+  lists = h.lists;
   homes = h.homes;
   placed = λ list n k m. h.placed list n k (omega (arith, m, length-set slots x v)) ∙ ap (λ j. bit (j == list)) (sym (same n));
   below = λ list k. rw (length-set slots x v) (h.below list k);
@@ -175,48 +178,35 @@ filed-still home slots filed x v h low is = record {
 
 -- ---- free slots
 
+never : (b : Bool) → bit (b && false) ≡ 0
+never true = refl
+never false = refl
+
 none_in : (l n : ℕ) → nodes_of l (replicate n []) ≡ []
 none_in l zero = refl
 none_in zero (suc n) = refl
 none_in (suc l) (suc n) = none_in l n
 
-pub freeing-none : (mask slots : ℕ) (filed : Linked) → filed ≡ record { lists = replicate (mask + 2) []; nodes = slots } → IsFreeing mask slots 0 filed
-freeing-none mask slots filed e = subst (λ (f : Linked). IsFreeing mask slots 0 f) (sym e) (record {
+pub freeing-none : (many slots : ℕ) (filed : Linked) → filed ≡ record { lists = replicate many []; nodes = slots } → IsFreeing many slots 0 filed
+freeing-none many slots filed e = subst (λ (f : Linked). IsFreeing many slots 0 f) (sym e) (record {
   nodes = refl;
-  many = length-replicate (mask + 2) [];
-  all = ap length (empty 0);
-  placed = λ list n k. rw (empty list, le-ltb n 0 (omega arith)) (sym (never (list == 0)));
-  below = λ list k. rw (empty list) tt;
+  lists = length-replicate many [];
+  all = ap length (none_in 0 many);
+  placed = λ list n k. rw (none_in list many, le-ltb n 0 (omega arith)) (sym (never (list == 0)));
+  below = λ list k. rw (none_in list many) tt;
 })
-  where
-    empty : (list : ℕ) → nodes_of list (replicate (mask + 2) []) ≡ []
-    empty list = none_in list (mask + 2)
 
-    never : (b : Bool) → bit (b && false) ≡ 0
-    never true = refl
-    never false = refl
-
-pub freeing-more : (mask slots done : ℕ) (filed filed' : Linked) → IsFreeing mask slots done filed → done < slots → filed' ≡ record { lists = moved_last done 0 filed.lists; nodes = filed.nodes } → IsFreeing mask slots (done + 1) filed'
-freeing-more mask slots done filed filed' h low e = subst (λ (f : Linked). IsFreeing mask slots (done + 1) f) (sym e) (record {
+pub freeing-more : (many slots done : ℕ) (filed filed' : Linked) → IsFreeing many slots done filed → 0 < many → done < slots → filed' ≡ moved done 0 filed → IsFreeing many slots (done + 1) filed'
+freeing-more many slots done filed filed' h some low e = subst (λ (f : Linked). IsFreeing many slots (done + 1) f) (sym e) (record {
   nodes = h.nodes;
-  many = length-moved done 0 filed.lists ∙ h.many;
-  all = let some : 0 < length filed.lists = omega (arith, h.many) in
-      let last : bit ((0 == 0) && nat_lt done done) ≡ 0 = rw (le-ltb done done (omega arith)) (none 0) in
-      rw (nodes-moved done 0 0 filed.lists some) (omega (arith, length-append (without done (nodes_of 0 filed.lists)) (done ∷ []), length-without done (nodes_of 0 filed.lists), h.all, h.placed 0 done some, last));
-  placed = λ list n k. let k' : list < length filed.lists = omega (arith, k, length-moved done 0 filed.lists) in
-      rw (nodes-moved done 0 list filed.lists k') (total-append (λ y. bit (y == n)) (without done (nodes_of list filed.lists)) (cond (list == 0) (done ∷ []) []) ∙ by list n k');
-  below = λ list k. let k' : list < length filed.lists = omega (arith, k, length-moved done 0 filed.lists) in
-      rw (nodes-moved done 0 list filed.lists k') (all-end (λ n. n < slots) (without done (nodes_of list filed.lists)) done (list == 0) (all-without (λ n. n < slots) done (nodes_of list filed.lists) (h.below list k')) low);
+  lists = length-moved done 0 filed.lists ∙ h.lists;
+  all = let last : bit ((0 == 0) && nat_lt done done) ≡ 0 = rw (le-ltb done done (omega arith)) (never (0 == 0)) in
+      rw (nodes-moved done 0 0 filed.lists (omega (arith, some, h.lists))) (omega (arith, length-append (without done (nodes_of 0 filed.lists)) (done ∷ []), length-without done (nodes_of 0 filed.lists), h.all, h.placed 0 done some, last));
+  placed = λ list n k. rw (nodes-moved done 0 list filed.lists (omega (arith, k, h.lists))) (total-append (λ y. bit (y == n)) (without done (nodes_of list filed.lists)) (cond (list == 0) (done ∷ []) []) ∙ by list n k);
+  below = λ list k. rw (nodes-moved done 0 list filed.lists (omega (arith, k, h.lists))) (all-end (λ n. n < slots) (without done (nodes_of list filed.lists)) done (list == 0) (all-without (λ n. n < slots) done (nodes_of list filed.lists) (h.below list k)) low);
 })
   where
-    none : (list : ℕ) → bit ((list == 0) && false) ≡ 0
-    none list = never (list == 0)
-      where
-        never : (b : Bool) → bit (b && false) ≡ 0
-        never true = refl
-        never false = refl
-
-    by : (list n : ℕ) → list < length filed.lists → count n (without done (nodes_of list filed.lists)) + count n (cond (list == 0) (done ∷ []) []) ≡ bit (list == 0 && nat_lt n (done + 1))
+    by : (list n : ℕ) → list < many → count n (without done (nodes_of list filed.lists)) + count n (cond (list == 0) (done ∷ []) []) ≡ bit (list == 0 && nat_lt n (done + 1))
     by list n k =
         elim (cases_eq n done) [
           | inl same ↦ rw (same, count-without done (nodes_of list filed.lists), lt-ltb done (done + 1) (omega arith)) (last (list == 0))
@@ -231,18 +221,15 @@ freeing-more mask slots done filed filed' h low e = subst (λ (f : Linked). IsFr
         missing other true = let no : bit (done == n) ≡ 0 = grind (arith, nat_tests) in omega (arith, no)
         missing other false = refl
 
-pub free-filed : {X : Type 0} (home : Option X → ℕ) (mask slots : ℕ) (filed : Linked) → AreFree mask slots filed → home None ≡ 0 → ((s : Option X) → home s < mask + 2) → IsFiled home (replicate slots None) filed
-free-filed {X = X} home mask slots filed free none low = record {
+pub free-filed : {X : Type 0} (home : Option X → ℕ) (many slots : ℕ) (filed : Linked) → AreFree many slots filed → home None ≡ 0 → ((s : Option X) → home s < many) → IsFiled home many (replicate slots None) filed
+free-filed {X = X} home many slots filed free none low = record {
   nodes = free.nodes ∙ sym (length-replicate {A = Option X} slots None);
-  homes = λ s. omega (arith, low s, free.many);
+  lists = free.lists;
+  homes = low;
   placed = λ list n k m. let m' : n < slots = omega (arith, m, length-replicate {A = Option X} slots None) in free.placed list n k ∙ (rw (get_or-replicate {A = Option X} slots n None None m', none, lt-ltb n slots m') (turn list));
   below = λ list k. rw (length-replicate {A = Option X} slots None) (free.below list k);
 }
   where
-    both : (b : Bool) → bit (b && true) ≡ bit b
-    both true = refl
-    both false = refl
-
     turn : (list : ℕ) → bit ((list == 0) && true) ≡ bit (0 == list)
     turn list =
         elim (cases_eq list 0) [
@@ -255,33 +242,28 @@ contents-free zero = refl
 contents-free (suc n) = contents-free n
 
 -- the first free slot is empty
-pub first-free : {X : Type 0} (home : Option X → ℕ) (slots : List (Option X)) (filed : Linked) (x : ℕ) → IsFiled home slots filed → x < length slots → slice_get (nodes_of 0 filed.lists) 0 ≡ Some x → (home (in_slot x slots) ≡ 0) × (count x (nodes_of 0 filed.lists) ≡ 1)
-first-free home slots filed x h low is =
-    let some : 0 < length filed.lists = omega (arith, h.homes (in_slot x slots)) in
-    by (home (in_slot x slots) == 0) refl (h.placed 0 x some low) (stands (nodes_of 0 filed.lists) is)
+pub first-free : {X : Type 0} (home : Option X → ℕ) (many : ℕ) (slots : List (Option X)) (filed : Linked) (x : ℕ) → IsFiled home many slots filed → x < length slots → slice_get (nodes_of 0 filed.lists) 0 ≡ Some x → home (in_slot x slots) ≡ 0
+first-free home many slots filed x h low is = by (home (in_slot x slots) == 0) refl (h.placed 0 x (omega (arith, h.homes (in_slot x slots))) low) (stands (nodes_of 0 filed.lists) is)
   where
     stands : (ns : List ℕ) → slice_get ns 0 ≡ Some x → 0 < count x ns
     stands [] e = absurd (none-some x e)
     stands (n ∷ ns) e = let one : bit (n == x) ≡ 1 = rw (eq-eqb n x (same_Some n x e)) refl in omega (arith, one)
 
-    by : (b : Bool) → (home (in_slot x slots) == 0) ≡ b → count x (nodes_of 0 filed.lists) ≡ bit b → 0 < count x (nodes_of 0 filed.lists) → (home (in_slot x slots) ≡ 0) × (count x (nodes_of 0 filed.lists) ≡ 1)
-    by true e q p = (eqb-true (home (in_slot x slots)) 0 e, q)
+    by : (b : Bool) → (home (in_slot x slots) == 0) ≡ b → count x (nodes_of 0 filed.lists) ≡ bit b → 0 < count x (nodes_of 0 filed.lists) → home (in_slot x slots) ≡ 0
+    by true e q p = eqb-true (home (in_slot x slots)) 0 e
     by false e q p = absurd (omega (arith, q, p))
 
-pub room-taken : (x l : ℕ) (filed filed' : Linked) → 0 < length filed.lists → count x (nodes_of 0 filed.lists) ≡ 1 → l ≢ 0 → filed' ≡ record { lists = moved_last x l filed.lists; nodes = filed.nodes } → length (nodes_of 0 filed'.lists) + 1 ≡ length (nodes_of 0 filed.lists)
-room-taken x l filed filed' some one away e =
-    rw (e, nodes-moved x l 0 filed.lists some, ne_eqb 0 l (λ q. away (sym q)))
-    (omega (arith, length-without x (nodes_of 0 filed.lists), one, ap (λ (ns : List ℕ). length ns) (append-nil (without x (nodes_of 0 filed.lists)))))
-
-pub room-freed : (x : ℕ) (filed filed' : Linked) → 0 < length filed.lists → count x (nodes_of 0 filed.lists) ≡ 0 → filed' ≡ record { lists = moved_last x 0 filed.lists; nodes = filed.nodes } → length (nodes_of 0 filed'.lists) ≡ length (nodes_of 0 filed.lists) + 1
-room-freed x filed filed' some none e =
-    rw (e, nodes-moved x 0 0 filed.lists some)
-    (omega (arith, length-without x (nodes_of 0 filed.lists), none, length-append (without x (nodes_of 0 filed.lists)) (x ∷ [])))
-
-pub room-kept : (x l : ℕ) (filed filed' : Linked) → 0 < length filed.lists → count x (nodes_of 0 filed.lists) ≡ 0 → l ≢ 0 → filed' ≡ record { lists = moved_last x l filed.lists; nodes = filed.nodes } → length (nodes_of 0 filed'.lists) ≡ length (nodes_of 0 filed.lists)
-room-kept x l filed filed' some none away e =
-    rw (e, nodes-moved x l 0 filed.lists some, ne_eqb 0 l (λ q. away (sym q)))
-    (omega (arith, length-without x (nodes_of 0 filed.lists), none, ap (λ (ns : List ℕ). length ns) (append-nil (without x (nodes_of 0 filed.lists)))))
+-- how many are free where a slot goes to another list
+pub room-moved : {X : Type 0} (home : Option X → ℕ) (many : ℕ) (slots : List (Option X)) (filed filed' : Linked) (x l : ℕ) → IsFiled home many slots filed → x < length slots → filed' ≡ moved x l filed
+    → length (nodes_of 0 filed'.lists) + bit (home (in_slot x slots) == 0) ≡ length (nodes_of 0 filed.lists) + bit (0 == l)
+room-moved home many slots filed filed' x l h low e =
+    let some : 0 < many = omega (arith, h.homes (in_slot x slots)) in
+    rw (e, nodes-moved x l 0 filed.lists (omega (arith, some, h.lists)))
+    (omega (arith, length-append (without x (nodes_of 0 filed.lists)) (cond (0 == l) (x ∷ []) []), length-without x (nodes_of 0 filed.lists), h.placed 0 x some low, one (0 == l)))
+  where
+    one : (b : Bool) → length (cond b (x ∷ []) []) ≡ bit b
+    one true = refl
+    one false = refl
 
 pub first-there : (ns : List ℕ) → 0 < length ns → (x : ℕ) × (slice_get ns 0 ≡ Some x)
 first-there [] h = absurd (omega (arith, h))

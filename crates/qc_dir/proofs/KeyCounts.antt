@@ -1,5 +1,5 @@
 -- How often keys stand in a set, and what its lists say of that.
-use Rattle.std.proofs.Common.{◌≡◌, ◌≢◌, ℕ, ◌+◌, ◌*◌, ◌/◌, ◌%◌, ◌^◌, ◌<◌, true, false, cond, nat_lt, List, [], ◌∷◌, ◌++◌, length, set, refl, sym, ap, ◌∙◌, Option, Some, None, ◌==◌, arith}
+use Rattle.std.proofs.Common.{◌≡◌, ◌≢◌, ℕ, ◌+◌, ◌*◌, ◌/◌, ◌%◌, ◌^◌, ◌<◌, true, false, cond, List, [], ◌∷◌, ◌++◌, length, set, refl, sym, ap, ◌∙◌, Option, Some, None, ◌==◌, arith}
 use Rattle.std.specs.List.{AllByRecursion, slice_get}
 use Rattle.std.specs.Option.{is_some, option_to_list, MatchOption}
 use Rattle.std.proofs.lemmas.Bool.{eq-eqb, ne_eqb}
@@ -7,11 +7,11 @@ use Rattle.std.proofs.lemmas.Bool.Decides.{nat_tests}
 use Rattle.std.proofs.lemmas.Nat.{and_le_r}
 use Rattle.qc_index.specs.declared.keys.Key.{Key}
 use Rattle.qc_index.specs.Counts.{count}
-use Rattle.qc_index.specs.Linked.{Linked, nodes_of, moved_last}
-use Rattle.qc_index.proofs.Counting.{total-append, total-set, length-moved}
+use Rattle.qc_index.specs.Linked.{Linked, nodes_of}
+use Rattle.qc_index.proofs.Counting.{total-append, total-set}
 use Rattle.qc_dir.specs.Filed.{in_slot, contents, IsFiled}
 use Rattle.qc_dir.specs.Keys.{total, bit, times, same_key, bucket_of, pair_of, major_home, pair_home, is_key, minor_under, minors_under, IsKeySet, IsAnyUnder}
-use Rattle.qc_dir.proofs.FiledSteps.{listed-all, none-counts, filed-moved, first-free, room-taken, room-freed}
+use Rattle.qc_dir.proofs.FiledSteps.{moved, listed-all, none-counts, filed-moved, first-free, room-moved}
 
 pub same_both : (a b : Key) → same_key a b ≡ true → a ≡ b
 same_both a b h =
@@ -58,10 +58,10 @@ times-set k slots x v low = omega (arith, times-contents k (set slots x v), time
 -- ---- finding
 
 -- no slot of a key's list has it
-pub none-found : (k : Key) (slots : List (Option Key)) (filed : Linked) (mask : ℕ) → IsFiled (pair_home mask) slots filed → AllByRecursion (λ n. is_key k (in_slot n slots) ≡ false) (nodes_of (bucket_of mask (pair_of k)) filed.lists) → times k (contents slots) ≡ 0
+pub none-found : (k : Key) (slots : List (Option Key)) (filed : Linked) (mask : ℕ) → IsFiled (pair_home mask) (mask + 2) slots filed → AllByRecursion (λ n. is_key k (in_slot n slots) ≡ false) (nodes_of (bucket_of mask (pair_of k)) filed.lists) → times k (contents slots) ≡ 0
 none-found k slots filed mask h all =
     times-contents k slots
-    ∙ (sym (listed-all (pair_home mask) (λ s. bit (is_key k s)) slots filed (bucket_of mask (pair_of k)) h (h.homes (Some k)) only)
+    ∙ (sym (listed-all (pair_home mask) (mask + 2) (λ s. bit (is_key k s)) slots filed (bucket_of mask (pair_of k)) h (h.homes (Some k)) only)
     ∙ none-counts (is_key k) slots (nodes_of (bucket_of mask (pair_of k)) filed.lists) all)
   where
     only : (s : Option Key) → pair_home mask s ≢ bucket_of mask (pair_of k) → bit (is_key k s) ≡ 0
@@ -93,10 +93,10 @@ total-minors major n slots [] = refl
 total-minors major n slots (m ∷ ms) = omega (arith, total-append (λ y. bit (y == n)) (minor_under major (in_slot m slots)) (minors_under major slots ms), one-minor major n (in_slot m slots), total-minors major n slots ms)
 
 -- the second numbers that a walk gives
-pub minors-are : (major n : ℕ) (slots : List (Option Key)) (filed : Linked) (mask : ℕ) → IsFiled (major_home mask) slots filed → count n (minors_under major slots (nodes_of (bucket_of mask major) filed.lists)) ≡ times (numbered_key major n) (contents slots)
+pub minors-are : (major n : ℕ) (slots : List (Option Key)) (filed : Linked) (mask : ℕ) → IsFiled (major_home mask) (mask + 2) slots filed → count n (minors_under major slots (nodes_of (bucket_of mask major) filed.lists)) ≡ times (numbered_key major n) (contents slots)
 minors-are major n slots filed mask h =
     total-minors major n slots (nodes_of (bucket_of mask major) filed.lists)
-    ∙ (listed-all (major_home mask) (λ s. bit (is_key (numbered_key major n) s)) slots filed (bucket_of mask major) h (h.homes (Some (numbered_key major n))) only
+    ∙ (listed-all (major_home mask) (mask + 2) (λ s. bit (is_key (numbered_key major n) s)) slots filed (bucket_of mask major) h (h.homes (Some (numbered_key major n))) only
     ∙ sym (times-contents (numbered_key major n) slots))
   where
     only : (s : Option Key) → major_home mask s ≢ bucket_of mask major → bit (is_key (numbered_key major n) s) ≡ 0
@@ -118,47 +118,39 @@ some-under major n keys minors rest h is =
 
 -- ---- one key more, and one less
 
-abbrev put : ℕ → ℕ → Linked → Linked
-put x l filed = record { lists = moved_last x l filed.lists; nodes = filed.nodes }
-
-length-put : (x l : ℕ) (filed filed' : Linked) → filed' ≡ put x l filed → length filed'.lists ≡ length filed.lists
-length-put x l filed filed' e = ap (λ (f : Linked). length f.lists) e ∙ length-moved x l filed.lists
-
-pub record IsChanged (slots slots' : List (Option Key)) (by_major by_key by_major' by_key' : Linked) (mask more less : ℕ) (k : Key) : Type 0 where
+pub record IsInserted (slots slots' : List (Option Key)) (by_major by_major' by_key' : Linked) (mask : ℕ) (k : Key) : Type 0 where
   pub kept : IsKeySet slots' by_major' by_key' mask
-  pub keys : (j : Key) → times j (contents slots') + cond (nat_lt 0 less) (bit (same_key j k)) 0 ≡ times j (contents slots) + cond (nat_lt 0 more) (bit (same_key j k)) 0
-  pub room : length (nodes_of 0 by_major'.lists) + more ≡ length (nodes_of 0 by_major.lists) + less
+  pub keys : (j : Key) → times j (contents slots') ≡ times j (contents slots) + bit (same_key j k)
+  pub room : length (nodes_of 0 by_major'.lists) + 1 ≡ length (nodes_of 0 by_major.lists)
 
 pub inserted : (slots : List (Option Key)) (by_major by_key by_major' by_key' : Linked) (mask x : ℕ) (k : Key) → IsKeySet slots by_major by_key mask → x < length slots → slice_get (nodes_of 0 by_major.lists) 0 ≡ Some x
-    → by_major' ≡ put x (bucket_of mask k.major) by_major → by_key' ≡ put x (bucket_of mask (pair_of k)) by_key → IsChanged slots (set slots x (Some k)) by_major by_key by_major' by_key' mask 1 0 k
+    → by_major' ≡ moved x (bucket_of mask k.major) by_major → by_key' ≡ moved x (bucket_of mask (pair_of k)) by_key → IsInserted slots (set slots x (Some k)) by_major by_major' by_key' mask k
 inserted slots by_major by_key by_major' by_key' mask x k h low first one two = record {
   kept = record {
-    by_major = filed-moved (major_home mask) slots by_major by_major' x (bucket_of mask k.major) (Some k) h.by_major low refl one;
-    majors = length-put x (bucket_of mask k.major) by_major by_major' one ∙ h.majors;
-    by_key = filed-moved (pair_home mask) slots by_key by_key' x (bucket_of mask (pair_of k)) (Some k) h.by_key low refl two;
-    pairs = length-put x (bucket_of mask (pair_of k)) by_key by_key' two ∙ h.pairs;
+    by_major = filed-moved (major_home mask) (mask + 2) slots by_major by_major' x (bucket_of mask k.major) (Some k) h.by_major low refl one;
+    by_key = filed-moved (pair_home mask) (mask + 2) slots by_key by_key' x (bucket_of mask (pair_of k)) (Some k) h.by_key low refl two;
   };
   keys = λ j. omega (arith, times-set j slots x (Some k) low, ap (λ s. bit (is_key j s)) none);
-  room = omega (arith, room-taken x (bucket_of mask k.major) by_major by_major' (omega (arith, h.by_major.homes None)) free.1 (bucket-some mask k.major) one);
+  room = let left = rw (none, ne_eqb 0 (bucket_of mask k.major) (λ e. bucket-some mask k.major (sym e))) at (room-moved (major_home mask) (mask + 2) slots by_major by_major' x (bucket_of mask k.major) h.by_major low one) in omega (arith, left);
 }
   where
-    free : (major_home mask (in_slot x slots) ≡ 0) × (count x (nodes_of 0 by_major.lists) ≡ 1)
-    free = first-free (major_home mask) slots by_major x h.by_major low first
-
     none : in_slot x slots ≡ None
-    none = major-none mask (in_slot x slots) (first-free (major_home mask) slots by_major x h.by_major low first).0
+    none = major-none mask (in_slot x slots) (first-free (major_home mask) (mask + 2) slots by_major x h.by_major low first)
+
+pub record IsRemoved (slots slots' : List (Option Key)) (by_major by_major' by_key' : Linked) (mask : ℕ) (k : Key) : Type 0 where
+  pub kept : IsKeySet slots' by_major' by_key' mask
+  pub keys : (j : Key) → times j (contents slots') + bit (same_key j k) ≡ times j (contents slots)
+  pub room : length (nodes_of 0 by_major'.lists) ≡ length (nodes_of 0 by_major.lists) + 1
 
 pub removed : (slots : List (Option Key)) (by_major by_key by_major' by_key' : Linked) (mask x : ℕ) (k : Key) → IsKeySet slots by_major by_key mask → x < length slots → is_key k (in_slot x slots) ≡ true
-    → by_major' ≡ put x 0 by_major → by_key' ≡ put x 0 by_key → IsChanged slots (set slots x None) by_major by_key by_major' by_key' mask 0 1 k
+    → by_major' ≡ moved x 0 by_major → by_key' ≡ moved x 0 by_key → IsRemoved slots (set slots x None) by_major by_major' by_key' mask k
 removed slots by_major by_key by_major' by_key' mask x k h low is one two = record {
   kept = record {
-    by_major = filed-moved (major_home mask) slots by_major by_major' x 0 None h.by_major low refl one;
-    majors = length-put x 0 by_major by_major' one ∙ h.majors;
-    by_key = filed-moved (pair_home mask) slots by_key by_key' x 0 None h.by_key low refl two;
-    pairs = length-put x 0 by_key by_key' two ∙ h.pairs;
+    by_major = filed-moved (major_home mask) (mask + 2) slots by_major by_major' x 0 None h.by_major low refl one;
+    by_key = filed-moved (pair_home mask) (mask + 2) slots by_key by_key' x 0 None h.by_key low refl two;
   };
   keys = λ j. omega (arith, times-set j slots x None low, ap (λ s. bit (is_key j s)) some);
-  room = omega (arith, room-freed x by_major by_major' (omega (arith, h.by_major.homes None)) (h.by_major.placed 0 x (omega (arith, h.by_major.homes None)) low ∙ rw (some, ne_eqb (bucket_of mask k.major) 0 (bucket-some mask k.major)) refl) one);
+  room = let left = rw (some, ne_eqb (bucket_of mask k.major) 0 (bucket-some mask k.major)) at (room-moved (major_home mask) (mask + 2) slots by_major by_major' x 0 h.by_major low one) in omega (arith, left);
 }
   where
     some : in_slot x slots ≡ Some k

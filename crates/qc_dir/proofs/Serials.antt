@@ -2,41 +2,23 @@
 use Rattle.std.proofs.Common.{◌≡◌, ◌⊎◌, inl, inr, ℕ, ◌<◌, ◌≤◌, min, true, false, cond, nat_lt, List, [], ◌∷◌, refl, sym, ap, subst, Option, Some, None, ◌==◌, arith}
 use Rattle.std.specs.Option.{IsSomeAnd, IfSome, MatchOption}
 use Rattle.std.proofs.lemmas.Bool.{eq-eqb, ne_eqb, ltb-false, le-ltb, cases_eq, cases_lt}
-use Rattle.std.proofs.lemmas.Bool.Decides.{nat_tests}
 use Rattle.qc_index.specs.declared.keys.Key.{Key}
 use Rattle.qc_index.specs.Counts.{count}
 use Rattle.qc_dir.specs.declared.entries.Entry.{Entry}
 use Rattle.qc_dir.specs.Directory.{has_serial, entry_at}
 use Rattle.qc_dir.specs.Keys.{Keys, total, bit, times, same_key, least_from}
 use Rattle.qc_dir.specs.Indexed.{hash_key}
-use Rattle.qc_dir.proofs.KeyCounts.{same_both}
-use Rattle.qc_dir.proofs.EntryTotals.{bit_true, total-le, entry-serial}
+use Rattle.qc_dir.proofs.DirCalls.{entry_of}
+use Rattle.qc_dir.proofs.EntryTotals.{entry-serial}
 use Rattle.qc_dir.proofs.Removals.{key_stands}
 
 abbrev pub hashed : ℕ → ℕ → Key
 hashed h n = record { major = h; minor = n }
 
-hash_there : (k : Key) (es : List Entry) → ((n : ℕ) → total (λ e. bit (has_serial n e)) es ≤ 1) → 0 < total (λ e. bit (same_key k (hash_key e))) es → (e : Entry) × (entry_at k.minor es ≡ Some e) × (hash_key e ≡ k)
-hash_there k [] once h = absurd (omega (arith, h))
-hash_there k (x ∷ xs) once h =
-    elim (has_serial k.minor x) as (λ v. has_serial k.minor x ≡ v → (e : Entry) × (cond v (Some x) (entry_at k.minor xs) ≡ Some e) × (hash_key e ≡ k)) [
-      | true ↦ λ p. (x, refl, sym (same_both k (hash_key x) (bit_true (same_key k (hash_key x)) (omega (arith, h, none xs (omega (arith, rw p at (once k.minor))))))))
-      | false ↦ λ p. hash_there k xs (λ n. omega (arith, once n)) (omega (arith, h, other p))
-    ] refl
-  where
-    other : has_serial k.minor x ≡ false → bit (same_key k (hash_key x)) ≡ 0
-    other p = let test : same_key k (hash_key x) ≡ false = grind (arith, nat_tests) in rw test refl
-
-    lower : (y : Entry) → bit (same_key k (hash_key y)) ≤ bit (has_serial k.minor y)
-    lower y = grind (arith, nat_tests)
-
-    none : (ys : List Entry) → total (λ e. bit (has_serial k.minor e)) ys ≡ 0 → total (λ e. bit (same_key k (hash_key e))) ys ≡ 0
-    none ys q = omega (arith, q, total-le (λ e. bit (same_key k (hash_key e))) (λ e. bit (has_serial k.minor e)) ys lower)
-
 -- a serial that stands under the hash is that of an entry with it
 pub hash_some : (h n : ℕ) (es : List Entry) (hashes : Keys) → ((n : ℕ) → total (λ e. bit (has_serial n e)) es ≤ 1) → ((k : Key) → times k hashes.keys ≡ total (λ e. bit (same_key k (hash_key e))) es) → 0 < times (hashed h n) hashes.keys → IsSomeAnd (entry_at n es) (λ e. e.hash ≡ h)
 hash_some h n es hashes once stands some =
-    let e = hash_there (hashed h n) es once (omega (arith, some, stands (hashed h n))) in
+    let e = entry_of hash_key (hashed h n) es (λ e. refl) once (omega (arith, some, stands (hashed h n))) in
     subst (λ (o : Option Entry). IsSomeAnd o (λ e. e.hash ≡ h)) (sym e.1) (ap (λ (j : Key). j.major) e.2)
 
 -- and an entry with the hash stands under it

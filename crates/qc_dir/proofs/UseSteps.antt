@@ -1,19 +1,19 @@
 -- Entries in slots in the order of use: what the lists say of them, and what a change of one slot makes of both.
-use Rattle.std.proofs.Common.{◌≡◌, ◌≢◌, ℕ, zero, suc, ◌+◌, ◌-◌, ◌<◌, ◌≤◌, ◌^◌, Bool, true, false, cond, not, List, [], ◌∷◌, ◌++◌, length, set, replicate, refl, sym, ap, ◌∙◌, subst, inl, inr, Option, Some, None, ◌==◌, arith}
+use Rattle.std.proofs.Common.{◌≡◌, ◌≢◌, ℕ, zero, suc, ◌+◌, ◌-◌, ◌<◌, ◌≤◌, ◌^◌, Bool, true, false, cond, not, List, [], ◌∷◌, ◌++◌, length, set, get_or, replicate, refl, sym, ap, ◌∙◌, subst, inl, inr, Option, Some, None, ◌==◌, arith}
 use Rattle.std.specs.List.{AllByRecursion, filter, find, slice_get}
 use Rattle.std.specs.Option.{is_some, option_to_list, option_map, IsSome, IsSomeAnd}
-use Rattle.std.proofs.lemmas.List.{length-set, set-get_or, append-nil}
+use Rattle.std.proofs.lemmas.List.{length-set, set-get_or, get_or_read, append-nil}
 use Rattle.std.proofs.lemmas.Option.{none-some}
 use Rattle.std.proofs.lemmas.Bool.{eq-eqb, ne_eqb, eqb-true, cases_eq}
 use Rattle.qc_index.specs.Counts.{count}
-use Rattle.qc_index.specs.Linked.{Linked, nodes_of, without as without_node, moved_last}
-use Rattle.qc_index.proofs.Counting.{total-set, without-none, count-without, nodes-moved, length-moved}
+use Rattle.qc_index.specs.Linked.{Linked, nodes_of, without as without_node}
+use Rattle.qc_index.proofs.Counting.{total-set, without-none, count-without, nodes-moved}
 use Rattle.qc_dir.specs.declared.entries.Entry.{Entry}
-use Rattle.qc_dir.specs.Directory.{has_serial, entry_at, is_idle, oldest_idle, incomplete, without, changed, moved_to_end}
+use Rattle.qc_dir.specs.Directory.{has_serial, entry_at, is_idle, oldest_idle, incomplete, without, changed, moved_to_end, after_touch, after_complete}
 use Rattle.qc_dir.specs.Keys.{total, bit, bucket_of}
 use Rattle.qc_dir.specs.Filed.{in_slot, in_slots, IsFiled, AreFree}
-use Rattle.qc_dir.specs.Uses.{use_home, serial_home, is_entry, is_missing, IsUses}
-use Rattle.qc_dir.proofs.FiledSteps.{weight, total-in_slots, listed, listed-all, none-counts, slot-counts, in-set, in-set_other, filed-moved, room-kept, room-taken, room-freed, first-free, filed-still, free-filed, total-alike}
+use Rattle.qc_dir.specs.Uses.{Used, use_home, serial_home, is_entry, is_missing, IsUses}
+use Rattle.qc_dir.proofs.FiledSteps.{weight, total-in_slots, listed, listed-all, none-counts, slot-counts, in-set, in-set_other, moved, filed-moved, room-moved, first-free, filed-still, free-filed, total-alike}
 use Rattle.qc_dir.proofs.KeyCounts.{bucket-low}
 use Rattle.qc_dir.proofs.EntryTotals.{with, none-counts as none-counted}
 
@@ -22,15 +22,15 @@ used slots order = in_slots slots (nodes_of 1 order.lists)
 
 -- ---- sums over the entries
 
-pub entry-total : (w : Entry → ℕ) (slots : List (Option Entry)) (order : Linked) → IsFiled use_home slots order → 1 < length order.lists → total w (used slots order) ≡ total (weight w) slots
-entry-total w slots order h two = total-in_slots w slots (nodes_of 1 order.lists) ∙ listed-all use_home (weight w) slots order 1 h two only
+pub entry-total : (w : Entry → ℕ) (slots : List (Option Entry)) (order : Linked) → IsFiled use_home 2 slots order → total w (used slots order) ≡ total (weight w) slots
+entry-total w slots order h = total-in_slots w slots (nodes_of 1 order.lists) ∙ listed-all use_home 2 (weight w) slots order 1 h (omega arith) only
   where
     only : (s : Option Entry) → use_home s ≢ 1 → weight w s ≡ 0
     only None ne = refl
     only (Some e) ne = absurd (ne refl)
 
-pub serial-total : (n : ℕ) (slots : List (Option Entry)) (order : Linked) → IsFiled use_home slots order → 1 < length order.lists → with n (used slots order) ≡ total (λ s. bit (is_entry n s)) slots
-serial-total n slots order h two = entry-total (λ e. bit (has_serial n e)) slots order h two ∙ total-alike (weight (λ e. bit (has_serial n e))) (λ s. bit (is_entry n s)) slots each
+pub serial-total : (n : ℕ) (slots : List (Option Entry)) (order : Linked) → IsFiled use_home 2 slots order → with n (used slots order) ≡ total (λ s. bit (is_entry n s)) slots
+serial-total n slots order h = entry-total (λ e. bit (has_serial n e)) slots order h ∙ total-alike (weight (λ e. bit (has_serial n e))) (λ s. bit (is_entry n s)) slots each
   where
     each : (s : Option Entry) → weight (λ e. bit (has_serial n e)) s ≡ bit (is_entry n s)
     each None = refl
@@ -40,15 +40,15 @@ total-ones : {X : Type 0} (xs : List X) → total (λ x. 1) xs ≡ length xs
 total-ones [] = refl
 total-ones (x ∷ xs) = omega (arith, total-ones xs)
 
-pub length-used : (slots : List (Option Entry)) (order : Linked) → IsFiled use_home slots order → 1 < length order.lists → length (used slots order) ≡ total (λ s. bit (is_some s)) slots
-length-used slots order h two = sym (total-ones (used slots order)) ∙ (entry-total (λ e. 1) slots order h two ∙ total-alike (weight (λ e. 1)) (λ s. bit (is_some s)) slots each)
+pub length-used : (slots : List (Option Entry)) (order : Linked) → IsFiled use_home 2 slots order → length (used slots order) ≡ total (λ s. bit (is_some s)) slots
+length-used slots order h = sym (total-ones (used slots order)) ∙ (entry-total (λ e. 1) slots order h ∙ total-alike (weight (λ e. 1)) (λ s. bit (is_some s)) slots each)
   where
     each : (s : Option Entry) → weight (λ (e : Entry). 1) s ≡ bit (is_some s)
     each None = refl
     each (Some e) = refl
 
-pub missing-used : (slots : List (Option Entry)) (order : Linked) → IsFiled use_home slots order → 1 < length order.lists → incomplete (used slots order) ≡ total (λ s. bit (is_missing s)) slots
-missing-used slots order h two = filtered (used slots order) ∙ (entry-total (λ e. bit (not e.complete)) slots order h two ∙ total-alike (weight (λ e. bit (not e.complete))) (λ s. bit (is_missing s)) slots each)
+pub missing-used : (slots : List (Option Entry)) (order : Linked) → IsFiled use_home 2 slots order → incomplete (used slots order) ≡ total (λ s. bit (is_missing s)) slots
+missing-used slots order h = filtered (used slots order) ∙ (entry-total (λ e. bit (not e.complete)) slots order h ∙ total-alike (weight (λ e. bit (not e.complete))) (λ s. bit (is_missing s)) slots each)
   where
     each : (s : Option Entry) → weight (λ e. bit (not e.complete)) s ≡ bit (is_missing s)
     each None = refl
@@ -62,9 +62,9 @@ missing-used slots order h two = filtered (used slots order) ∙ (entry-total (�
           | false ↦ omega (arith, filtered es)
         ]
 
-pub room-is : (slots : List (Option Entry)) (order : Linked) → IsFiled use_home slots order → 1 < length order.lists → length (nodes_of 0 order.lists) + total (λ s. bit (is_some s)) slots ≡ length slots
-room-is slots order h two =
-    let free = listed use_home (λ s. 1) slots order 0 h (omega (arith, two)) in
+pub room-is : (slots : List (Option Entry)) (order : Linked) → IsFiled use_home 2 slots order → length (nodes_of 0 order.lists) + total (λ s. bit (is_some s)) slots ≡ length slots
+room-is slots order h =
+    let free = listed use_home 2 (λ s. 1) slots order 0 h (omega arith) in
     omega (arith, total-ones (nodes_of 0 order.lists), free, both slots)
   where
     both : (ss : List (Option Entry)) → total (λ s. cond (use_home s == 0) 1 0) ss + total (λ s. bit (is_some s)) ss ≡ length ss
@@ -82,13 +82,29 @@ counts-none n (x ∷ xs) h =
       | false ↦ λ k. counts-none n xs (omega (arith, k))
     ] h
 
-pub entry-none : (n : ℕ) (slots : List (Option Entry)) (order : Linked) → IsFiled use_home slots order → 1 < length order.lists → total (λ s. bit (is_entry n s)) slots ≡ 0 → entry_at n (used slots order) ≡ None
-entry-none n slots order h two none = counts-none n (used slots order) (serial-total n slots order h two ∙ none)
+pub entry-none : (n : ℕ) (slots : List (Option Entry)) (order : Linked) → IsFiled use_home 2 slots order → total (λ s. bit (is_entry n s)) slots ≡ 0 → entry_at n (used slots order) ≡ None
+entry-none n slots order h none = counts-none n (used slots order) (serial-total n slots order h ∙ none)
+
+-- an entry that is there stands in a slot
+pub serial-there : (n : ℕ) (slots : List (Option Entry)) (order : Linked) (es : List Entry) → IsFiled use_home 2 slots order → used slots order ≡ es → (entry_at n es ≡ None → ⊥) → 0 < total (λ s. bit (is_entry n s)) slots
+serial-there n slots order es h is some = by (total (λ s. bit (is_entry n s)) slots) refl
+  where
+    by : (t : ℕ) → total (λ s. bit (is_entry n s)) slots ≡ t → 0 < t
+    by zero e = absurd (some (ap (entry_at n) (sym is) ∙ entry-none n slots order h e))
+    by (suc t) e = omega arith
+
+pub is-some : (o : Option Entry) → IsSome o → o ≡ None → ⊥
+is-some None h e = cc h
+is-some (Some x) h e = cc e
+
+pub is-some_and : (P : Entry → Type 0) (o : Option Entry) → IsSomeAnd o P → o ≡ None → ⊥
+is-some_and P None h e = h
+is-some_and P (Some x) h e = cc e
 
 -- no slot of a serial's list has it
-pub none-found : (n : ℕ) (slots : List (Option Entry)) (by_serial : Linked) (mask : ℕ) → IsFiled (serial_home mask) slots by_serial → length by_serial.lists ≡ mask + 2 → AllByRecursion (λ i. is_entry n (in_slot i slots) ≡ false) (nodes_of (bucket_of mask n) by_serial.lists) → total (λ s. bit (is_entry n s)) slots ≡ 0
-none-found n slots by_serial mask h many none =
-    sym (listed-all (serial_home mask) (λ s. bit (is_entry n s)) slots by_serial (bucket_of mask n) h (omega (arith, many, bucket-low mask n)) only)
+pub none-found : (n : ℕ) (slots : List (Option Entry)) (by_serial : Linked) (mask : ℕ) → IsFiled (serial_home mask) (mask + 2) slots by_serial → AllByRecursion (λ i. is_entry n (in_slot i slots) ≡ false) (nodes_of (bucket_of mask n) by_serial.lists) → total (λ s. bit (is_entry n s)) slots ≡ 0
+none-found n slots by_serial mask h none =
+    sym (listed-all (serial_home mask) (mask + 2) (λ s. bit (is_entry n s)) slots by_serial (bucket_of mask n) h (bucket-low mask n) only)
     ∙ none-counts (is_entry n) slots (nodes_of (bucket_of mask n) by_serial.lists) none
   where
     only : (s : Option Entry) → serial_home mask s ≢ bucket_of mask n → bit (is_entry n s) ≡ 0
@@ -142,7 +158,7 @@ slot-found n i slots order by_serial mask all missing h low is = by (in_slot i s
     by : (s : Option Entry) → in_slot i slots ≡ s → is_entry n s ≡ true → (e : Entry) × IsSlotOf n i slots order e
     by None e p = absurd (cc p)
     by (Some x) e p =
-        let stands : count i (nodes_of 1 order.lists) ≡ 1 = h.ordered.placed 1 i (omega (arith, h.two)) low ∙ rw e refl in (
+        let stands : count i (nodes_of 1 order.lists) ≡ 1 = h.ordered.placed 1 i (omega arith) low ∙ rw e refl in (
           x,
           record {
             within = low;
@@ -152,7 +168,7 @@ slot-found n i slots order by_serial mask all missing h low is = by (in_slot i s
             others = λ m some ne.
                 let here : bit (is_entry n (in_slot i slots)) ≡ 1 = rw (e, p) refl in
                 let most = two-count (λ k. bit (is_entry n (in_slot k slots))) i m (nodes_of 1 order.lists) (λ q. ne (sym q)) (omega (arith, stands)) some in
-                let total' = listed-all use_home (λ s. bit (is_entry n s)) slots order 1 h.ordered (omega (arith, h.two)) only in
+                let total' = listed-all use_home 2 (λ s. bit (is_entry n s)) slots order 1 h.ordered (omega arith) only in
                 none (is_entry n (in_slot m slots)) (omega (arith, most, here, total', h.once n));
           },
         )
@@ -238,44 +254,39 @@ slots-changed f n i slots (m ∷ ms) e low others holds is =
 pub used-changed : (f : Entry → Entry) (n i : ℕ) (slots : List (Option Entry)) (order : Linked) (e : Entry) → IsSlotOf n i slots order e → used (set slots i (Some (f e))) order ≡ changed n f (used slots order)
 used-changed f n i slots order e h = slots-changed f n i slots (nodes_of 1 order.lists) e h.within h.others h.holds h.serial
 
-abbrev moved : ℕ → ℕ → Linked → Linked
-moved x l filed = record { lists = moved_last x l filed.lists; nodes = filed.nodes }
-
 -- changed, and moved to the end
-pub used-moved : (f : Entry → Entry) (n i : ℕ) (slots : List (Option Entry)) (order order' : Linked) (e : Entry) → IsSlotOf n i slots order e → 1 < length order.lists → order' ≡ moved i 1 order
+pub used-moved : (f : Entry → Entry) (n i : ℕ) (slots : List (Option Entry)) (order order' : Linked) (e : Entry) → IsSlotOf n i slots order e → IsFiled use_home 2 slots order → order' ≡ moved i 1 order
     → used (set slots i (Some (f e))) order' ≡ moved_to_end (entry_at n (used slots order)) f (used slots order)
-used-moved f n i slots order order' e h two is =
+used-moved f n i slots order order' e h filed is =
     let less = subst (λ k. in_slots slots (without_node i (nodes_of 1 order.lists)) ≡ without k (used slots order)) (sym h.serial) (slots-without n i slots (nodes_of 1 order.lists) e h.others h.holds h.serial) in
-    rw (is, nodes-moved i 1 1 order.lists two, entry-some n i slots order e h)
+    rw (is, nodes-moved i 1 1 order.lists (omega (arith, filed.lists)), entry-some n i slots order e h)
     (slots-append (set slots i (Some (f e))) (without_node i (nodes_of 1 order.lists)) (i ∷ [])
     ∙ rw (slots-set slots i (Some (f e)) (without_node i (nodes_of 1 order.lists)) (count-without i (nodes_of 1 order.lists)), in-set slots i (Some (f e)) h.within, less) refl)
 
 -- taken out
-pub used-removed : (n i : ℕ) (slots : List (Option Entry)) (order order' : Linked) (e : Entry) → IsSlotOf n i slots order e → 1 < length order.lists → order' ≡ moved i 0 order → used (set slots i None) order' ≡ without n (used slots order)
-used-removed n i slots order order' e h two is =
-    rw (is, nodes-moved i 0 1 order.lists two, append-nil (without_node i (nodes_of 1 order.lists)), slots-set slots i None (without_node i (nodes_of 1 order.lists)) (count-without i (nodes_of 1 order.lists)))
+pub used-removed : (n i : ℕ) (slots : List (Option Entry)) (order order' : Linked) (e : Entry) → IsSlotOf n i slots order e → IsFiled use_home 2 slots order → order' ≡ moved i 0 order → used (set slots i None) order' ≡ without n (used slots order)
+used-removed n i slots order order' e h filed is =
+    rw (is, nodes-moved i 0 1 order.lists (omega (arith, filed.lists)), append-nil (without_node i (nodes_of 1 order.lists)), slots-set slots i None (without_node i (nodes_of 1 order.lists)) (count-without i (nodes_of 1 order.lists)))
     (slots-without n i slots (nodes_of 1 order.lists) e h.others h.holds h.serial)
 
 -- put in
-pub used-inserted : (i : ℕ) (slots : List (Option Entry)) (order order' : Linked) (e : Entry) → IsFiled use_home slots order → i < length slots → in_slot i slots ≡ None → 1 < length order.lists → order' ≡ moved i 1 order → used (set slots i (Some e)) order' ≡ used slots order ++ e ∷ []
-used-inserted i slots order order' e h low free two is =
-    let none : count i (nodes_of 1 order.lists) ≡ 0 = h.placed 1 i two low ∙ rw free refl in
-    rw (is, nodes-moved i 1 1 order.lists two, without-none i (nodes_of 1 order.lists) none)
+pub used-inserted : (i : ℕ) (slots : List (Option Entry)) (order order' : Linked) (e : Entry) → IsFiled use_home 2 slots order → i < length slots → in_slot i slots ≡ None → order' ≡ moved i 1 order → used (set slots i (Some e)) order' ≡ used slots order ++ e ∷ []
+used-inserted i slots order order' e h low free is =
+    let none : count i (nodes_of 1 order.lists) ≡ 0 = h.placed 1 i (omega arith) low ∙ rw free refl in
+    rw (is, nodes-moved i 1 1 order.lists (omega (arith, h.lists)), without-none i (nodes_of 1 order.lists) none)
     (slots-append (set slots i (Some e)) (nodes_of 1 order.lists) (i ∷ [])
     ∙ rw (slots-set slots i (Some e) (nodes_of 1 order.lists) none, in-set slots i (Some e) low) refl)
 
 -- ---- what stays true
 
 pub uses-changed : (i : ℕ) (v : Option Entry) (slots : List (Option Entry)) (order order' by_serial by_serial' : Linked) (mask all all' missing missing' : ℕ) → IsUses slots order by_serial mask all missing → i < length slots
-    → IsFiled use_home (set slots i v) order' → length order'.lists ≡ 2 → IsFiled (serial_home mask) (set slots i v) by_serial' → length by_serial'.lists ≡ mask + 2
+    → IsFiled use_home 2 (set slots i v) order' → IsFiled (serial_home mask) (mask + 2) (set slots i v) by_serial'
     → ((n : ℕ) → total (λ s. bit (is_entry n s)) slots + bit (is_entry n v) ≤ 1 + bit (is_entry n (in_slot i slots)))
     → all' + bit (is_some (in_slot i slots)) ≡ all + bit (is_some v) → missing' + bit (is_missing (in_slot i slots)) ≡ missing + bit (is_missing v)
     → IsUses (set slots i v) order' by_serial' mask all' missing'
-uses-changed i v slots order order' by_serial by_serial' mask all all' missing missing' h low ordered two serial many once counts misses = record {
+uses-changed i v slots order order' by_serial by_serial' mask all all' missing missing' h low ordered serial once counts misses = record {
   ordered = ordered;
-  two = two;
   by_serial = serial;
-  many = many;
   once = λ n. omega (arith, once n, total-set (λ s. bit (is_entry n s)) slots i v None low);
   all = omega (arith, counts, h.all, total-set (λ s. bit (is_some s)) slots i v None low);
   missing = omega (arith, misses, h.missing, total-set (λ s. bit (is_missing s)) slots i v None low);
@@ -284,28 +295,26 @@ uses-changed i v slots order order' by_serial by_serial' mask all all' missing m
 
 -- one entry is changed where it stands, or moved too
 pub uses-kept : (f : Entry → Entry) (n i : ℕ) (slots : List (Option Entry)) (order order' by_serial : Linked) (mask all missing missing' : ℕ) (e : Entry) → IsUses slots order by_serial mask all missing → IsSlotOf n i slots order e → (f e).serial ≡ e.serial
-    → IsFiled use_home (set slots i (Some (f e))) order' → length order'.lists ≡ 2 → missing' + bit (not e.complete) ≡ missing + bit (not (f e).complete)
+    → IsFiled use_home 2 (set slots i (Some (f e))) order' → missing' + bit (not e.complete) ≡ missing + bit (not (f e).complete)
     → IsUses (set slots i (Some (f e))) order' by_serial mask all missing'
-uses-kept f n i slots order order' by_serial mask all missing missing' e h at same ordered two misses =
-    uses-changed i (Some (f e)) slots order order' by_serial by_serial mask all all missing missing' h at.within ordered two
-    (filed-still (serial_home mask) slots by_serial i (Some (f e)) h.by_serial at.within (rw (at.holds, same) refl)) h.many
+uses-kept f n i slots order order' by_serial mask all missing missing' e h at same ordered misses =
+    uses-changed i (Some (f e)) slots order order' by_serial by_serial mask all all missing missing' h at.within ordered
+    (filed-still (serial_home mask) (mask + 2) slots by_serial i (Some (f e)) h.by_serial at.within (rw (at.holds, same) refl))
     (λ k. rw (at.holds, same) (omega (arith, h.once k))) (rw at.holds refl) (rw at.holds misses)
 
 -- ---- none yet
 
-pub uses-free : (mask room : ℕ) (order by_serial : Linked) → AreFree 0 room order → AreFree mask room by_serial → room ≤ 2 ^ 28 → IsUses (replicate room None) order by_serial mask 0 0
+pub uses-free : (mask room : ℕ) (order by_serial : Linked) → AreFree 2 room order → AreFree (mask + 2) room by_serial → room ≤ 2 ^ 28 → IsUses (replicate room None) order by_serial mask 0 0
 uses-free mask room order by_serial one two low = record {
-  ordered = free-filed use_home 0 room order one refl homes;
-  two = one.many;
-  by_serial = free-filed (serial_home mask) mask room by_serial two refl (λ s. serials s);
-  many = two.many;
+  ordered = free-filed use_home 2 room order one refl homes;
+  by_serial = free-filed (serial_home mask) (mask + 2) room by_serial two refl serials;
   once = λ n. omega (arith, none (λ s. bit (is_entry n s)) refl room);
   all = sym (none (λ s. bit (is_some s)) refl room);
   missing = sym (none (λ s. bit (is_missing s)) refl room);
   few = omega (arith, low, long room);
 }
   where
-    homes : (s : Option Entry) → use_home s < 0 + 2
+    homes : (s : Option Entry) → use_home s < 2
     homes None = omega arith
     homes (Some e) = omega arith
 
@@ -345,63 +354,79 @@ idle-later (Some e) es h =
 
 -- ---- whole calls
 
-set-same : (slots : List (Option Entry)) (i : ℕ) (e : Entry) → in_slot i slots ≡ Some e → set slots i (Some e) ≡ slots
-set-same slots i e h = ap (set slots i) (sym h) ∙ set-get_or slots i None
+-- this is what stands in the slots and in the lists
+pub record IsNow (slots : List (Option Entry)) (order by_serial : Linked) (mask all missing : ℕ) (u : Used) : Type 0 where
+  pub kept : IsUses slots order by_serial mask all missing
+  pub view : record { entries = used slots order; room = length (nodes_of 0 order.lists) } ≡ u
 
--- an entry is changed, or not, and goes to the end
-pub record IsRenewed (f : Entry → Entry) (n : ℕ) (slots slots' : List (Option Entry)) (order order' by_serial : Linked) (mask all missing' : ℕ) : Type 0 where
-  pub kept : IsUses slots' order' by_serial mask all missing'
-  pub entries : used slots' order' ≡ moved_to_end (entry_at n (used slots order)) f (used slots order)
-  pub room : length (nodes_of 0 order'.lists) ≡ length (nodes_of 0 order.lists)
+-- what a slot with a serial is read to have
+pub has-entry : (n i : ℕ) (slots : List (Option Entry)) (now : Option Entry) → i < length slots → is_entry n (in_slot i slots) ≡ true → now ≡ get_or slots i now → (e : Entry) × (now ≡ Some e)
+has-entry n i slots now low that read = by (in_slot i slots) that (get_or_read slots i now low read None)
+  where
+    by : (s : Option Entry) → is_entry n s ≡ true → now ≡ s → (e : Entry) × (now ≡ Some e)
+    by None p q = absurd (cc p)
+    by (Some e) p q = (e, q)
 
-pub renewed : (f : Entry → Entry) (n i : ℕ) (slots : List (Option Entry)) (order order' by_serial : Linked) (mask all missing missing' : ℕ) (e : Entry) → IsUses slots order by_serial mask all missing → IsSlotOf n i slots order e → (f e).serial ≡ e.serial
-    → missing' + bit (not e.complete) ≡ missing + bit (not (f e).complete) → order' ≡ moved i 1 order → IsRenewed f n slots (set slots i (Some (f e))) order order' by_serial mask all missing'
-renewed f n i slots order order' by_serial mask all missing missing' e h at same misses is = record {
-  kept = uses-kept f n i slots order order' by_serial mask all missing missing' e h at same (filed-moved use_home slots order order' i 1 (Some (f e)) h.ordered at.within refl is)
-      (ap (λ (l : Linked). length l.lists) is ∙ (length-moved i 1 order.lists ∙ h.two)) misses;
-  entries = used-moved f n i slots order order' e at (omega (arith, h.two)) is;
-  room = room-kept i 1 order order' (omega (arith, h.two)) (h.ordered.placed 0 i (omega (arith, h.two)) at.within ∙ rw at.holds refl) (λ q. omega (arith, q)) is;
-}
-
-pub touched : (n i : ℕ) (slots : List (Option Entry)) (order order' by_serial : Linked) (mask all missing : ℕ) (e : Entry) → IsUses slots order by_serial mask all missing → IsSlotOf n i slots order e → order' ≡ moved i 1 order → IsRenewed (λ x. x) n slots slots order order' by_serial mask all missing
-touched n i slots order order' by_serial mask all missing e h at is =
-    subst (λ xs. IsRenewed (λ x. x) n slots xs order order' by_serial mask all missing) (set-same slots i e at.holds)
-    (renewed (λ x. x) n i slots order order' by_serial mask all missing missing e h at refl refl is)
+pub entry-is : (n i : ℕ) (slots : List (Option Entry)) (order by_serial : Linked) (mask all missing : ℕ) (d : Used) (now : Option Entry) → IsNow slots order by_serial mask all missing d → i < length slots → is_entry n (in_slot i slots) ≡ true → now ≡ get_or slots i now → now ≡ entry_at n d.entries
+entry-is n i slots order by_serial mask all missing d now h low that read =
+    let at = slot-found n i slots order by_serial mask all missing h.kept low that in
+    get_or_read slots i now low read None ∙ (at.1.holds ∙ (sym (entry-some n i slots order at.0 at.1) ∙ ap (λ (u : Used). entry_at n u.entries) h.view))
 
 -- an entry is changed where it stands
-pub record IsAltered (f : Entry → Entry) (n : ℕ) (slots slots' : List (Option Entry)) (order by_serial : Linked) (mask all missing : ℕ) : Type 0 where
-  pub kept : IsUses slots' order by_serial mask all missing
-  pub entries : used slots' order ≡ changed n f (used slots order)
+pub altered : (f : Entry → Entry) (n i : ℕ) (slots : List (Option Entry)) (order by_serial : Linked) (mask all missing : ℕ) (d : Used) (now : Option Entry) → IsNow slots order by_serial mask all missing d → i < length slots → is_entry n (in_slot i slots) ≡ true → now ≡ get_or slots i now
+    → ((e : Entry) → (f e).serial ≡ e.serial) → ((e : Entry) → (f e).complete ≡ e.complete) → IsNow (set slots i (option_map f now)) order by_serial mask all missing (record { entries = changed n f d.entries; room = d.room })
+altered f n i slots order by_serial mask all missing d now h low that read same complete =
+    let at = slot-found n i slots order by_serial mask all missing h.kept low that in
+    rw (get_or_read slots i now low read None ∙ at.1.holds, ← h.view) (record {
+      kept = uses-kept f n i slots order order by_serial mask all missing missing at.0 h.kept at.1 (same at.0) (filed-still use_home 2 slots order i (Some (f at.0)) h.kept.ordered low (rw at.1.holds refl)) (rw (complete at.0) refl);
+      view = rw (used-changed f n i slots order at.0 at.1) refl;
+    })
 
-pub altered : (f : Entry → Entry) (n i : ℕ) (slots : List (Option Entry)) (order by_serial : Linked) (mask all missing : ℕ) (e : Entry) → IsUses slots order by_serial mask all missing → IsSlotOf n i slots order e → (f e).serial ≡ e.serial → (f e).complete ≡ e.complete
-    → IsAltered f n slots (set slots i (Some (f e))) order by_serial mask all missing
-altered f n i slots order by_serial mask all missing e h at same complete = record {
-  kept = uses-kept f n i slots order order by_serial mask all missing missing e h at same (filed-still use_home slots order i (Some (f e)) h.ordered at.within (rw at.holds refl)) h.two (rw complete refl);
-  entries = used-changed f n i slots order e at;
-}
+-- an entry is changed, or not, and goes to the end
+renewed : (f : Entry → Entry) (n i : ℕ) (slots : List (Option Entry)) (order order' by_serial : Linked) (mask all missing missing' : ℕ) (d : Used) (e : Entry) → IsNow slots order by_serial mask all missing d → IsSlotOf n i slots order e → (f e).serial ≡ e.serial → missing' + bit (not e.complete) ≡ missing + bit (not (f e).complete)
+    → order' ≡ moved i 1 order → IsNow (set slots i (Some (f e))) order' by_serial mask all missing' (record { entries = moved_to_end (entry_at n d.entries) f d.entries; room = d.room })
+renewed f n i slots order order' by_serial mask all missing missing' d e h at same misses is = rw (← h.view) (record {
+  kept = uses-kept f n i slots order order' by_serial mask all missing missing' e h.kept at same (filed-moved use_home 2 slots order order' i 1 (Some (f e)) h.kept.ordered at.within refl is) misses;
+  view = let left = rw at.holds at (room-moved use_home 2 slots order order' i 1 h.kept.ordered at.within is) in
+      let room : length (nodes_of 0 order'.lists) ≡ length (nodes_of 0 order.lists) = omega (arith, left) in
+      rw (used-moved f n i slots order order' e at h.kept.ordered is, room) refl;
+})
+
+pub touched : (n i : ℕ) (slots : List (Option Entry)) (order order' by_serial : Linked) (mask all missing : ℕ) (d : Used) → IsNow slots order by_serial mask all missing d → i < length slots → is_entry n (in_slot i slots) ≡ true → order' ≡ moved i 1 order
+    → IsNow slots order' by_serial mask all missing (record { entries = after_touch n d.entries; room = d.room })
+touched n i slots order order' by_serial mask all missing d h low that is =
+    let at = slot-found n i slots order by_serial mask all missing h.kept low that in
+    let same : set slots i (Some at.0) ≡ slots = ap (set slots i) (sym at.1.holds) ∙ set-get_or slots i None in
+    subst (λ xs. IsNow xs order' by_serial mask all missing (record { entries = after_touch n d.entries; room = d.room })) same
+    (renewed (λ x. x) n i slots order order' by_serial mask all missing missing d at.0 h at.1 refl refl is)
+
+pub missing-fits : (i : ℕ) (slots : List (Option Entry)) (order by_serial : Linked) (mask all missing : ℕ) (now : Option Entry) → IsUses slots order by_serial mask all missing → i < length slots → now ≡ get_or slots i now → bit (is_missing now) ≤ missing
+missing-fits i slots order by_serial mask all missing now h low read = omega (arith, h.missing, slot-counts (λ s. bit (is_missing s)) slots i low, ap (λ s. bit (is_missing s)) (get_or_read slots i now low read None))
+
+pub completed : (n i : ℕ) (slots : List (Option Entry)) (order order' by_serial : Linked) (mask all missing : ℕ) (d : Used) (one now : Option Entry) → IsNow slots order by_serial mask all missing d → i < length slots → is_entry n (in_slot i slots) ≡ true → one ≡ get_or slots i one → now ≡ get_or slots i now → order' ≡ moved i 1 order
+    → IsNow (set slots i (option_map (λ (e : Entry). record e { complete = true }) now)) order' by_serial mask all (missing - bit (is_missing one)) (record { entries = after_complete n d.entries; room = d.room })
+completed n i slots order order' by_serial mask all missing d one now h low that first read is =
+    let at = slot-found n i slots order by_serial mask all missing h.kept low that in
+    let enough = missing-fits i slots order by_serial mask all missing one h.kept low first in
+    let lost : bit (is_missing one) ≡ bit (not at.0.complete) = ap (λ s. bit (is_missing s)) (get_or_read slots i one low first None ∙ at.1.holds) in
+    rw (get_or_read slots i now low read None ∙ at.1.holds)
+    (renewed (λ (e : Entry). record e { complete = true }) n i slots order order' by_serial mask all missing (missing - bit (is_missing one)) d at.0 h at.1 refl (omega (arith, lost, enough)) is)
 
 -- an entry is put in
-pub record IsPutIn (e : Entry) (slots slots' : List (Option Entry)) (order order' by_serial' : Linked) (mask all' missing' : ℕ) : Type 0 where
-  pub kept : IsUses slots' order' by_serial' mask all' missing'
-  pub entries : used slots' order' ≡ used slots order ++ e ∷ []
-  pub room : length (nodes_of 0 order'.lists) + 1 ≡ length (nodes_of 0 order.lists)
-
-pub put-in : (i : ℕ) (slots : List (Option Entry)) (order order' by_serial by_serial' : Linked) (mask all missing : ℕ) (e : Entry) → IsUses slots order by_serial mask all missing → i < length slots → slice_get (nodes_of 0 order.lists) 0 ≡ Some i → entry_at e.serial (used slots order) ≡ None
-    → order' ≡ moved i 1 order → by_serial' ≡ moved i (bucket_of mask e.serial) by_serial → IsPutIn e slots (set slots i (Some e)) order order' by_serial' mask (all + 1) (missing + bit (not e.complete))
-put-in i slots order order' by_serial by_serial' mask all missing e h low first none one two = record {
-  kept = uses-changed i (Some e) slots order order' by_serial by_serial' mask all (all + 1) missing (missing + bit (not e.complete)) h low
-      (filed-moved use_home slots order order' i 1 (Some e) h.ordered low refl one) (ap (λ (l : Linked). length l.lists) one ∙ (length-moved i 1 order.lists ∙ h.two))
-      (filed-moved (serial_home mask) slots by_serial by_serial' i (bucket_of mask e.serial) (Some e) h.by_serial low refl two) (ap (λ (l : Linked). length l.lists) two ∙ (length-moved i (bucket_of mask e.serial) by_serial.lists ∙ h.many))
+pub put-in : (i : ℕ) (slots : List (Option Entry)) (order order' by_serial by_serial' : Linked) (mask all missing : ℕ) (d : Used) (e : Entry) → IsNow slots order by_serial mask all missing d → i < length slots → slice_get (nodes_of 0 order.lists) 0 ≡ Some i → entry_at e.serial d.entries ≡ None
+    → order' ≡ moved i 1 order → by_serial' ≡ moved i (bucket_of mask e.serial) by_serial → IsNow (set slots i (Some e)) order' by_serial' mask (all + 1) (missing + bit (not e.complete)) (record { entries = d.entries ++ e ∷ []; room = d.room - 1 })
+put-in i slots order order' by_serial by_serial' mask all missing d e h low first none one two = rw (← h.view) (record {
+  kept = uses-changed i (Some e) slots order order' by_serial by_serial' mask all (all + 1) missing (missing + bit (not e.complete)) h.kept low
+      (filed-moved use_home 2 slots order order' i 1 (Some e) h.kept.ordered low refl one)
+      (filed-moved (serial_home mask) (mask + 2) slots by_serial by_serial' i (bucket_of mask e.serial) (Some e) h.kept.by_serial low refl two)
       once (rw empty (omega arith)) (rw empty (omega arith));
-  entries = used-inserted i slots order order' e h.ordered low empty (omega (arith, h.two)) one;
-  room = room-taken i 1 order order' (omega (arith, h.two)) free.1 (λ q. omega (arith, q)) one;
-}
+  view = let left = rw empty at (room-moved use_home 2 slots order order' i 1 h.kept.ordered low one) in
+      let room : length (nodes_of 0 order'.lists) ≡ length (nodes_of 0 order.lists) - 1 = omega (arith, left) in
+      rw (used-inserted i slots order order' e h.kept.ordered low empty one, room) refl;
+})
   where
-    free : (use_home (in_slot i slots) ≡ 0) × (count i (nodes_of 0 order.lists) ≡ 1)
-    free = first-free use_home slots order i h.ordered low first
-
     empty : in_slot i slots ≡ None
-    empty = by (in_slot i slots) (first-free use_home slots order i h.ordered low first).0
+    empty = by (in_slot i slots) (first-free use_home 2 slots order i h.kept.ordered low first)
       where
         by : (s : Option Entry) → use_home s ≡ 0 → s ≡ None
         by None q = refl
@@ -410,44 +435,37 @@ put-in i slots order order' by_serial by_serial' mask all missing e h low first 
     once : (n : ℕ) → total (λ s. bit (is_entry n s)) slots + bit (has_serial n e) ≤ 1 + bit (is_entry n (in_slot i slots))
     once n =
         elim (has_serial n e) as (λ v. has_serial n e ≡ v → total (λ s. bit (is_entry n s)) slots + bit v ≤ 1 + bit (is_entry n (in_slot i slots))) [
-          | true ↦ λ p. (let is : e.serial ≡ n = eqb-true e.serial n p in omega (arith, sym (serial-total n slots order h.ordered (omega (arith, h.two))) ∙ subst (λ k. with k (used slots order) ≡ 0) is (none-counted e.serial (used slots order) none)))
-          | false ↦ λ p. omega (arith, h.once n)
+          | true ↦ λ p. omega (arith, rw (eqb-true e.serial n p, ← h.view) at (none-counted e.serial d.entries none), serial-total n slots order h.kept.ordered)
+          | false ↦ λ p. omega (arith, h.kept.once n)
         ] refl
 
 -- an entry is taken out
-pub record IsTakenOut (n : ℕ) (slots slots' : List (Option Entry)) (order order' by_serial' : Linked) (mask all' missing' : ℕ) : Type 0 where
-  pub kept : IsUses slots' order' by_serial' mask all' missing'
-  pub entries : used slots' order' ≡ without n (used slots order)
-  pub room : length (nodes_of 0 order'.lists) ≡ length (nodes_of 0 order.lists) + 1
-
-pub taken-out : (n i : ℕ) (slots : List (Option Entry)) (order order' by_serial by_serial' : Linked) (mask all missing : ℕ) (e : Entry) → IsUses slots order by_serial mask all missing → IsSlotOf n i slots order e
-    → order' ≡ moved i 0 order → by_serial' ≡ moved i 0 by_serial → (1 ≤ all) × (bit (not e.complete) ≤ missing) × IsTakenOut n slots (set slots i None) order order' by_serial' mask (all - 1) (missing - bit (not e.complete))
-taken-out n i slots order order' by_serial by_serial' mask all missing e h at one two = (
+pub taken-out : (n i : ℕ) (slots : List (Option Entry)) (order order' by_serial by_serial' : Linked) (mask all missing : ℕ) (d : Used) (now : Option Entry) (e : Entry) → IsNow slots order by_serial mask all missing d → i < length slots → is_entry n (in_slot i slots) ≡ true → now ≡ get_or slots i now → now ≡ Some e
+    → order' ≡ moved i 0 order → by_serial' ≡ moved i 0 by_serial
+    → (1 ≤ all) × (bit (not e.complete) ≤ missing) × IsNow (set slots i None) order' by_serial' mask (all - 1) (missing - bit (not e.complete)) (record { entries = without n d.entries; room = d.room + 1 })
+taken-out n i slots order order' by_serial by_serial' mask all missing d now e h low that read is one two = (
   some,
   some_missing,
-  record {
-    kept = uses-changed i None slots order order' by_serial by_serial' mask all (all - 1) missing (missing - bit (not e.complete)) h at.within
-        (filed-moved use_home slots order order' i 0 None h.ordered at.within refl one) (ap (λ (l : Linked). length l.lists) one ∙ (length-moved i 0 order.lists ∙ h.two))
-        (filed-moved (serial_home mask) slots by_serial by_serial' i 0 None h.by_serial at.within refl two) (ap (λ (l : Linked). length l.lists) two ∙ (length-moved i 0 by_serial.lists ∙ h.many))
-        (λ k. omega (arith, h.once k)) (rw at.holds (omega (arith, some))) (rw at.holds (omega (arith, some_missing)));
-    entries = used-removed n i slots order order' e at (omega (arith, h.two)) one;
-    room = room-freed i order order' (omega (arith, h.two)) (h.ordered.placed 0 i (omega (arith, h.two)) at.within ∙ rw at.holds refl) one;
-  },
+  rw (← h.view) (record {
+    kept = uses-changed i None slots order order' by_serial by_serial' mask all (all - 1) missing (missing - bit (not e.complete)) h.kept low
+        (filed-moved use_home 2 slots order order' i 0 None h.kept.ordered low refl one)
+        (filed-moved (serial_home mask) (mask + 2) slots by_serial by_serial' i 0 None h.kept.by_serial low refl two)
+        (λ k. omega (arith, h.kept.once k)) (rw holds (omega (arith, some))) (rw holds (omega (arith, some_missing)));
+    view = let left = rw holds at (room-moved use_home 2 slots order order' i 0 h.kept.ordered low one) in
+        let room : length (nodes_of 0 order'.lists) ≡ length (nodes_of 0 order.lists) + 1 = omega (arith, left) in
+        let at = slot-found n i slots order by_serial mask all missing h.kept low that in
+        rw (used-removed n i slots order order' at.0 at.1 h.kept.ordered one, room) refl;
+  }),
 )
   where
+    holds : in_slot i slots ≡ Some e
+    holds = sym (get_or_read slots i now low read None) ∙ is
+
     some : 1 ≤ all
-    some = omega (arith, h.all, slot-counts (λ s. bit (is_some s)) slots i at.within, ap (λ s. bit (is_some s)) at.holds)
+    some = omega (arith, h.kept.all, slot-counts (λ s. bit (is_some s)) slots i low, ap (λ s. bit (is_some s)) holds)
 
     some_missing : bit (not e.complete) ≤ missing
-    some_missing = omega (arith, h.missing, slot-counts (λ s. bit (is_missing s)) slots i at.within, ap (λ s. bit (is_missing s)) at.holds)
-
-pub no-entry : (o : Option Entry) → o ≡ None → IsSome o → ⊥
-no-entry None e h = cc h
-no-entry (Some x) e h = cc e
-
-pub no-entry_and : (P : Entry → Type 0) (o : Option Entry) → o ≡ None → IsSomeAnd o P → ⊥
-no-entry_and P None e h = h
-no-entry_and P (Some x) e h = cc e
+    some_missing = omega (arith, h.kept.missing, slot-counts (λ s. bit (is_missing s)) slots i low, ap (λ s. bit (is_missing s)) holds)
 
 total-most : {X : Type 0} (p : X → Bool) (xs : List X) → total (λ x. bit (p x)) xs ≤ length xs
 total-most p [] = omega arith
@@ -460,8 +478,8 @@ total-most p (x ∷ xs) = omega (arith, total-most p xs, most (p x))
 pub counts-fit : (slots : List (Option Entry)) (order by_serial : Linked) (mask all missing : ℕ) → IsUses slots order by_serial mask all missing → (all < 2 ^ 32) × (missing < 2 ^ 32)
 counts-fit slots order by_serial mask all missing h = (omega (arith, h.all, total-most is_some slots, h.few), omega (arith, h.missing, total-most is_missing slots, h.few))
 
-pub free-none : (slots : List (Option Entry)) (mask room : ℕ) (order : Linked) → AreFree mask room order → in_slots slots (nodes_of 1 order.lists) ≡ []
-free-none slots mask room order free = nodes-none slots (nodes_of 1 order.lists) (λ n. free.placed 1 n (omega (arith, free.many)))
+pub free-none : (slots : List (Option Entry)) (room : ℕ) (order : Linked) → AreFree 2 room order → in_slots slots (nodes_of 1 order.lists) ≡ []
+free-none slots room order free = nodes-none slots (nodes_of 1 order.lists) (λ n. free.placed 1 n (omega arith))
 
 pub first-idle : (s : Option Entry) (es : List Entry) (o : Option ℕ) → o ≡ oldest_idle (option_to_list s) → is_some o ≡ true → o ≡ oldest_idle (option_to_list s ++ es)
 first-idle s es None h e = absurd (cc e)

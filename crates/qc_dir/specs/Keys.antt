@@ -1,5 +1,5 @@
 -- Sets of keys, by how often a key stands in them.
-use Rattle.std.specs.Prelude.{◌≡◌, ℕ, ◌+◌, ◌*◌, ◌/◌, ◌%◌, ◌<◌, ◌^◌, Bool, false, ◌&&◌, List, [], ◌∷◌, ◌++◌, length, Option, Some, None, MatchOption, min, nat_lt, ◌==◌, if◌then◌else◌, bit_and}
+use Rattle.std.specs.Prelude.{◌≡◌, ℕ, ◌+◌, ◌*◌, ◌/◌, ◌%◌, ◌<◌, ◌^◌, Bool, false, ◌&&◌, List, [], ◌∷◌, ◌++◌, Option, Some, None, MatchOption, min, nat_lt, ◌==◌, if◌then◌else◌, bit_and}
 use Rattle.qc_index.specs.declared.keys.Key.{Key}
 use Rattle.qc_index.specs.Linked.{Linked}
 use Rattle.qc_dir.specs.Filed.{in_slot, IsFiled}
@@ -61,7 +61,5 @@ minors_under major slots [] = []
 minors_under major slots (n ∷ ns) = minor_under major (in_slot n slots) ++ minors_under major slots ns
 
 pub record IsKeySet (slots : List (Option Key)) (one two : Linked) (mask : ℕ) : Type 0 where
-  pub by_major : IsFiled (major_home mask) slots one
-  pub majors : length one.lists ≡ mask + 2
-  pub by_key : IsFiled (pair_home mask) slots two
-  pub pairs : length two.lists ≡ mask + 2
+  pub by_major : IsFiled (major_home mask) (mask + 2) slots one
+  pub by_key : IsFiled (pair_home mask) (mask + 2) slots two

@@ -38,10 +38,8 @@ is_missing (Some e) = not e.complete
 
 -- No serial stands twice. So many slots have an entry, and so many of these are not complete.
 pub record IsUses (slots : List (Option Entry)) (order serials : Linked) (mask count incomplete : ℕ) : Type 0 where
-  pub ordered : IsFiled use_home slots order
-  pub two : length order.lists ≡ 2
-  pub by_serial : IsFiled (serial_home mask) slots serials
-  pub many : length serials.lists ≡ mask + 2
+  pub ordered : IsFiled use_home 2 slots order
+  pub by_serial : IsFiled (serial_home mask) (mask + 2) slots serials
   pub once : (n : ℕ) → total (λ s. bit (is_entry n s)) slots ≤ 1
   pub all : count ≡ total (λ s. bit (is_some s)) slots
   pub missing : incomplete ≡ total (λ s. bit (is_missing s)) slots

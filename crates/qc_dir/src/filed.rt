@@ -34,7 +34,7 @@ pub(crate) fn bucket(mask: u32, number: u64) -> u32
 pub(crate) fn all_free(alloc: Global, mask: u32, slots: u32) -> Result<Lists, NoMemory>
     requires mask { mask < 2 ^ 29 }
     requires slots { slots ≤ 2 ^ 28 }
-    ensures { IfOk result (λ l. AreFree mask slots l) }
+    ensures { IfOk result (λ l. AreFree (mask + 2) slots l) }
 {
     let mut lists = Lists::new(alloc, mask + 2, slots)?;
     for slot in 0..slots {

@@ -113,8 +113,7 @@ fn pair(key: Key) -> u64
 /// The slot with a key, if any.
 fn slot_of(slots: &[Option<Key>], by_key: &Lists, mask: u32, key: Key) -> Option<u32>
     requires mask { mask < 2 ^ 29 }
-    requires filed { IsFiled (pair_home mask) slots.now by_key.now }
-    requires many { length by_key.now.lists ≡ mask + 2 }
+    requires filed { IsFiled (pair_home mask) (mask + 2) slots.now by_key.now }
     ensures { MatchOption result (times key (contents slots.now) ≡ 0) (λ n. (n < length slots.now) × (is_key key (in_slot n slots.now) ≡ true)) }
 {
     let mut list = by_key.walk(bucket(mask, pair(key)));

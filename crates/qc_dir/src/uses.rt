@@ -113,9 +113,7 @@ impl Uses {
         ensures entries { entries_of self.new ≡ without serial (entries_of self.old) }
         ensures room { self.new.room ≡ self.old.room + 1 }
     {
-        let Some(slot) = slot_of(&self.slots, &self.by_serial, self.mask, serial) else {
-            unreachable!()
-        };
+        let slot = slot_with(&self.slots, &self.by_serial, self.mask, serial);
         self.order.put_last(slot, FREE);
         self.by_serial.put_last(slot, FREE);
         let Some(entry) = self.slots[slot as usize].take() else {
@@ -132,9 +130,7 @@ impl Uses {
         ensures entries { entries_of self.new ≡ after_touch serial (entries_of self.old) }
         ensures room { self.new.room ≡ self.old.room }
     {
-        let Some(slot) = slot_of(&self.slots, &self.by_serial, self.mask, serial) else {
-            unreachable!()
-        };
+        let slot = slot_with(&self.slots, &self.by_serial, self.mask, serial);
         self.order.put_last(slot, USED);
     }
 
@@ -144,9 +140,7 @@ impl Uses {
         ensures entries { entries_of self.new ≡ after_complete serial (entries_of self.old) }
         ensures room { self.new.room ≡ self.old.room }
     {
-        let Some(slot) = slot_of(&self.slots, &self.by_serial, self.mask, serial) else {
-            unreachable!()
-        };
+        let slot = slot_with(&self.slots, &self.by_serial, self.mask, serial);
         self.incomplete -= missing_in(&self.slots[slot as usize]);
         complete_in(&mut self.slots[slot as usize]);
         self.order.put_last(slot, USED);
@@ -158,9 +152,7 @@ impl Uses {
         ensures entries { entries_of self.new ≡ after_enter serial (entries_of self.old) }
         ensures room { self.new.room ≡ self.old.room }
     {
-        let Some(slot) = slot_of(&self.slots, &self.by_serial, self.mask, serial) else {
-            unreachable!()
-        };
+        let slot = slot_with(&self.slots, &self.by_serial, self.mask, serial);
         enter_in(&mut self.slots[slot as usize]);
     }
 
@@ -170,9 +162,7 @@ impl Uses {
         ensures entries { entries_of self.new ≡ after_leave serial (entries_of self.old) }
         ensures room { self.new.room ≡ self.old.room }
     {
-        let Some(slot) = slot_of(&self.slots, &self.by_serial, self.mask, serial) else {
-            unreachable!()
-        };
+        let slot = slot_with(&self.slots, &self.by_serial, self.mask, serial);
         leave_in(&mut self.slots[slot as usize]);
     }
 
@@ -182,9 +172,7 @@ impl Uses {
         ensures entries { entries_of self.new ≡ changed serial (placed_text first) (entries_of self.old) }
         ensures room { self.new.room ≡ self.old.room }
     {
-        let Some(slot) = slot_of(&self.slots, &self.by_serial, self.mask, serial) else {
-            unreachable!()
-        };
+        let slot = slot_with(&self.slots, &self.by_serial, self.mask, serial);
         place_in(&mut self.slots[slot as usize], first);
     }
 
@@ -217,8 +205,7 @@ impl Uses {
 /// The slot with the entry of a serial, if any.
 fn slot_of(slots: &[Option<Entry>], by_serial: &Lists, mask: u32, serial: u64) -> Option<u32>
     requires mask { mask < 2 ^ 29 }
-    requires filed { IsFiled (serial_home mask) slots.now by_serial.now }
-    requires many { length by_serial.now.lists ≡ mask + 2 }
+    requires filed { IsFiled (serial_home mask) (mask + 2) slots.now by_serial.now }
     ensures { MatchOption result (total (λ s. bit (is_entry serial s)) slots.now ≡ 0) (λ n. (n < length slots.now) × (is_entry serial (in_slot n slots.now) ≡ true)) }
 {
     let mut list = by_serial.walk(bucket(mask, serial));
@@ -228,6 +215,20 @@ fn slot_of(slots: &[Option<Entry>], by_serial: &Lists, mask: u32, serial: u64) -
         }
     }
     None
+}
+
+/// The slot with the entry of a serial, which is there.
+fn slot_with(slots: &[Option<Entry>], by_serial: &Lists, mask: u32, serial: u64) -> u32
+    requires mask { mask < 2 ^ 29 }
+    requires filed { IsFiled (serial_home mask) (mask + 2) slots.now by_serial.now }
+    requires there { 0 < total (λ s. bit (is_entry serial s)) slots.now }
+    ensures within { result < length slots.now }
+    ensures entry { is_entry serial (in_slot result slots.now) ≡ true }
+{
+    let Some(slot) = slot_of(slots, by_serial, mask, serial) else {
+        unreachable!()
+    };
+    slot
 }
 
 /// Whether a slot has the entry of a serial.

@@ -4,7 +4,7 @@ use Rattle.qc_dir.proofs.KeyCounts.{bucket-low, none-found}
 use Rattle.qc_dir.proofs.keys.slot_of.Goals as goal
 
 pub walk-list-requires : goal.walk-list-requires
-walk-list-requires c = omega (arith, c.bucket.ensures, bucket-low c.args.mask c.pair.result, c.requires.many)
+walk-list-requires c = omega (arith, c.bucket.ensures, bucket-low c.args.mask c.pair.result, c.requires.filed.lists)
 
 pub loop-slot-init : goal.loop-slot-init
 loop-slot-init c = record {

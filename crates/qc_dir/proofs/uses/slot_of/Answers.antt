@@ -5,7 +5,7 @@ use Rattle.qc_dir.proofs.UseSteps.{none-found}
 use Rattle.qc_dir.proofs.uses.slot_of.Goals as goal
 
 pub walk-list-requires : goal.walk-list-requires
-walk-list-requires c = omega (arith, c.bucket.ensures, bucket-low c.args.mask c.args.serial, c.requires.many)
+walk-list-requires c = omega (arith, c.bucket.ensures, bucket-low c.args.mask c.args.serial, c.requires.filed.lists)
 
 pub loop-slot-init : goal.loop-slot-init
 loop-slot-init c = record {
@@ -28,4 +28,4 @@ returns-then-has_entry c = ((rw (c.in-Some.ensures {u = tt}) at c.loop-slot.inva
 pub returns : goal.returns
 returns c =
     let all = c.loop-slot.invariant.sought (rw (c.in_default.ensures {u = tt}).0 tt) in
-    none-found c.args.serial c.args.slots.now c.args.by_serial.now c.args.mask c.requires.filed c.requires.many (rw (c.walk-list.ensures.nodes, c.bucket.ensures) at all)
+    none-found c.args.serial c.args.slots.now c.args.by_serial.now c.args.mask c.requires.filed (rw (c.walk-list.ensures.nodes, c.bucket.ensures) at all)

@@ -5,7 +5,7 @@ use Rattle.qc_dir.proofs.KeyCounts.{bucket-low, minors-are}
 use Rattle.qc_dir.proofs.keys.KeySet.under.Goals as goal
 
 pub walk-list-requires : goal.walk-list-requires
-walk-list-requires c = omega (arith, c.bucket.ensures, bucket-low c.self.inside.mask c.args.major, c.self.invariant.0.majors)
+walk-list-requires c = omega (arith, c.bucket.ensures, bucket-low c.self.inside.mask c.args.major, c.self.invariant.0.by_major.lists)
 
 pub new-requires : goal.new-requires
 new-requires c = rw c.deref.ensures.value (subst (λ m. AllByRecursion (λ n. n < m) c.walk-list.result) c.self.invariant.0.by_major.nodes c.walk-list.ensures.below)

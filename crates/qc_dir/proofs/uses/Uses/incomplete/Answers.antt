@@ -1,4 +1,4 @@
-use Rattle.std.proofs.Common.{◌∙◌, sym, ap, arith}
+use Rattle.std.proofs.Common.{◌∙◌, sym, ap}
 use Rattle.qc_dir.specs.Directory.{incomplete}
 use Rattle.qc_dir.specs.Uses.{Used, entries_of}
 use Rattle.qc_dir.proofs.UseSteps.{missing-used}
@@ -7,4 +7,4 @@ use Rattle.qc_dir.proofs.uses.Uses.incomplete.Goals as goal
 pub returns : goal.returns
 returns c =
     let u = c.self.invariant.0 in
-    u.missing ∙ (sym (missing-used c.self.inside.slots.items c.self.inside.order u.ordered (omega (arith, u.two))) ∙ ap (λ (d : Used). incomplete (entries_of d)) c.self.view_is)
+    u.missing ∙ (sym (missing-used c.self.inside.slots.items c.self.inside.order u.ordered) ∙ ap (λ (d : Used). incomplete (entries_of d)) c.self.view_is)

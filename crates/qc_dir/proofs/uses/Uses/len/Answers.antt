@@ -1,4 +1,4 @@
-use Rattle.std.proofs.Common.{◌∙◌, sym, ap, length, arith}
+use Rattle.std.proofs.Common.{◌∙◌, sym, ap, length}
 use Rattle.qc_dir.specs.Uses.{Used, entries_of}
 use Rattle.qc_dir.proofs.UseSteps.{length-used}
 use Rattle.qc_dir.proofs.uses.Uses.len.Goals as goal
@@ -6,4 +6,4 @@ use Rattle.qc_dir.proofs.uses.Uses.len.Goals as goal
 pub returns : goal.returns
 returns c =
     let u = c.self.invariant.0 in
-    u.all ∙ (sym (length-used c.self.inside.slots.items c.self.inside.order u.ordered (omega (arith, u.two))) ∙ ap (λ (d : Used). length (entries_of d)) c.self.view_is)
+    u.all ∙ (sym (length-used c.self.inside.slots.items c.self.inside.order u.ordered) ∙ ap (λ (d : Used). length (entries_of d)) c.self.view_is)

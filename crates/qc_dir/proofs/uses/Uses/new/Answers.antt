@@ -12,4 +12,4 @@ invariant_of-result c =
     )
 
 pub returns : goal.returns
-returns c = rw ((c.in_ok-order.ensures {u = tt}).all, free-none c.in_ok-slots.slots.items 0 c.args.room c.in_ok-order.order (c.in_ok-order.ensures {u = tt})) refl
+returns c = rw ((c.in_ok-order.ensures {u = tt}).all, free-none c.in_ok-slots.slots.items c.args.room c.in_ok-order.order (c.in_ok-order.ensures {u = tt})) refl

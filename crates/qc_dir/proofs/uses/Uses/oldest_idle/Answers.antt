@@ -9,7 +9,7 @@ use Rattle.qc_dir.proofs.UseSteps.{first-idle, not-idle}
 use Rattle.qc_dir.proofs.uses.Uses.oldest_idle.Goals as goal
 
 pub walk-order-requires : goal.walk-order-requires
-walk-order-requires c = omega (arith, c.self.invariant.0.two)
+walk-order-requires c = omega (arith, c.self.invariant.0.ordered.lists)
 
 pub loop-slot-init : goal.loop-slot-init
 loop-slot-init c = record {

@@ -1,46 +1,27 @@
-use Rattle.std.proofs.Common.{◌≡◌, ◌<◌, ◌∙◌, sym, ap, subst, refl, length, Some, None, arith}
-use Rattle.std.specs.Option.{IsSome, option_map}
-use Rattle.std.proofs.lemmas.List.{get_or_read}
-use Rattle.qc_dir.specs.Directory.{entry_at}
-use Rattle.qc_dir.specs.Uses.{Used, entries_of, placed_text}
+use Rattle.std.proofs.Common.{ap, refl, set, arith}
 use Rattle.qc_dir.specs.Directory.{changed}
-use Rattle.qc_dir.proofs.UseSteps.{used, slot-found, entry-none, no-entry, altered}
+use Rattle.qc_dir.specs.Uses.{entries_of, placed_text}
+use Rattle.qc_dir.proofs.UseSteps.{IsNow, serial-there, is-some, altered}
+use Rattle.qc_dir.proofs.uses.Uses.place.Goals.{After-place_in}
 use Rattle.qc_dir.proofs.uses.Uses.place.Goals as goal
 
-pub slot_of-requires-clause-filed : goal.slot_of-requires-clause-filed
-slot_of-requires-clause-filed c = rw c.deref.ensures.value c.self.invariant.0.by_serial
+pub slot_with-slot-requires-clause-filed : goal.slot_with-slot-requires-clause-filed
+slot_with-slot-requires-clause-filed c = rw c.deref.ensures.value c.self.invariant.0.by_serial
 
-pub slot_of-requires-clause-many : goal.slot_of-requires-clause-many
-slot_of-requires-clause-many c = c.self.invariant.0.many
-
-pub unreachable-requires : goal.unreachable-requires
-unreachable-requires c =
-    let i = c.self.inside in
-    let u = c.self.invariant.0 in
-    let none = entry-none c.args.serial i.slots.items i.order u.ordered (omega (arith, u.two)) (rw c.deref.ensures.value at (c.in_default.ensures {u = tt})) in
-    no-entry (entry_at c.args.serial (used i.slots.items i.order)) none (subst (λ (d : Used). IsSome (entry_at c.args.serial (entries_of d))) (sym c.self.view_is) c.requires)
+pub slot_with-slot-requires-clause-there : goal.slot_with-slot-requires-clause-there
+slot_with-slot-requires-clause-there c = rw c.deref.ensures.value (serial-there c.args.serial c.self.inside.slots.items c.self.inside.order (entries_of c.args.self.now) c.self.invariant.0.ordered (ap entries_of c.self.view_is) (is-some _ c.requires))
 
 pub index_mut-requires : goal.index_mut-requires
-index_mut-requires c = omega (arith, rw c.deref.ensures.value at (c.in-Some.ensures {u = tt}).0, c.self.inside.slots.ok.0)
+index_mut-requires c = omega (arith, rw c.deref.ensures.value at c.slot_with-slot.ensures.within, c.self.inside.slots.ok.0)
+
+done : (c : After-place_in) → IsNow (set c.self.inside.slots.items c.slot_with-slot.result c.place_in.new.slot) c.self.inside.order c.self.inside.by_serial c.self.inside.mask c.self.inside.count c.self.inside.incomplete (record { entries = changed c.args.serial (placed_text c.args.first) (entries_of c.args.self.now); room = c.args.self.now.room })
+done c =
+    let i = c.self.inside in
+    let is = rw c.deref.ensures.value at c.slot_with-slot.ensures in
+    rw c.place_in.ensures (altered (placed_text c.args.first) c.args.serial c.slot_with-slot.result i.slots.items i.order i.by_serial i.mask i.count i.incomplete c.args.self.now c.index_mut.result.now (record { kept = c.self.invariant.0; view = c.self.view_is }) is.within is.entry c.index_mut.ensures.value (λ e. refl) (λ e. refl))
 
 pub invariant_of-self : goal.invariant_of-self
-invariant_of-self c =
-    let i = c.self.inside in
-    let u = c.self.invariant.0 in
-    let is = rw c.deref.ensures.value at (c.in-Some.ensures {u = tt}) in
-    let at = slot-found c.args.serial c.in-Some.slot i.slots.items i.order i.by_serial i.mask i.count i.incomplete u is.0 is.1 in
-    let low : c.in-Some.slot < length i.slots.items = is.0 in
-    let old : c.index_mut.result.now ≡ Some at.0 = get_or_read i.slots.items c.in-Some.slot c.index_mut.result.now low c.index_mut.ensures.value None ∙ at.1.holds in
-    let new : c.place_in.new.slot ≡ Some ((placed_text c.args.first) at.0) = c.place_in.ensures ∙ ap (option_map (placed_text c.args.first)) old in
-    (rw new ((altered (placed_text c.args.first) c.args.serial c.in-Some.slot i.slots.items i.order i.by_serial i.mask i.count i.incomplete at.0 u at.1 refl refl).kept), c.self.invariant.1)
+invariant_of-self c = ((done (goal.at.invariant_of-self c).After-place_in).kept, c.self.invariant.1)
 
 pub returns-clause-entries : goal.returns-clause-entries
-returns-clause-entries c =
-    let i = c.self.inside in
-    let u = c.self.invariant.0 in
-    let is = rw c.deref.ensures.value at (c.in-Some.ensures {u = tt}) in
-    let at = slot-found c.args.serial c.in-Some.slot i.slots.items i.order i.by_serial i.mask i.count i.incomplete u is.0 is.1 in
-    let low : c.in-Some.slot < length i.slots.items = is.0 in
-    let old : c.index_mut.result.now ≡ Some at.0 = get_or_read i.slots.items c.in-Some.slot c.index_mut.result.now low c.index_mut.ensures.value None ∙ at.1.holds in
-    let new : c.place_in.new.slot ≡ Some ((placed_text c.args.first) at.0) = c.place_in.ensures ∙ ap (option_map (placed_text c.args.first)) old in
-    rw new ((altered (placed_text c.args.first) c.args.serial c.in-Some.slot i.slots.items i.order i.by_serial i.mask i.count i.incomplete at.0 u at.1 refl refl).entries ∙ ap (λ (d : Used). changed c.args.serial (placed_text c.args.first) (entries_of d)) c.self.view_is)
+returns-clause-entries c = ap entries_of (done (goal.at.returns-clause-entries c).After-place_in).view

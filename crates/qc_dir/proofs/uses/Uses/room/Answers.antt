@@ -9,9 +9,9 @@ overflow_cast-result c = omega (arith, c.len.ensures, c.self.inside.slots.ok.0, 
 pub overflow_sub-result : goal.overflow_sub-result
 overflow_sub-result c =
     let u = c.self.invariant.0 in
-    omega (arith, c.len.ensures, c.self.inside.slots.ok.0, u.all, room-is c.self.inside.slots.items c.self.inside.order u.ordered (omega (arith, u.two)))
+    omega (arith, c.len.ensures, c.self.inside.slots.ok.0, u.all, room-is c.self.inside.slots.items c.self.inside.order u.ordered)
 
 pub returns : goal.returns
 returns c =
     let u = c.self.invariant.0 in
-    omega (arith, c.len.ensures, c.self.inside.slots.ok.0, u.all, room-is c.self.inside.slots.items c.self.inside.order u.ordered (omega (arith, u.two)), ap (λ (d : Used). d.room) c.self.view_is)
+    omega (arith, c.len.ensures, c.self.inside.slots.ok.0, u.all, room-is c.self.inside.slots.items c.self.inside.order u.ordered, ap (λ (d : Used). d.room) c.self.view_is)
