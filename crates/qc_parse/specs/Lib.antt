@@ -3,6 +3,7 @@ pub mod Refusals
 pub mod Shorter
 pub mod Rules
 pub mod Selects
+pub mod Rests
 pub mod Once
 pub mod Laws
 pub mod Productions

@@ -4,14 +4,15 @@ ghost use Rattle.std.specs.Prelude.{◌≡◌};
 ghost use Rattle.qc_sql.specs.Reading as meant;
 ghost use Rattle.qc_sql.specs.Grammar as rule;
 ghost use Rattle.qc_parse.specs.Cursors.{unread, Takes, Reads};
+ghost use Rattle.qc_parse.specs.Rests.{insert_into, update_of};
 
 use crate::cursor::Cursor;
 use crate::halt::Halt;
-use crate::lists::{Member, beside, closed, listed, open_bracket};
+use crate::lists::{Member, beside, followed, listed, listed_in_brackets};
 use crate::literals::{literal, tuple};
 use crate::names::{at_name, ends_value, name, table};
 use crate::select::where_part;
-use qc_sql::statements::{Assignment, Delete, Insert, Right, Statement, Tuple, Update};
+use qc_sql::statements::{Assignment, Delete, Insert, Right, Statement, TableRef, Tuple, Update};
 use qc_types::{Or, Text, Texts};
 use std::alloc::Global;
 
@@ -23,9 +24,7 @@ fn names_part(alloc: Global, cursor: &mut Cursor<'_>) -> Result<Option<Texts>, O
     if !cursor.at_sign(b"(") {
         return Ok(None);
     }
-    open_bracket(alloc, cursor)?;
-    let names = listed::<Text>(alloc, cursor)?;
-    Ok(Some(closed(cursor, names)?))
+    Ok(Some(listed_in_brackets::<Text>(alloc, cursor)?))
 }
 
 #[tactic(auto, unfolding(qc_sql::specs::Grammar::insert))]
@@ -35,8 +34,19 @@ pub fn insert(alloc: Global, cursor: &mut Cursor<'_>) -> Result<Statement, Or<Ha
     cursor.word(b"INSERT")?;
     cursor.word(b"INTO")?;
     let table = table(alloc, cursor)?;
+    insert_into(alloc, cursor, table)
+}
+
+/// The rest of an INSERT, behind its table.
+fn insert_into(
+    alloc: Global,
+    cursor: &mut Cursor<'_>,
+    table: TableRef,
+) -> Result<Statement, Or<Halt>>
+    ensures { Reads (λ x. x) result (unread cursor.new) (insert_into table (unread cursor.old)) }
+{
     let (table, names) = beside(table, names_part(alloc, cursor))?;
-    let (head, ()) = beside((table, names), cursor.word(b"VALUES"))?;
+    let head = followed((table, names), cursor.word(b"VALUES"))?;
     let (head, rows) = beside(head, listed::<Tuple>(alloc, cursor))?;
     let (table, names) = head;
     Ok(Statement::Insert(Insert { table, names, rows }))
@@ -51,8 +61,7 @@ fn right_side(alloc: Global, cursor: &mut Cursor<'_>) -> Result<Right, Or<Halt>>
         return Ok(Right::Literal(literal(alloc, cursor)?));
     }
     let name = name(alloc, cursor)?;
-    ends_value(alloc, cursor)?;
-    Ok(Right::Column(name))
+    followed(Right::Column(name), ends_value(alloc, cursor))
 }
 
 /// `name = right`
@@ -61,8 +70,8 @@ fn assignment(alloc: Global, cursor: &mut Cursor<'_>) -> Result<Assignment, Or<H
     ensures { Reads (λ x. x) result (unread cursor.new) (rule.assignment (unread cursor.old)) }
 {
     let name = name(alloc, cursor)?;
-    cursor.sign(b"=")?;
-    let right = right_side(alloc, cursor)?;
+    let name = followed(name, cursor.sign(b"="))?;
+    let (name, right) = beside(name, right_side(alloc, cursor))?;
     Ok(Assignment { name, right })
 }
 
@@ -72,9 +81,17 @@ pub fn update(alloc: Global, cursor: &mut Cursor<'_>) -> Result<Statement, Or<Ha
 {
     cursor.word(b"UPDATE")?;
     let table = table(alloc, cursor)?;
-    let (table, ()) = beside(table, cursor.word(b"SET"))?;
+    update_of(alloc, cursor, table)
+}
+
+/// The rest of an UPDATE, behind its table.
+fn update_of(alloc: Global, cursor: &mut Cursor<'_>, table: TableRef) -> Result<Statement, Or<Halt>>
+    ensures { Reads (λ x. x) result (unread cursor.new) (update_of table (unread cursor.old)) }
+{
+    let table = followed(table, cursor.word(b"SET"))?;
     let (table, sets) = beside(table, listed::<Assignment>(alloc, cursor))?;
-    let (table, cond) = beside(table, where_part(alloc, cursor))?;
+    let (head, cond) = beside((table, sets), where_part(alloc, cursor))?;
+    let (table, sets) = head;
     Ok(Statement::Update(Update { table, sets, cond }))
 }
 

@@ -5,10 +5,11 @@ ghost use Rattle.qc_sql.specs.declared.statements.Cond.TheVariants as test;
 ghost use Rattle.qc_sql.specs.Reading as meant;
 ghost use Rattle.qc_sql.specs.Grammar as rule;
 ghost use Rattle.qc_parse.specs.Cursors.{unread, Takes, Reads};
+ghost use Rattle.qc_parse.specs.Rests.{compared, listed_or_ranged};
 
 use crate::cursor::Cursor;
 use crate::halt::{Halt, unsupported};
-use crate::lists::{closed, open_bracket};
+use crate::lists::{beside, closed, followed, open_bracket, too_deep};
 use crate::literals::tuple;
 use crate::values::value;
 use qc_lex::{Ahead, Lexeme};
@@ -56,9 +57,9 @@ fn negated(alloc: Global, is_negated: bool, cond: Cond) -> Result<Cond, NoMemory
 fn null_test(alloc: Global, cursor: &mut Cursor<'_>, value: Expr) -> Result<Cond, Or<Halt>>
     ensures { Reads (λ x. x) result (unread cursor.new) (rule.null_test value (unread cursor.old)) }
 {
-    cursor.word(b"IS")?;
+    let value = followed(value, cursor.word(b"IS"))?;
     let is_negated = cursor.passed(b"NOT");
-    cursor.word(b"NULL")?;
+    let value = followed(value, cursor.word(b"NULL"))?;
     Ok(negated(alloc, is_negated, Cond::IsNull(value))?)
 }
 
@@ -67,8 +68,8 @@ fn null_test(alloc: Global, cursor: &mut Cursor<'_>, value: Expr) -> Result<Cond
 fn in_test(alloc: Global, cursor: &mut Cursor<'_>, value: Expr) -> Result<Cond, Or<Halt>>
     ensures { Reads (λ x. x) result (unread cursor.new) (rule.in_test value (unread cursor.old)) }
 {
-    cursor.word(b"IN")?;
-    let values = tuple(alloc, cursor)?;
+    let value = followed(value, cursor.word(b"IN"))?;
+    let (value, values) = beside(value, tuple(alloc, cursor))?;
     Ok(Cond::In(value, values))
 }
 
@@ -81,11 +82,26 @@ fn between_test(
 ) -> Result<Cond, Or<Halt>>
     ensures { Reads (λ x. x) result (unread cursor.new) (rule.between_test (rule.value_at depth false) tested (unread cursor.old)) }
 {
-    cursor.word(b"BETWEEN")?;
-    let low = value(alloc, cursor, depth, false)?;
-    cursor.word(b"AND")?;
-    let high = value(alloc, cursor, depth, false)?;
+    let tested = followed(tested, cursor.word(b"BETWEEN"))?;
+    let (tested, low) = beside(tested, value(alloc, cursor, depth, false))?;
+    let values = followed((tested, low), cursor.word(b"AND"))?;
+    let (values, high) = beside(values, value(alloc, cursor, depth, false))?;
+    let (tested, low) = values;
     Ok(Cond::Between(tested, low, high))
+}
+
+/// The other value of a comparison, behind its sign.
+fn comparison(
+    alloc: Global,
+    cursor: &mut Cursor<'_>,
+    depth: u8,
+    tested: Expr,
+    op: Op,
+) -> Result<Cond, Or<Halt>>
+    ensures { Reads (λ x. x) result (unread cursor.new) (compared (rule.value_at depth false) tested op (unread cursor.old)) }
+{
+    let (tested, other) = beside(tested, value(alloc, cursor, depth, false))?;
+    Ok(Cond::Compare(tested, op, other))
 }
 
 /// What is tested, behind a value: a comparison, IS, IN or BETWEEN.
@@ -99,12 +115,23 @@ fn test_behind(
 {
     if let Some(op) = op_ahead(cursor) {
         cursor.pass();
-        let other = value(alloc, cursor, depth, false)?;
-        return Ok(Cond::Compare(tested, op, other));
+        return comparison(alloc, cursor, depth, tested, op);
     }
     if cursor.at_word(b"IS") {
         return null_test(alloc, cursor, tested);
     }
+    list_or_range_or_not(alloc, cursor, depth, tested)
+}
+
+/// IN or BETWEEN, or NOT and one of them, behind a value.
+fn list_or_range_or_not(
+    alloc: Global,
+    cursor: &mut Cursor<'_>,
+    depth: u8,
+    tested: Expr,
+) -> Result<Cond, Or<Halt>>
+    ensures { Reads (λ x. x) result (unread cursor.new) (listed_or_ranged (rule.value_at depth false) tested (unread cursor.old)) }
+{
     let is_negated = cursor.passed(b"NOT");
     let test = list_or_range(alloc, cursor, depth, tested)?;
     Ok(negated(alloc, is_negated, test)?)
@@ -175,8 +202,7 @@ fn brackets_or_test(alloc: Global, cursor: &mut Cursor<'_>, depth: u8) -> Result
         return test_of_values(alloc, cursor, depth);
     }
     if depth == 0 {
-        cursor.sign(b"(")?;
-        return Err(unsupported(alloc, b"nesting"));
+        return too_deep(alloc, cursor);
     }
     in_brackets(alloc, cursor, depth - 1)
 }

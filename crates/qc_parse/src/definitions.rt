@@ -7,7 +7,7 @@ ghost use Rattle.qc_parse.specs.Cursors.{unread, Takes, Reads};
 
 use crate::cursor::Cursor;
 use crate::halt::{Halt, halted, unsupported};
-use crate::lists::{Member, beside, closed, listed, open_bracket};
+use crate::lists::{Member, beside, closed, followed, listed_in_brackets, open_bracket};
 use crate::names::{name, number, table};
 use crate::words::is_reserved;
 use qc_lex::{Ahead, Lexeme};
@@ -182,11 +182,9 @@ fn create_table(alloc: Global, cursor: &mut Cursor<'_>) -> Result<Statement, Or<
 {
     cursor.word(b"TABLE")?;
     let table = table(alloc, cursor)?;
-    let (table, ()) = beside(table, open_bracket(alloc, cursor))?;
-    let (table, parts) = beside(table, listed::<Part>(alloc, cursor))?;
-    let (table, parts) = closed(cursor, (table, parts))?;
-    let ((table, parts), ()) = beside((table, parts), no_option(alloc, cursor))?;
-    Ok(Statement::CreateTable(table, parts))
+    let (table, parts) = beside(table, listed_in_brackets::<Part>(alloc, cursor))?;
+    let statement = Statement::CreateTable(table, parts);
+    followed(statement, no_option(alloc, cursor))
 }
 
 #[tactic(auto, unfolding(qc_sql::specs::Grammar::create))]

@@ -3,7 +3,9 @@
 ghost use Rattle.std.specs.Prelude.{◌≡◌, Result};
 ghost use Rattle.qc_sql.specs.Reading as meant;
 ghost use Rattle.qc_sql.specs.Reading.{Unread, Stop};
+ghost use Rattle.qc_sql.specs.Grammar as rule;
 ghost use Rattle.qc_parse.specs.Cursors.{unread, Takes, Reads, beside};
+ghost use Rattle.qc_parse.specs.Rests.{followed};
 ghost use Rattle.qc_parse.specs.Shorter.{Shortens};
 
 use crate::cursor::Cursor;
@@ -37,6 +39,18 @@ pub fn listed<T: Member>(alloc: Global, cursor: &mut Cursor<'_>) -> Result<Owned
     Ok(members)
 }
 
+/// One or more in brackets, with a comma between each two.
+pub fn listed_in_brackets<T: Member>(
+    alloc: Global,
+    cursor: &mut Cursor<'_>,
+) -> Result<OwnedList<T>, Or<Halt>>
+    ensures { Reads (λ x. x) result (unread cursor.new) (meant.bracketed (meant.listed T.rule) (unread cursor.old)) }
+{
+    open_bracket(alloc, cursor)?;
+    let members = listed::<T>(alloc, cursor)?;
+    Ok(closed(cursor, members)?)
+}
+
 /// Takes an opening bracket, with no SELECT behind it.
 #[tactic(auto, unfolding(qc_sql::specs::Reading::opened))]
 pub fn open_bracket(alloc: Global, cursor: &mut Cursor<'_>) -> Result<(), Or<Halt>>
@@ -53,8 +67,15 @@ pub fn open_bracket(alloc: Global, cursor: &mut Cursor<'_>) -> Result<(), Or<Hal
 pub fn closed<T: Drop>(cursor: &mut Cursor<'_>, inside: T) -> Result<T, Halt>
     ensures { Takes (λ x. x) result (unread cursor.new) (meant.closes inside (unread cursor.old)) }
 {
-    cursor.sign(b")")?;
-    Ok(inside)
+    followed(inside, cursor.sign(b")"))
+}
+
+/// A bracket that would be one too many open. Always an error.
+pub fn too_deep<T>(alloc: Global, cursor: &mut Cursor<'_>) -> Result<T, Or<Halt>>
+    ensures { Reads (λ x. x) result (unread cursor.new) (rule.too_deep (unread cursor.old)) }
+{
+    cursor.sign(b"(")?;
+    Err(unsupported(alloc, b"nesting"))
 }
 
 /// What was read before, beside what a reader gives now; where it stops, only why.
@@ -63,6 +84,16 @@ pub fn beside<T: Drop, U, E>(before: T, now: Result<U, E>) -> Result<(T, U), E>
 {
     match now {
         Ok(now) => Ok((before, now)),
+        Err(why) => Err(why),
+    }
+}
+
+/// What was read before, where what follows it is there too; where it isn't, only why.
+pub fn followed<T: Drop, E>(before: T, now: Result<(), E>) -> Result<T, E>
+    ensures { result ≡ followed before now }
+{
+    match now {
+        Ok(()) => Ok(before),
         Err(why) => Err(why),
     }
 }

@@ -7,7 +7,7 @@ ghost use Rattle.qc_parse.specs.Cursors.{unread, Takes, Reads};
 
 use crate::cursor::Cursor;
 use crate::halt::{Halt, unsupported};
-use crate::lists::{Member, closed, listed, open_bracket};
+use crate::lists::{Member, followed, listed_in_brackets};
 use crate::names::{at_number, at_text, ends_value, number, text};
 use qc_sql::statements::Values;
 use qc_types::{Or, Value};
@@ -29,8 +29,7 @@ pub fn literal(alloc: Global, cursor: &mut Cursor<'_>) -> Result<Value, Or<Halt>
     ensures { Reads (λ x. x) result (unread cursor.new) (rule.literal (unread cursor.old)) }
 {
     let value = bare_literal(alloc, cursor)?;
-    ends_value(alloc, cursor)?;
-    Ok(value)
+    followed(value, ends_value(alloc, cursor))
 }
 
 /// A literal, whatever stands behind it.
@@ -84,9 +83,7 @@ fn negative(alloc: Global, cursor: &Cursor<'_>, value: u64) -> Result<Value, Or<
 pub fn tuple(alloc: Global, cursor: &mut Cursor<'_>) -> Result<Values, Or<Halt>>
     ensures { Reads (λ x. x) result (unread cursor.new) (rule.tuple (unread cursor.old)) }
 {
-    open_bracket(alloc, cursor)?;
-    let values = listed::<Value>(alloc, cursor)?;
-    Ok(closed(cursor, values)?)
+    listed_in_brackets::<Value>(alloc, cursor)
 }
 
 impl Member for Value {

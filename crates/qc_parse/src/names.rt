@@ -8,6 +8,7 @@ ghost use Rattle.qc_parse.specs.Cursors.{unread, Takes, Reads};
 
 use crate::cursor::Cursor;
 use crate::halt::{Halt, unsupported};
+use crate::lists::{beside, followed};
 use crate::words::is_reserved;
 use qc_lex::{Ahead, Lexeme, quoted_name, quoted_text};
 use qc_sql::statements::{ColumnName, TableRef};
@@ -159,8 +160,8 @@ pub fn dotted(alloc: Global, cursor: &mut Cursor<'_>) -> Result<(Option<Text>, T
     if !cursor.at_sign(b".") {
         return Ok((None, first));
     }
-    cursor.sign(b".")?;
-    let second = name(alloc, cursor)?;
+    let first = followed(first, cursor.sign(b"."))?;
+    let (first, second) = beside(first, name(alloc, cursor))?;
     Ok((Some(first), second))
 }
 
@@ -201,6 +202,5 @@ pub fn column(alloc: Global, cursor: &mut Cursor<'_>) -> Result<ColumnName, Or<H
     ensures { Reads (λ x. x) result (unread cursor.new) (rule.column (unread cursor.old)) }
 {
     let (source, name) = dotted(alloc, cursor)?;
-    ends_value(alloc, cursor)?;
-    Ok(ColumnName { source, name })
+    followed(ColumnName { source, name }, ends_value(alloc, cursor))
 }

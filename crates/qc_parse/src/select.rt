@@ -1,16 +1,17 @@
 //! SELECT.
 
-ghost use Rattle.std.specs.Prelude.{◌≡◌, take, drop, IfOk};
+ghost use Rattle.std.specs.Prelude.{◌≡◌, take, drop, [], ◌∷◌, ◌++◌, option_to_list, IfOk};
 ghost use Rattle.qc_sql.specs.Reading as meant;
 ghost use Rattle.qc_sql.specs.Grammar as rule;
 ghost use Rattle.qc_sql.specs.Grammar.{span_text};
 ghost use Rattle.qc_parse.specs.Cursors.{unread, Takes, Reads};
+ghost use Rattle.qc_parse.specs.Rests.{behind_sources};
 ghost use Rattle.qc_parse.specs.Selects.{joined_view, behind_view};
 
 use crate::conditions::{MOST_OPEN, condition};
 use crate::cursor::Cursor;
 use crate::halt::Halt;
-use crate::lists::{Member, beside, listed};
+use crate::lists::{Member, beside, followed, listed};
 use crate::names::{at_name, column, name, number, table};
 use crate::values::value;
 use qc_lex::Ahead;
@@ -162,8 +163,8 @@ fn further_source(
     }
     join_words(cursor)?;
     let source = source(alloc, cursor)?;
-    cursor.word(b"ON")?;
-    let cond = condition(alloc, cursor)?;
+    let source = followed(source, cursor.word(b"ON"))?;
+    let (source, cond) = beside(source, condition(alloc, cursor))?;
     Ok((source, Some(cond)))
 }
 
@@ -203,7 +204,8 @@ fn joined(
     if most == 0 {
         return too_many(alloc, cursor);
     }
-    let (source, cond) = further_source(alloc, cursor)?;
+    let (so_far, further) = beside(so_far, further_source(alloc, cursor))?;
+    let (source, cond) = further;
     let joined_so_far = with_source(so_far, source, cond)?;
     joined(alloc, cursor, most - 1, joined_so_far)
 }
@@ -212,14 +214,20 @@ fn joined(
 fn with_source(so_far: SoFar, source: Source, cond: Option<Cond>) -> Result<SoFar, NoMemory>
     ensures { IfOk result (λ j. joined_view j ≡ rule.with_source (joined_view so_far) (source, cond)) }
 {
-    let SoFar {
-        mut sources,
-        mut conds,
-    } = so_far;
+    let SoFar { mut sources, conds } = with_cond(so_far, cond)?;
+    sources.push(source)?;
+    Ok(SoFar { sources, conds })
+}
+
+/// One condition more, if there is one.
+fn with_cond(so_far: SoFar, cond: Option<Cond>) -> Result<SoFar, NoMemory>
+    ensures sources { IfOk result (λ j. j.sources ≡ so_far.sources) }
+    ensures conds { IfOk result (λ j. j.conds ≡ so_far.conds ++ option_to_list cond) }
+{
+    let SoFar { sources, mut conds } = so_far;
     if let Some(cond) = cond {
         conds.push(cond)?;
     }
-    sources.push(source)?;
     Ok(SoFar { sources, conds })
 }
 
@@ -341,19 +349,30 @@ fn from(alloc: Global, cursor: &mut Cursor<'_>) -> Result<Behind, Or<Halt>>
     ensures { Reads behind_view result (unread cursor.new) (rule.from (unread cursor.old)) }
 {
     cursor.word(b"FROM")?;
+    let first = source(alloc, cursor)?;
+    let first = only_source(alloc, first)?;
+    let so_far = joined(alloc, cursor, MOST_FURTHER, first)?;
+    behind_sources(alloc, cursor, so_far)
+}
+
+/// The first source, with no condition.
+fn only_source(alloc: Global, source: Source) -> Result<SoFar, NoMemory>
+    ensures { IfOk result (λ j. joined_view j ≡ record { sources = source ∷ []; conds = [] }) }
+{
     let mut sources = Sources::new(alloc);
-    sources.push(source(alloc, cursor)?)?;
+    sources.push(source)?;
     let conds = Conds::new(alloc);
-    let SoFar { sources, mut conds } = joined(
-        alloc,
-        cursor,
-        MOST_FURTHER,
-        SoFar { sources, conds },
-    )?;
-    if let Some(cond) = where_part(alloc, cursor)? {
-        conds.push(cond)?;
-    }
-    let order = order_part(alloc, cursor)?;
+    Ok(SoFar { sources, conds })
+}
+
+/// The condition and the order, behind the sources.
+fn behind_sources(alloc: Global, cursor: &mut Cursor<'_>, so_far: SoFar) -> Result<Behind, Or<Halt>>
+    ensures { Reads behind_view result (unread cursor.new) (behind_sources (joined_view so_far) (unread cursor.old)) }
+{
+    let (so_far, cond) = beside(so_far, where_part(alloc, cursor))?;
+    let so_far = with_cond(so_far, cond)?;
+    let (so_far, order) = beside(so_far, order_part(alloc, cursor))?;
+    let SoFar { sources, conds } = so_far;
     let cond = all_conds(conds);
     Ok(Behind {
         sources,
@@ -416,9 +435,10 @@ pub fn select(alloc: Global, cursor: &mut Cursor<'_>) -> Result<Statement, Or<Ha
     cursor.word(b"SELECT")?;
     let cache = cache_word(cursor)?;
     let (star, items) = items(alloc, cursor)?;
-    let behind = from_part(alloc, cursor)?;
-    let (behind, limit) = beside(behind, limit_part(cursor))?;
-    let (behind, lock) = beside(behind, lock_part(cursor))?;
+    let (items, behind) = beside(items, from_part(alloc, cursor))?;
+    let (parts, limit) = beside((items, behind), limit_part(cursor))?;
+    let (parts, lock) = beside(parts, lock_part(cursor))?;
+    let (items, behind) = parts;
     let Behind {
         sources,
         cond,

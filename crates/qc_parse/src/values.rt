@@ -4,10 +4,11 @@ ghost use Rattle.std.specs.Prelude.{◌≡◌, false};
 ghost use Rattle.qc_sql.specs.Reading as meant;
 ghost use Rattle.qc_sql.specs.Grammar as rule;
 ghost use Rattle.qc_parse.specs.Cursors.{unread, Takes, Reads};
+ghost use Rattle.qc_parse.specs.Rests.{literal_or_column};
 
 use crate::cursor::Cursor;
 use crate::halt::{Halt, unsupported};
-use crate::lists::{closed, open_bracket};
+use crate::lists::{beside, closed, followed, open_bracket, too_deep};
 use crate::literals::{at_literal, literal};
 use crate::names::{any_word, column, ends_value};
 use crate::words::{is_aggregate, is_known_call, is_reserved};
@@ -70,6 +71,16 @@ fn call_word<'a>(
     Ok(word)
 }
 
+/// A literal or a column.
+fn plain_value(alloc: Global, cursor: &mut Cursor<'_>) -> Result<Expr, Or<Halt>>
+    ensures { Reads (λ x. x) result (unread cursor.new) (literal_or_column (unread cursor.old)) }
+{
+    if at_literal(cursor) {
+        return Ok(Expr::Literal(literal(alloc, cursor)?));
+    }
+    Ok(Expr::Column(column(alloc, cursor)?))
+}
+
 /// A value in which at most `depth` calls are open at once; aggregates may stand in it or not.
 #[cycle(values)]
 pub fn value(
@@ -80,15 +91,11 @@ pub fn value(
 ) -> Result<Expr, Or<Halt>>
     ensures { Reads (λ x. x) result (unread cursor.new) (rule.value_at depth aggregates (unread cursor.old)) }
 {
-    if at_literal(cursor) {
-        return Ok(Expr::Literal(literal(alloc, cursor)?));
-    }
-    if !at_call(cursor) {
-        return Ok(Expr::Column(column(alloc, cursor)?));
+    if at_literal(cursor) || !at_call(cursor) {
+        return plain_value(alloc, cursor);
     }
     let value = call(alloc, cursor, depth, aggregates)?;
-    ends_value(alloc, cursor)?;
-    Ok(value)
+    followed(value, ends_value(alloc, cursor))
 }
 
 /// A call, with which at most `depth` are open at once.
@@ -104,8 +111,7 @@ fn call(
 {
     let word = call_word(alloc, cursor, aggregates)?;
     if depth == 0 {
-        cursor.sign(b"(")?;
-        return Err(unsupported(alloc, b"nesting"));
+        return too_deep(alloc, cursor);
     }
     call_behind(alloc, cursor, depth - 1, aggregates, word)
 }
@@ -140,7 +146,7 @@ fn call_behind(
         return Ok(Expr::Max(column_argument(alloc, cursor)?));
     }
     let arguments = arguments(alloc, cursor, depth, aggregates)?;
-    let word = Text::of(alloc, word)?;
+    let (arguments, word) = beside(arguments, Text::of(alloc, word))?;
     Ok(Expr::Call { word, arguments })
 }
 
@@ -193,8 +199,7 @@ fn count(alloc: Global, cursor: &mut Cursor<'_>, depth: u8) -> Result<Expr, Or<H
     open_bracket(alloc, cursor)?;
     if cursor.at_sign(b"*") {
         cursor.sign(b"*")?;
-        cursor.sign(b")")?;
-        return Ok(Expr::CountAll);
+        return Ok(closed(cursor, Expr::CountAll)?);
     }
     let argument = value(alloc, cursor, depth, false)?;
     let argument = closed(cursor, argument)?;

@@ -11,7 +11,7 @@ use crate::changes::{delete, insert, truncate, update};
 use crate::cursor::Cursor;
 use crate::definitions::{at_token, create, dropped};
 use crate::halt::{Halt, halted, unsupported};
-use crate::lists::beside;
+use crate::lists::followed;
 use crate::refusal::ParseRefusal;
 use crate::select::{look, select};
 use crate::settings::{flush, reset, set, show, start_transaction, use_database};
@@ -111,8 +111,7 @@ fn whole(alloc: Global, cursor: &mut Cursor<'_>) -> Result<Statement, Or<Halt>>
     ensures { Reads (λ x. x) result (unread cursor.new) (rule.whole (unread cursor.old)) }
 {
     let statement = any_statement(alloc, cursor)?;
-    let (statement, ()) = beside(statement, at_end(cursor))?;
-    Ok(statement)
+    Ok(followed(statement, at_end(cursor))?)
 }
 
 /// Why nothing goes on with what is next: it may be a word that isn't supported, in a SELECT or not.
