@@ -10,6 +10,8 @@ pub mod Uses
 pub mod Seeking
 pub mod Leaving
 pub mod OwnBlocks
+pub mod Remaining
+pub mod Letting
 pub mod Pruned
 pub mod Pruning
 pub mod Beginning
@@ -18,3 +20,4 @@ pub mod Striking
 pub mod Struck
 pub mod Resting
 pub mod Sweeping
+pub mod Cutting

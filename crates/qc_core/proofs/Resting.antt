@@ -34,30 +34,9 @@ use Rattle.qc_core.specs.Whole.{Named, IsNamedAs, chain_blocks, chain_in, stored
 use Rattle.qc_core.specs.Strikes.{is_of, MayLetGo, MayStrike, MayRest, rested_by, rested}
 use Rattle.qc_core.proofs.Uses.{find_all, serial_at, stored_at, begun_at, few_blocks}
 use Rattle.qc_core.proofs.OwnBlocks.{part_out, chain_count, use_count}
-use Rattle.qc_core.proofs.Pruned.{chain_found}
+use Rattle.qc_core.proofs.Letting.{may_let_go}
 use Rattle.qc_core.proofs.Seating.{is_among}
 use Rattle.qc_core.proofs.Struck.{IsRested, once_each, struck_dir, struck_whole}
-
--- ---- a chain that is let go
-
--- the blocks of a chain are handed out, each once
-pub chain_out : (m : Moment) (names : List Named) (words : List ℕ) (s : Parts) (n number : ℕ) (held : Kept) → IsWhole m names words s → IsNamedAs names n number → Begun number s.chains held → AreHandedOut s.tiles held.blocks
-chain_out m names words s n number held h is begun =
-    let p = plain names s in
-    part_out (region_words s.options) s.tiles held.blocks h.sound.memory.tiles.tiling
-    (λ b. omega (arith, times_permuted b (handed_out s.tiles) (m.held ++ blocks_in_use p) h.sound.memory.tiles.in_use, times_append b m.held (blocks_in_use p), use_count b p, chain_count b n p.chains (chain_in s.chains (record { serial = n; number = number })) h.sound.memory.chains.apart (chain_found s.chains n _ names is), ap (λ o. times b (chain_blocks o)) begun))
-
-pub may_let_go : (m : Moment) (names : List Named) (words : List ℕ) (s : Parts) (n number : ℕ) → IsWhole m names words s → IsNamedAs names n number → MayLetGo number s
-may_let_go m names words s n number h is =
-    let c = begun_at names s n number h.named is in
-    let few = few_blocks m names words s n number c.0 h is c.1 in
-    record {
-      held = c.0;
-      begun = c.1;
-      room = omega (arith, few, h.room.unpinner);
-      tiling = own_tiling (region_words s.options) s.tiles h.sound.memory.tiles.tiling;
-      out = chain_out m names words s n number c.0 h is c.1;
-    }
 
 -- ---- what is listed for the seat
 

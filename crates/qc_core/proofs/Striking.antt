@@ -37,7 +37,7 @@ use Rattle.qc_core.proofs.Pinning.{unpinned_all}
 use Rattle.qc_core.proofs.Seating.{distinct_parts, none_other}
 use Rattle.qc_core.proofs.Uses.{find_all, all_members}
 use Rattle.qc_core.proofs.OwnBlocks.{not_both, chain_count, use_count, times_there, there_times}
-use Rattle.qc_core.proofs.Pruned.{chain_found, tasks_in}
+use Rattle.qc_core.proofs.Remaining.{chain_found, tasks_in}
 
 -- ---- the tasks
 
@@ -156,7 +156,7 @@ texts_left : (n : ℕ) (es : List StoredEntry) → map (λ e. e.text) (left_by_u
 texts_left n [] = refl
 texts_left n (e ∷ es) = elim (is_stored n e) as (λ b. (cond b (used_less e) e).text ∷ map (λ e. e.text) (left_by_user n es) ≡ e.text ∷ map (λ e. e.text) es) [ true ↦ ap (λ l. e.text ∷ l) (texts_left n es) | false ↦ ap (λ l. e.text ∷ l) (texts_left n es) ]
 
-all_pass : (q : ℕ → Bool) (cs : List EntryChain) → AllByRecursion (λ c. q c.serial ≡ true) cs → filter (λ c. q c.serial) cs ≡ cs
+pub all_pass : (q : ℕ → Bool) (cs : List EntryChain) → AllByRecursion (λ c. q c.serial ≡ true) cs → filter (λ c. q c.serial) cs ≡ cs
 all_pass q [] h = refl
 all_pass q (c ∷ cs) h = ap (λ b. cond b (c ∷ filter (λ c. q c.serial) cs) (filter (λ c. q c.serial) cs)) h.0 ∙ ap (λ l. c ∷ l) (all_pass q cs h.1)
 
@@ -168,7 +168,7 @@ one_passes q n [] a h = tt
 one_passes q n (c ∷ cs) a h = (elim (eqb c.serial n) as (λ v. eqb c.serial n ≡ v → q c.serial ≡ not v) [ true ↦ λ e. ap q (eqb-true c.serial n e) ∙ a | false ↦ λ e. h.0 (swap_false n c.serial e) ] refl, one_passes q n cs a h.1)
 
 -- what one of a list has, where another test says so of all others
-each_passes : (q : ℕ → Bool) (n : ℕ) (cs : List EntryChain) → q n ≡ true → AllByRecursion (λ c. eqb n c.serial ≡ false → q c.serial ≡ true) cs → AllByRecursion (λ c. q c.serial ≡ true) cs
+pub each_passes : (q : ℕ → Bool) (n : ℕ) (cs : List EntryChain) → q n ≡ true → AllByRecursion (λ c. eqb n c.serial ≡ false → q c.serial ≡ true) cs → AllByRecursion (λ c. q c.serial ≡ true) cs
 each_passes q n [] a h = tt
 each_passes q n (c ∷ cs) a h = (elim (eqb n c.serial) as (λ v. eqb n c.serial ≡ v → q c.serial ≡ true) [ true ↦ λ e. ap q (sym (eqb-true n c.serial e)) ∙ a | false ↦ λ e. h.0 e ] refl, each_passes q n cs a h.1)
 

@@ -26,7 +26,7 @@ use Rattle.qc_core.specs.Strikes.{others, is_on, without_task_of, with_user_less
 use Rattle.qc_core.specs.KeptLaws.{tasks_same}
 use Rattle.qc_core.proofs.Seating.{all_less, found_less}
 use Rattle.qc_core.proofs.Uses.{find_all}
-use Rattle.qc_core.proofs.Pruned.{works_named, without_name, differ, IsOther, stored_same, chains_left, begun_left, distinct_less, named_else}
+use Rattle.qc_core.proofs.Remaining.{works_named, without_name, differ, IsOther, stored_same, chains_left, begun_left, distinct_less, named_else}
 use Rattle.qc_core.proofs.Striking.{others_in, any_in, left_in, all_left, left_length, there_in, named_n, found, chains_stay, q_at, tiles_kept, tiles_unpinned, tiles_released, wanted_else}
 
 -- ---- what is done with the chain, where it is known

@@ -7,8 +7,9 @@ pub mod Calls
 pub mod Hits
 pub mod KeptLaws
 pub mod Spelled
+pub mod Strikes
 pub mod Leaves
 pub mod Prunes
-pub mod Strikes
 pub mod Sweeps
 pub mod Statuses
+pub mod Cuts
