@@ -1,6 +1,6 @@
 //! The database.
 
-ghost use Rattle.std.specs.Prelude.{◌≡◌, true, is_some, option_copied, IfOk, OnErr};
+ghost use Rattle.std.specs.Prelude.{◌≡◌, true, is_some, length, option_copied, option_map, IfOk, OnErr};
 ghost use Rattle.qc_types.specs.Answers.{Gives};
 ghost use Rattle.qc_sql.specs.Database.{apply, empty_database, table_of, tables_of};
 ghost use Rattle.qc_sql.specs.Order.{IsOrdered};
@@ -83,6 +83,14 @@ impl Database {
     {
         let tables = self.databases.get(name.db.bytes())?;
         tables.get(name.name.bytes())
+    }
+
+    /// How many tables a database has, where there is one of that name. Costs the logarithm of how many databases there are.
+    pub fn table_count(&self, db: &[u8]) -> Option<u64>
+        ensures { result ≡ option_map length (tables_of db.now self.now) }
+    {
+        let tables = self.databases.get(db)?;
+        Some(tables.len())
     }
 
     /// The name of the table with this index in the database, by rising name, from 0. `None` where there is no such database, or no more tables.

@@ -1,6 +1,6 @@
 //! Maps from names.
 
-ghost use Rattle.std.specs.Prelude.{◌≡◌, [], OnOk, OnErr, option_copied};
+ghost use Rattle.std.specs.Prelude.{◌≡◌, [], length, OnOk, OnErr, option_copied};
 ghost use Rattle.std.specs.Option.{option_copied_mut};
 ghost use Rattle.std.specs.Borrow.{sem};
 ghost use Rattle.std.specs.BTreeMap.{insert_entry, is_at};
@@ -47,6 +47,13 @@ impl<V: Drop> NameMap<V> {
         ensures { IsStrictlySortedBy name_cmp (keys_of self.now) }
     {
         let _ = self.held.len();
+    }
+
+    /// How many names it has. Constant time.
+    pub(crate) fn len(&self) -> u64
+        ensures { result ≡ length self.now }
+    {
+        self.held.len() as u64
     }
 
     /// The name at an index, by rising name. Linear in the index.

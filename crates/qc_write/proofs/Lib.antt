@@ -1,4 +1,3 @@
-pub mod Counts
 pub mod Dels
 pub mod Inserts
 pub mod KeptEntries

@@ -11,7 +11,7 @@ ghost use Rattle.qc_write.specs.Targets.{absent};
 ghost use Rattle.qc_write.specs.Parts.{column_of, columns_of, names_of, kind_of, is_bad, is_bad_column, missing, columns_checked, columns_validated};
 
 use crate::outcome::Effect;
-use crate::target::check_database;
+use qc_resolve::check_database;
 use qc_sql::errors::{
     duplicate_column, no_key_column, not_supported, table_exists, too_many_columns,
 };

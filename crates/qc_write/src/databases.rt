@@ -1,6 +1,6 @@
 //! CREATE DATABASE and DROP DATABASE.
 
-ghost use Rattle.std.specs.Prelude.{◌≡◌, length, true, is_some, option_map, IfOk, Some};
+ghost use Rattle.std.specs.Prelude.{◌≡◌};
 ghost use Rattle.qc_types.specs.Answers.{Gives};
 ghost use Rattle.qc_sql.specs.Database.{tables_of};
 ghost use Rattle.qc_sql.specs.Effects as meant;
@@ -9,7 +9,7 @@ use crate::outcome::Effect;
 use qc_sql::errors::{database_exists, no_database_to_drop};
 use qc_sql::tables::RowOp;
 use qc_table::Database;
-use qc_types::{NoMemory, Or, SqlError, Text};
+use qc_types::{Or, SqlError, Text};
 use std::alloc::Global;
 
 /// What CREATE DATABASE does: one operation, and one row affected. Refused with 1007 where the database is there. Costs the logarithm of how many
@@ -29,7 +29,7 @@ pub(crate) fn create_db_effect(
 }
 
 /// What DROP DATABASE does: one operation, and as many rows affected as the database has tables. Refused with 1008 where there is no such database.
-/// Costs the number of its tables times the logarithm of how many databases there are.
+/// Costs the logarithm of how many databases there are.
 pub(crate) fn drop_db_effect(
     alloc: Global,
     database: &Database,
@@ -37,23 +37,9 @@ pub(crate) fn drop_db_effect(
 ) -> Result<Effect, Or<SqlError>>
     ensures { Gives (λ e. e) (λ e. e) result (meant.drop_db_of name.now (tables_of name.now database.now)) }
 {
-    if !database.has_db(name.bytes()) {
+    let Some(affected) = database.table_count(name.bytes()) else {
         return Err(Or::Other(no_database_to_drop(alloc, name.bytes())?));
-    }
-    let affected = table_count(database, name.bytes())?;
+    };
     let op = RowOp::DropDb(name.copy(alloc)?);
     Ok(Effect::of_one(alloc, op, affected)?)
-}
-
-/// How many tables a database has. Memory can't hold so many that 64 bits don't count them, so that this is said to lack then.
-fn table_count(database: &Database, name: &[u8]) -> Result<u64, NoMemory>
-    requires { is_some (tables_of name.now database.now) ≡ true }
-    ensures { IfOk result (λ n. Some n ≡ option_map length (tables_of name.now database.now)) }
-{
-    for count in 0..u64::MAX {
-        if database.table_at(name, count).is_none() {
-            return Ok(count);
-        }
-    }
-    Err(NoMemory)
 }

@@ -46,8 +46,5 @@ fn delete_from<L: Ledger>(
     let version = target.version;
     let rows = matching_rows(alloc, &target.name, version, cond, db, session, steps)?;
     let ops = del_rows(alloc, target, rows.items(), steps)?;
-    Ok(Effect {
-        affected: ops.items().len() as u64,
-        ops,
-    })
+    Ok(Effect::of_rows(ops))
 }

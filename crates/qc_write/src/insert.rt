@@ -55,8 +55,7 @@ fn insert_into<L: Ledger>(
     let columns = target.version.columns().items();
     let shape = shape_of(alloc, columns, &insert.names)?;
     let ops = put_rows(alloc, target, &shape, insert.rows.items(), steps)?;
-    let affected = ops.items().len() as u64;
-    Ok(Effect { ops, affected })
+    Ok(Effect::of_rows(ops))
 }
 
 /// A Put for each tuple, or the first refusal.

@@ -1,6 +1,6 @@
 //! What a statement that changes something does.
 
-ghost use Rattle.std.specs.Prelude.{◌≡◌, [], ◌∷◌, IfOk};
+ghost use Rattle.std.specs.Prelude.{◌≡◌, [], ◌∷◌, length, IfOk};
 ghost use Rattle.qc_sql.specs.Effects.{effect_of};
 
 use qc_sql::tables::{Ops, RowOp};
@@ -24,6 +24,16 @@ impl Model for Effect {
 }
 
 impl Effect {
+    /// The effect of operations each of which is a row that is affected.
+    pub(crate) fn of_rows(ops: Ops) -> Effect
+        ensures { result ≡ effect_of ops (length ops) }
+    {
+        Effect {
+            affected: ops.items().len() as u64,
+            ops,
+        }
+    }
+
     /// The effect of one operation alone.
     pub(crate) fn of_one(alloc: Global, op: RowOp, affected: u64) -> Result<Effect, NoMemory>
         ensures { IfOk result (λ e. e ≡ effect_of (op ∷ []) affected) }

@@ -4,7 +4,8 @@ ghost use Rattle.qc_types.specs.Answers.{Gives};
 ghost use Rattle.qc_sql.specs.Effects as meant;
 
 use crate::outcome::Effect;
-use crate::target::{bind_target, check_database};
+use crate::target::bind_target;
+use qc_resolve::check_database;
 use qc_sql::errors::unknown_table;
 use qc_sql::names::full_name;
 use qc_sql::statements::TableRef;

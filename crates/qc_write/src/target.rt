@@ -2,12 +2,12 @@
 
 ghost use Rattle.std.specs.Prelude.{◌≡◌, IfOk};
 ghost use Rattle.qc_types.specs.Answers.{Gives};
-ghost use Rattle.qc_sql.specs.Effects as meant;
 ghost use Rattle.qc_sql.specs.Rules as rules;
 ghost use Rattle.qc_table.specs.Tables.{IsSound};
 ghost use Rattle.qc_write.specs.Targets.{bound_of, target_in};
 
-use qc_sql::errors::{no_database_selected, no_such_table, unknown_database};
+use qc_resolve::check_database;
+use qc_sql::errors::no_such_table;
 use qc_sql::names::full_name;
 use qc_sql::statements::TableRef;
 use qc_table::{Database, TableVersion};
@@ -41,21 +41,4 @@ pub(crate) fn bind_target<'a>(
     // says that the table is sound
     let _columns = version.columns();
     Ok(Target { name, version })
-}
-
-/// Refuses a table where no database is named or current (1046), and where the database isn't there (1049).
-pub(crate) fn check_database(
-    alloc: Global,
-    database: &Database,
-    name: &TableName,
-) -> Result<(), Or<SqlError>>
-    ensures { Gives (λ _. tt) (λ e. e) result (meant.known_database database.now name.now) }
-{
-    if name.db.bytes().is_empty() {
-        return Err(Or::Other(no_database_selected(alloc)?));
-    }
-    if !database.has_db(name.db.bytes()) {
-        return Err(Or::Other(unknown_database(alloc, name.db.bytes())?));
-    }
-    Ok(())
 }

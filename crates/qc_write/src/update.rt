@@ -51,8 +51,5 @@ fn update_in<L: Ledger>(
     let cond = &update.cond;
     let rows = matching_rows(alloc, &target.name, version, cond, db, session, steps)?;
     let ops = put_rows(alloc, target, &sets, rows.items(), steps)?;
-    Ok(Effect {
-        affected: ops.items().len() as u64,
-        ops,
-    })
+    Ok(Effect::of_rows(ops))
 }

@@ -16,4 +16,4 @@ returns g c =
     let ops = c.in_ok-ops.ops in
     rows_gone b c.args.db.now c.args.session c.args.cond.now c.in_ok-rows.rows ops c.in_ok-rows.ensures.gives
     (c.in_ok-ops.ensures ∙ ap (map (λ i. del_of b.name (entry_at b.table.rows i))) c.items.ensures)
-    ∙ ap (λ (os : List RowOp). Ok (effect_of ops (length os))) (sym c.items-2.ensures)
+    ∙ ap (λ (e : Effect). Ok e) (sym c.of_rows.ensures)

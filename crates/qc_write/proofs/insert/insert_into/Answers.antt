@@ -58,4 +58,4 @@ returns g c =
     let put : rows_validated b named insert.rows ≡ Ok ops = ap (rows_validated b named) (sym c.items.ensures) ∙ c.in_ok-ops.ensures in
     ap (λ (r : Result (List Column) SqlError). r >>= of_named b insert) shaped
     ∙ ap (λ (r : Result (List RowOp) SqlError). r >>= λ os. Ok (effect_of os (length os))) put
-    ∙ ap (λ (n : ℕ). Ok (effect_of ops n)) (ap length (sym c.items-2.ensures))
+    ∙ ap (λ (e : Effect). Ok e) (sym c.of_rows.ensures)

@@ -77,4 +77,4 @@ returns g c =
     rows_changed b c.args.db.now c.args.session update (map placing_of c.in_ok-sets.sets.items)
     (same_sets c.items.result.now b.table.columns c.items-2.result.now update.sets (c.items.ensures ∙ c.columns.ensures.value) c.items-2.ensures ∙ c.in_ok-sets.ensures) c.in_ok-rows.rows ops c.in_ok-rows.ensures.gives
     (same_run b.name b.table.rows c.deref.result.now c.in_ok-sets.sets.items c.items-3.result.now c.in_ok-rows.rows c.deref.ensures.value c.items-3.ensures ∙ c.in_ok-ops.ensures)
-    ∙ ap (λ (os : List RowOp). Ok (effect_of ops (length os))) (sym c.items-4.ensures)
+    ∙ ap (λ (e : Effect). Ok e) (sym c.of_rows.ensures)
