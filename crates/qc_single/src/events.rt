@@ -8,8 +8,10 @@ ghost use Rattle.qc_model.specs.Licence.{MayRun};
 ghost use Rattle.qc_model.specs.Machine as machine;
 ghost use Rattle.qc_model.specs.Machine.{committed, other};
 ghost use Rattle.qc_model.specs.Agrees as agrees;
+ghost use Rattle.qc_single.specs.Entries.{untouched};
 ghost use Rattle.qc_single.specs.Sound.{next_who, is_quiet, MayFollow};
 
+use crate::applied::change;
 use crate::replies::{error_reply, ok_reply};
 use crate::session::{ONLY_SESSION, Session};
 use qc_journal::{Event, How, Who};
@@ -59,8 +61,36 @@ impl Session {
             return self.run(How::Other, reply);
         }
         let who = self.next_who();
-        self.entries.remove_touched(ops.items());
         self.database = database;
+        self.log_commit(who, ops, reply)
+    }
+
+    /// The same where the database is still without them: they are carried out on it where it stands. Costs what `Database::change` costs.
+    pub(crate) fn commit_in_place(
+        &mut self,
+        alloc: Global,
+        ops: Ops,
+        reply: Text,
+    ) -> Result<(), NoMemory>
+        requires fit { IsFit self.old }
+        requires ended { self.old.state.origin ≡ None }
+        requires good { MayFollow ops self.old.database }
+        ensures { OnOk result (Logs self.old self.new (committed (next_who self.old.journal.events) ops) reply) }
+    {
+        if ops.items().is_empty() {
+            return self.run(How::Other, reply);
+        }
+        let who = self.next_who();
+        change(alloc, &mut self.database, &ops)?;
+        self.log_commit(who, ops, reply)
+    }
+
+    /// The event of a commit and its line. Entries that use a table which its operations touch are removed.
+    fn log_commit(&mut self, who: Who, ops: Ops, reply: Text) -> Result<(), NoMemory>
+        requires { self.old.number ≤ length self.old.journal.events + 1 }
+        ensures { OnOk result (Adds (record self.old { entries = untouched ops self.old.entries }) self.new (event.Commit who ops) reply) }
+    {
+        self.entries.remove_touched(ops.items());
         self.log(Event::Commit { who, ops }, reply)
     }
 

@@ -2,7 +2,9 @@
 
 ghost use Rattle.std.specs.Prelude.{◌≡◌, ◌⊎◌, ◌+◌, ◌<◌, [], true, None, Ok, IsSome, OnOk};
 ghost use Rattle.qc_sql.specs.declared.statements.Statement.TheVariants as statement;
+ghost use Rattle.qc_types.specs.Answers.{Gives};
 ghost use Rattle.qc_sql.specs.Database.{apply};
+ghost use Rattle.qc_sql.specs.Effects as meant;
 ghost use Rattle.qc_laws.specs.sizes.Names.{is_short_statement};
 ghost use Rattle.qc_model.specs.Session.{base};
 ghost use Rattle.qc_model.specs.Machine.{changed_rows, full_table};
@@ -10,13 +12,12 @@ ghost use Rattle.qc_trx.specs.SnapshotStates.{MayAdd, added, seen_on};
 ghost use Rattle.qc_single.specs.Stage.{changes_rows};
 ghost use Rattle.qc_single.specs.Sound.{next_who, AreOwn};
 
-use crate::applied::applied;
 use crate::replies::ok_reply;
 use crate::session::{ONLY_SESSION, Session};
 use qc_journal::How;
 use qc_sql::statements::Statement;
 use qc_sql::tables::Ops;
-use qc_types::{NoMemory, Or, Steps};
+use qc_types::{NoMemory, Or, SqlError, Steps};
 use qc_write::{Effect, effect};
 use std::alloc::Global;
 use std::sync::ledger::Ledger;
@@ -53,19 +54,33 @@ impl Session {
         requires short { is_short_statement statement.now ≡ true }
         ensures { OnOk result (GivesOut self.old self.new (rows_given self.old.journal.events self.old.state.state statement.now)) }
     {
+        match self.effect_on_view(alloc, statement, steps) {
+            Ok(effect) => self.keep(alloc, effect),
+            Err(Or::Other(error)) => self.log_error(alloc, &error),
+            Err(Or::Memory) => Err(NoMemory),
+        }
+    }
+
+    /// What a statement that changes rows does on the database that it sees. The share of that database ends here, so that a commit can change it in place.
+    fn effect_on_view<L: Ledger>(
+        &self,
+        alloc: Global,
+        statement: &Statement,
+        steps: &mut Steps<L>,
+    ) -> Result<Effect, Or<SqlError>>
+        requires fit { IsFit self.now }
+        requires rows { changes_rows statement.now ≡ true }
+        ensures { Gives (λ e. e) (λ e. e) result (meant.effect statement.now (base self.now.state.state self.now.journal.events) self.now.state.state.db self.now.state.state.session) }
+    {
         let view = self.state.view(&self.database)?;
-        match effect(
+        effect(
             alloc,
             statement,
             &view,
             self.state.db(),
             ONLY_SESSION,
             steps,
-        ) {
-            Ok(effect) => self.keep(alloc, effect),
-            Err(Or::Other(error)) => self.log_error(alloc, &error),
-            Err(Or::Memory) => Err(NoMemory),
-        }
+        )
     }
 
     /// A statement on rows has arrived: with autocommit off it opens a transaction, and the first of a transaction takes the snapshot.
@@ -92,8 +107,7 @@ impl Session {
             self.add(alloc, ops)?;
             return self.run(How::Other, reply);
         }
-        let database = applied(alloc, &self.database, &ops)?;
-        self.commit_ops(ops, database, reply)
+        self.commit_in_place(alloc, ops, reply)
     }
 
     /// Adds operations to the transaction's own. A statement is refused where a table would be too full, so they have room.
