@@ -59,7 +59,7 @@ stored_serials : (cs : Chained) (es : List Entry) → map (λ e. e.serial) (map 
 stored_serials cs [] = refl
 stored_serials cs (x ∷ es) = ap (λ l. x.serial ∷ l) (stored_serials cs es)
 
-filter_passes : (q : ℕ → Bool) (cs : List EntryChain) → AllByRecursion (λ c. q c.serial ≡ true) (filter (λ c. q c.serial) cs)
+pub filter_passes : (q : ℕ → Bool) (cs : List EntryChain) → AllByRecursion (λ c. q c.serial ≡ true) (filter (λ c. q c.serial) cs)
 filter_passes q [] = tt
 filter_passes q (c ∷ cs) = elim (q c.serial) as (λ b. q c.serial ≡ b → AllByRecursion (λ c. q c.serial ≡ true) (cond b (c ∷ filter (λ c. q c.serial) cs) (filter (λ c. q c.serial) cs))) [
   | true ↦ λ e. (e, filter_passes q cs)

@@ -63,7 +63,7 @@ pub record HasTask (n : ℕ) (ws : List RunningTask) (t : Task) : Type 0 where
   pub at : find (is_of n) ws ≡ Some work
   pub task : work.task ≡ t
 
-one_of : (cs : Chained) (n : ℕ) (ws : List RunningTask) (t : ListedTask) → listed_for n (map (listed_in cs) ws) ≡ t ∷ [] → HasTask n ws t.task
+pub one_of : (cs : Chained) (n : ℕ) (ws : List RunningTask) (t : ListedTask) → listed_for n (map (listed_in cs) ws) ≡ t ∷ [] → HasTask n ws t.task
 one_of cs n [] t h = absurd cc
 one_of cs n (w ∷ ws) t h = elim (w.seat == n) as (λ b. (w.seat == n) ≡ b → cond b (listed_in cs w ∷ listed_for n (map (listed_in cs) ws)) (listed_for n (map (listed_in cs) ws)) ≡ t ∷ [] → HasTask n (w ∷ ws) t.task) [
   | true ↦ λ e k. record { work = w; at = ap (λ b. cond b (Some w) (find (is_of n) ws)) e; task = ap (λ (x : ListedTask). x.task) (head_same (listed_in cs w) t (listed_for n (map (listed_in cs) ws)) [] k) }
@@ -96,16 +96,16 @@ module _ (m : Moment) (names : List Named) (words : List ℕ) (s : Parts) (seat 
   pub may_strike : (n : ℕ) → HasTask seat s.tasks.items (task.Stream n) → MayStrike seat s
   may_strike n t =
       let named = subst (λ o. IfSome o (λ k. IsNamedAs names k t.work.chain.number)) (ap serial_of t.task) (find_all (λ w. IfSome (serial_of w.task) (λ k. IsNamedAs names k w.chain.number)) (is_of seat) s.tasks.items t.work h.named.tasks t.at) in
-      record { work = t.work; serial = n; at = t.at; stream = t.task; used = has_user n t.work t.at t.task; chain = may_let_go m names words s n t.work.chain.number h named }
+      record { work = t.work; serial = n; at = t.at; ends = inl t.task; used = has_user n t.work t.at t.task; chain = may_let_go m names words s n t.work.chain.number h named }
 
   -- a stream of the seat that has ended is struck off
-  pub may_strike_listed : IsEnded seat (listed_for seat (tasks_of s)) → MayStrike seat s
+  may_strike_listed : IsEnded seat (listed_for seat (tasks_of s)) → MayStrike seat s
   may_strike_listed e = may_strike e.0 (one_of s.chains seat s.tasks.items _ e.2)
 
   pub may_rest : IsListed seat task.Rest [] (listed_for seat (tasks_of s)) → MayRest seat s
   may_rest listed = record {
     once = once_each m names words s h;
-    stream = ⊎_elim (λ (e : listed_for seat (tasks_of s) ≡ []). inl (none_of s.chains seat s.tasks.items e)) (λ (e : (task.Rest ≡ task.Rest) × IsEnded seat (listed_for seat (tasks_of s))). inr (may_strike_listed e.1)) listed;
+    task = ⊎_elim (λ (e : listed_for seat (tasks_of s) ≡ []). inl (none_of s.chains seat s.tasks.items e)) (λ (e : (task.Rest ≡ task.Rest) × IsEnded seat (listed_for seat (tasks_of s))). inr (may_strike_listed e.1)) listed;
   }
 
   -- the directory after the call is valid, whichever way it went
@@ -113,7 +113,7 @@ module _ (m : Moment) (names : List Named) (words : List ℕ) (s : Parts) (seat 
   rested_whole r valid = ⊎_elim
       (λ (e : find (is_of seat) s.tasks.items ≡ None). subst (IsRested m words seat s) (sym (ap (λ o. rested_by seat o s) e)) (record { under = names; whole = h; rests = none_for s.chains seat s.tasks.items e; listed = λ k ne. refl; journal = refl; options = refl; connected = refl }))
       (λ (u : MayStrike seat s). struck_whole m names words s seat h u (subst IsDirectory (struck_dir seat s u) valid))
-      r.stream
+      r.task
 
 -- ---- for the lock
 
