@@ -21,3 +21,4 @@ pub mod Struck
 pub mod Resting
 pub mod Sweeping
 pub mod Cutting
+pub mod GivingUp

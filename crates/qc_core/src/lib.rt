@@ -3,6 +3,7 @@
 
 mod begins;
 mod counted;
+mod ends;
 mod hits;
 mod keys;
 mod leaves;
