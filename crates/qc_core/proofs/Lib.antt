@@ -22,3 +22,5 @@ pub mod Resting
 pub mod Sweeping
 pub mod Cutting
 pub mod GivingUp
+pub mod Overtaking
+pub mod Filling

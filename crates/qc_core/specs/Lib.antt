@@ -14,3 +14,4 @@ pub mod Sweeps
 pub mod Statuses
 pub mod Cuts
 pub mod Ends
+pub mod Overtaken
