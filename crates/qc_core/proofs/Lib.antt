@@ -21,3 +21,6 @@ pub mod Struck
 pub mod Resting
 pub mod Sweeping
 pub mod Cutting
+pub mod GivingUp
+pub mod Overtaking
+pub mod Filling

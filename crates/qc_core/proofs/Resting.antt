@@ -1,17 +1,13 @@
 -- A seat that rests: what may be struck off, and what the lock sees of it.
-use Rattle.std.proofs.Common.{◌≡◌, ◌≢◌, ℕ, zero, suc, ◌-◌, ◌<◌, eq-eqb, ne_eqb, Bool, true, false, cond, List, [], ◌∷◌, ◌++◌, map, refl, sym, ap, subst, ◌∙◌, arith, true≢false, inl, inr, ⊎_elim, append-nil}
+use Rattle.std.proofs.Common.{◌≡◌, ◌≢◌, ℕ, zero, suc, ◌-◌, ◌<◌, eq-eqb, ne_eqb, Bool, true, false, cond, List, [], ◌∷◌, map, refl, sym, ap, subst, ◌∙◌, arith, true≢false, inl, inr, ⊎_elim, append-nil}
 use Rattle.std.specs.Prelude.{not, ◌==◌, Option, Some, None, IfSome, find, slice_get, count_by, IsSomeAnd}
 use Rattle.std.specs.List.{list_any}
 use Rattle.std.proofs.lemmas.List.Sums.{sum_by-cons}
 use Rattle.std.proofs.lemmas.Option.{none-some, same_Some}
 use Rattle.qc_key.specs.Hash.{hash}
-use Rattle.qc_model.specs.Licence.{region_words}
 use Rattle.qc_laws.specs.history.Runs.{are_distinct}
 use Rattle.qc_laws.proofs.history.Serials.{neither, both_true, opposite}
-use Rattle.qc_tiles.specs.Tiles.{handed_out}
-use Rattle.qc_tiles.proofs.Calls.{own_tiling}
-use Rattle.qc_chain.specs.Chains.{Chained, Begun, AreHandedOut}
-use Rattle.qc_chain.specs.Chains.{Chain as Kept}
+use Rattle.qc_chain.specs.Chains.{Chained}
 use Rattle.qc_dir.specs.declared.entries.Entry.{Entry}
 use Rattle.qc_dir.specs.Directory.{IsDirectory, entry_at, after_leave}
 use Rattle.qc_turn.specs.declared.task.ListedTask.{ListedTask}
@@ -24,17 +20,15 @@ use Rattle.qc_turn.specs.Views.{of_seat}
 use Rattle.qc_turn.specs.Releases.{Follows}
 use Rattle.qc_sound.specs.PlainServer.{SeatTask, serial_of, is_stored}
 use Rattle.qc_sound.specs.Moment.{Moment, at_rest}
-use Rattle.qc_sound.specs.parts.Memory.{blocks_in_use}
 use Rattle.qc_sound.specs.parts.Tasks.{is_stream_of}
-use Rattle.qc_sound.proofs.Handed.{times, times_append, times_permuted}
 use Rattle.qc_core.specs.declared.parts.RunningTask.{RunningTask}
 use Rattle.qc_core.specs.declared.parts.Parts.{Parts}
 use Rattle.qc_core.specs.contracts.server.ServerKept.TheImpl.{ghosts}
-use Rattle.qc_core.specs.Whole.{Named, IsNamedAs, chain_blocks, chain_in, stored, work_in, listed_in, plain, tasks_of, IsWhole, Sound}
-use Rattle.qc_core.specs.Strikes.{is_of, MayLetGo, MayStrike, MayRest, rested_by, rested}
-use Rattle.qc_core.proofs.Uses.{find_all, serial_at, stored_at, begun_at, few_blocks}
-use Rattle.qc_core.proofs.OwnBlocks.{part_out, chain_count, use_count}
+use Rattle.qc_core.specs.Whole.{Named, IsNamedAs, stored, work_in, listed_in, plain, tasks_of, IsWhole, Sound}
+use Rattle.qc_core.specs.Strikes.{is_of, MayStrike, MayRest, rested_by, rested}
+use Rattle.qc_core.proofs.Uses.{find_all, serial_at, stored_at}
 use Rattle.qc_core.proofs.Letting.{may_let_go}
+use Rattle.qc_core.proofs.Cutting.{whole_blocks}
 use Rattle.qc_core.proofs.Seating.{is_among}
 use Rattle.qc_core.proofs.Struck.{IsRested, once_each, struck_dir, struck_whole}
 
@@ -63,7 +57,7 @@ pub record HasTask (n : ℕ) (ws : List RunningTask) (t : Task) : Type 0 where
   pub at : find (is_of n) ws ≡ Some work
   pub task : work.task ≡ t
 
-one_of : (cs : Chained) (n : ℕ) (ws : List RunningTask) (t : ListedTask) → listed_for n (map (listed_in cs) ws) ≡ t ∷ [] → HasTask n ws t.task
+pub one_of : (cs : Chained) (n : ℕ) (ws : List RunningTask) (t : ListedTask) → listed_for n (map (listed_in cs) ws) ≡ t ∷ [] → HasTask n ws t.task
 one_of cs n [] t h = absurd cc
 one_of cs n (w ∷ ws) t h = elim (w.seat == n) as (λ b. (w.seat == n) ≡ b → cond b (listed_in cs w ∷ listed_for n (map (listed_in cs) ws)) (listed_for n (map (listed_in cs) ws)) ≡ t ∷ [] → HasTask n (w ∷ ws) t.task) [
   | true ↦ λ e k. record { work = w; at = ap (λ b. cond b (Some w) (find (is_of n) ws)) e; task = ap (λ (x : ListedTask). x.task) (head_same (listed_in cs w) t (listed_for n (map (listed_in cs) ws)) [] k) }
@@ -96,16 +90,16 @@ module _ (m : Moment) (names : List Named) (words : List ℕ) (s : Parts) (seat 
   pub may_strike : (n : ℕ) → HasTask seat s.tasks.items (task.Stream n) → MayStrike seat s
   may_strike n t =
       let named = subst (λ o. IfSome o (λ k. IsNamedAs names k t.work.chain.number)) (ap serial_of t.task) (find_all (λ w. IfSome (serial_of w.task) (λ k. IsNamedAs names k w.chain.number)) (is_of seat) s.tasks.items t.work h.named.tasks t.at) in
-      record { work = t.work; serial = n; at = t.at; stream = t.task; used = has_user n t.work t.at t.task; chain = may_let_go m names words s n t.work.chain.number h named }
+      record { work = t.work; serial = n; at = t.at; ends = inl t.task; used = has_user n t.work t.at t.task; chain = may_let_go m names s n t.work.chain.number (whole_blocks m names words s h) named }
 
   -- a stream of the seat that has ended is struck off
-  pub may_strike_listed : IsEnded seat (listed_for seat (tasks_of s)) → MayStrike seat s
+  may_strike_listed : IsEnded seat (listed_for seat (tasks_of s)) → MayStrike seat s
   may_strike_listed e = may_strike e.0 (one_of s.chains seat s.tasks.items _ e.2)
 
   pub may_rest : IsListed seat task.Rest [] (listed_for seat (tasks_of s)) → MayRest seat s
   may_rest listed = record {
     once = once_each m names words s h;
-    stream = ⊎_elim (λ (e : listed_for seat (tasks_of s) ≡ []). inl (none_of s.chains seat s.tasks.items e)) (λ (e : (task.Rest ≡ task.Rest) × IsEnded seat (listed_for seat (tasks_of s))). inr (may_strike_listed e.1)) listed;
+    task = ⊎_elim (λ (e : listed_for seat (tasks_of s) ≡ []). inl (none_of s.chains seat s.tasks.items e)) (λ (e : (task.Rest ≡ task.Rest) × IsEnded seat (listed_for seat (tasks_of s))). inr (may_strike_listed e.1)) listed;
   }
 
   -- the directory after the call is valid, whichever way it went
@@ -113,7 +107,7 @@ module _ (m : Moment) (names : List Named) (words : List ℕ) (s : Parts) (seat 
   rested_whole r valid = ⊎_elim
       (λ (e : find (is_of seat) s.tasks.items ≡ None). subst (IsRested m words seat s) (sym (ap (λ o. rested_by seat o s) e)) (record { under = names; whole = h; rests = none_for s.chains seat s.tasks.items e; listed = λ k ne. refl; journal = refl; options = refl; connected = refl }))
       (λ (u : MayStrike seat s). struck_whole m names words s seat h u (subst IsDirectory (struck_dir seat s u) valid))
-      r.stream
+      r.task
 
 -- ---- for the lock
 

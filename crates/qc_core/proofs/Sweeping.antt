@@ -43,7 +43,7 @@ use Rattle.qc_core.specs.Sweeps.{has_stream, streams, swept, ReadsStreams, Reads
 use Rattle.qc_core.proofs.Seating.{distinct_parts}
 use Rattle.qc_core.proofs.Standing.{value_stands}
 use Rattle.qc_core.proofs.Struck.{IsRested, go_on, struck_is, once_each}
-use Rattle.qc_core.proofs.Resting.{may_strike, rested_sound}
+use Rattle.qc_core.proofs.Resting.{HasTask, may_strike, rested_sound}
 
 -- ---- a word is read
 
@@ -204,10 +204,10 @@ seat_there seat (x ∷ ws) w h = elim (eqb x.seat seat) as (λ b. eqb x.seat sea
 ] refl h
 
 -- what is listed for the seat is that stream
-pub ended_listed : (m : Moment) (names : List Named) (words : List ℕ) (s : Parts) (seat : ℕ) → IsWhole m names words s → (u : MayStrike seat s) → IsEnded seat (listed_for seat (tasks_of s))
-ended_listed m names words s seat h u =
-    let bs = chain_blocks (chain_at u.work.chain.number s.chains) in
-    (u.serial, bs, one_listed s.chains seat s.tasks.items u.work (once_each m names words s h) u.at ∙ (λ i. record { number = seat_there seat s.tasks.items u.work u.at i; task = u.stream i; blocks = task_blocks (u.stream i) bs } ∷ []))
+pub ended_listed : (m : Moment) (names : List Named) (words : List ℕ) (s : Parts) (seat n : ℕ) → IsWhole m names words s → (t : HasTask seat s.tasks.items (task.Stream n)) → IsEnded seat (listed_for seat (tasks_of s))
+ended_listed m names words s seat n h t =
+    let bs = chain_blocks (chain_at t.work.chain.number s.chains) in
+    (n, bs, one_listed s.chains seat s.tasks.items t.work (once_each m names words s h) t.at ∙ (λ i. record { number = seat_there seat s.tasks.items t.work t.at i; task = t.task i; blocks = task_blocks (t.task i) bs } ∷ []))
 
 pub ended_follows : (m : Moment) (words : List ℕ) (n seat : ℕ) (s t : Parts) (idle : List ℕ) → FoundIdle idle seat → IsEnded seat (listed_for seat (tasks_of s)) → IsRested m words seat s t → Follows ghosts n idle s t
 ended_follows m words n seat s t idle found ended r = record {
@@ -230,11 +230,14 @@ stream_in (Some w) h = let t = by w.task h in (w, t.0, refl, t.1)
     by (task.Stream n) k = (n, refl)
     by (task.Fill n) k = absurd (true≢false (sym k))
 
+pub has_stream_task : (s : Parts) (seat : ℕ) → streams seat s ≡ true → (n : ℕ) × HasTask seat s.tasks.items (task.Stream n)
+has_stream_task s seat is = let t = stream_in (find (is_of seat) s.tasks.items) is in (t.1, record { work = t.0; at = t.2; task = t.3 })
+
 pub may_sweep : (m : Moment) (names : List Named) (words : List ℕ) (s : Parts) (seat : ℕ) → IsWhole m names words s → streams seat s ≡ true → MayStrike seat s
-may_sweep m names words s seat h is = let t = stream_in (find (is_of seat) s.tasks.items) is in may_strike m names words s seat h t.1 (record { work = t.0; at = t.2; task = t.3 })
+may_sweep m names words s seat h is = let t = has_stream_task s seat is in may_strike m names words s seat h t.0 t.1
 
 pub may_rest_swept : (m : Moment) (names : List Named) (words : List ℕ) (s : Parts) (seat : ℕ) → IsWhole m names words s → streams seat s ≡ true → MayRest seat s
-may_rest_swept m names words s seat h is = record { once = once_each m names words s h; stream = inr (may_sweep m names words s seat h is) }
+may_rest_swept m names words s seat h is = record { once = once_each m names words s h; task = inr (may_sweep m names words s seat h is) }
 
 -- ---- one seat
 
@@ -268,7 +271,8 @@ has_ended h k seat x st ne is r rests valid =
     let u = may_sweep (at_rest hash) sound.0 (words k) k.value seat sound.1 is_k in
     let may = may_rest_swept (at_rest hash) sound.0 (words k) k.value seat sound.1 is_k in
     let rs = rested_sound (words k) k.value seat sound may (subst (λ (y : Parts). IsDirectory y.dir) rests valid) in
-    let ended = ended_listed (at_rest hash) sound.0 (words k) k.value seat sound.1 u in
+    let own = has_stream_task k.value seat is_k in
+    let ended = ended_listed (at_rest hash) sound.0 (words k) k.value seat own.0 sound.1 own.1 in
     let idle : FoundIdle (idle_of (holder k).found) seat = subst (λ l. FoundIdle l seat) (sym (ap (λ v. idle_of v.found) r.found)) (λ m. m.0 refl) in
     let new = value_stands k (rested seat k.value) stands rs.1 (ended_follows (at_rest hash) (words k) (holder k).number seat k.value (rested seat k.value) (idle_of (holder k).found) idle ended rs.0) in
     let done : IsSwept (holder h).number k.value (rested seat k.value) (found_word seat false ∷ []) = swept_ended (at_rest hash) (words k) (holder h).number seat k.value u ne rs.0 in

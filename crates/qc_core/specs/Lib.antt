@@ -13,3 +13,5 @@ pub mod Prunes
 pub mod Sweeps
 pub mod Statuses
 pub mod Cuts
+pub mod Ends
+pub mod Overtaken

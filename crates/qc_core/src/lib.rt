@@ -3,11 +3,13 @@
 
 mod begins;
 mod counted;
+mod ends;
 mod hits;
 mod keys;
 mod leaves;
 mod looks;
 mod notes;
+mod overtakings;
 mod parts;
 mod pins;
 mod reserved;
@@ -19,6 +21,7 @@ mod strikes;
 mod sweeps;
 
 pub use counted::CountedJournal;
+pub use ends::gone;
 pub use hits::Hit;
 pub use looks::look;
 pub use notes::note;
