@@ -6,6 +6,7 @@ use Rattle.std.specs.Option.{IsSomeAnd, MatchOption}
 use Rattle.std.proofs.lemmas.List.Sorted.{IsPermutation-refl, IsPermutation-cons, IsPermutation-trans, IsPermutation-sym, IsPermutation-middle}
 use Rattle.std.proofs.lemmas.Option.{none-some, same_Some}
 use Rattle.std.proofs.lemmas.Bool.Decides.{nat_tests}
+use Rattle.std.proofs.lemmas.Bool.{eq-eqb, ne_eqb, eqb-true, lt-ltb, ltb-true}
 use Rattle.qc_types.specs.declared.names.TableName.{TableName}
 use Rattle.qc_sql.specs.Database.{same_table}
 use Rattle.qc_tiles.specs.declared.blocks.Move.{Move}
@@ -48,17 +49,11 @@ occurs-cut n (m ∷ ms) h =
 
 permutation_from_occurs : (xs ys : List ℕ) → ((n : ℕ) → occurs n xs ≡ occurs n ys) → IsPermutation xs ys
 permutation_from_occurs [] [] same = IsPermutation-refl []
-permutation_from_occurs [] (y ∷ ys) same = absurd (omega (arith, same y, itself y))
-  where
-    itself : (n : ℕ) → bit (n == n) ≡ 1
-    itself n = grind (arith, nat_tests)
+permutation_from_occurs [] (y ∷ ys) same = absurd (omega (arith, same y, ap bit (eq-eqb y y refl)))
 permutation_from_occurs (x ∷ xs) ys same =
-    let cut = occurs-cut x ys (omega (arith, same x, itself x)) in
+    let cut = occurs-cut x ys (omega (arith, same x, ap bit (eq-eqb x x refl))) in
     let rest = permutation_from_occurs xs (cut.0 ++ cut.1) (λ n. omega (arith, same n, ap (λ zs. occurs n zs) cut.2, total-append (λ m. bit (m == n)) cut.0 (x ∷ cut.1), total-append (λ m. bit (m == n)) cut.0 cut.1)) in
     rw cut.2 (IsPermutation-trans (x ∷ xs) (x ∷ (cut.0 ++ cut.1)) (cut.0 ++ x ∷ cut.1) (IsPermutation-cons x xs (cut.0 ++ cut.1) rest) (IsPermutation-sym (cut.0 ++ x ∷ cut.1) (x ∷ (cut.0 ++ cut.1)) (IsPermutation-middle cut.0 x cut.1)))
-  where
-    itself : (n : ℕ) → bit (n == n) ≡ 1
-    itself n = grind (arith, nat_tests)
 
 occurs-serials : (h n : ℕ) (es : List Entry) → occurs n (serials_under h es) ≡ total (λ e. bit (same_key (numbered_key h n) (hash_key e))) es
 occurs-serials h n [] = refl
@@ -79,47 +74,35 @@ candidates-are h serials keys es given stands = permutation_from_occurs serials 
 
 -- ---- entries on a table
 
-itself : (n : ℕ) → (n == n) ≡ true
-itself n = grind (arith, nat_tests)
-
 entry_one : (t : TableName) (n : ℕ) (held : List Numbered) (e : Entry) → holding t held ≤ 1 → number_of t held ≡ Some n → names_table t e ≡ true → 0 < entry_times (numbered_key n e.serial) held e
 entry_one t n held e once is h =
     let u = some_one (λ u. bit (same_table t u)) e.tables (any_some (same_table t) e.tables h) in
     let same : t ≡ u.0 = same_is t u.0 (bit_true (same_table t u.0) u.1) in
-    let one : numbered_as n u.0 held ≡ 1 = subst (λ v. numbered_as n v held ≡ 1) same (numbered_as-is n n t held once is ∙ ap bit (itself n)) in
-    rw (itself e.serial) (omega (arith, u.2 (λ v. numbered_as n v held), one))
+    let one : numbered_as n u.0 held ≡ 1 = subst (λ v. numbered_as n v held ≡ 1) same (numbered_as-is n n t held once is ∙ ap bit (eq-eqb n n refl)) in
+    rw (eq-eqb e.serial e.serial refl) (omega (arith, u.2 (λ v. numbered_as n v held), one))
 
 -- a table that has a number stands with that, since an entry names it
 pub named_stands : (t : TableName) (n : ℕ) (es : List Entry) (room : ℕ) (held : List Numbered) (hashes named texts : Keys) → IsDir es room held hashes named texts → number_of t held ≡ Some n → (s : ℕ) × (0 < times (numbered_key n s) named.keys)
 named_stands t n es room held hashes named texts d is =
-    let some : 0 < naming t es = there (d.blocks t) (held_counts t n held is) in
+    let some : 0 < naming t es = ltb-true 0 (naming t es) (d.blocks t ∙ lt-ltb 0 (holding t held) (held_counts t n held is)) in
     let e = some_one (λ e. bit (names_table t e)) es some in
     let one = entry_one t n held e.0 (d.once t) is (bit_true (names_table t e.0) e.1) in
     (e.0.serial, omega (arith, d.by_name (numbered_key n e.0.serial), e.2 (λ x. entry_times (numbered_key n e.0.serial) held x), one))
-  where
-    there : nat_lt 0 (naming t es) ≡ nat_lt 0 (holding t held) → 0 < holding t held → 0 < naming t es
-    there p q = grind (arith, nat_tests)
 
 pub not_named : (t : TableName) (es : List Entry) (room : ℕ) (held : List Numbered) (hashes named texts : Keys) → IsDir es room held hashes named texts → None ≡ number_of t held → list_any (names_table t) es ≡ false
 not_named t es room held hashes named texts d is = any-total (names_table t) es ∙ (d.blocks t ∙ ap (λ n. nat_lt 0 n) (number_none t held (sym is)))
 
 none_numbered : (n : ℕ) (u : TableName) (hs : List Numbered) → AllByRecursion (λ h. n < h.number) hs → numbered_as n u hs ≡ 0
 none_numbered n u [] all = refl
-none_numbered n u (h ∷ hs) all = let test : has_number n h ≡ false = other h.number all.0 in rw test (omega (arith, none_numbered n u hs all.1))
-  where
-    other : (m : ℕ) → n < m → (m == n) ≡ false
-    other m l = grind (arith, nat_tests)
+none_numbered n u (h ∷ hs) all = let test : has_number n h ≡ false = ne_eqb h.number n (λ e. omega (arith, e, all.0)) in rw test (omega (arith, none_numbered n u hs all.1))
 
 at_number : (n : ℕ) (u : TableName) (hs : List Numbered) (g : Numbered) → IsInOrder hs → numbered_at n hs ≡ Some g → 0 < numbered_as n u hs → is_of u g ≡ true
 at_number n u [] g rising is some = absurd (none-some g is)
 at_number n u (x ∷ xs) g rising is some =
     elim (has_number n x) as (λ v. has_number n x ≡ v → cond v (Some x) (numbered_at n xs) ≡ Some g → 0 < bit (v && is_of u x) + numbered_as n u xs → is_of u g ≡ true) [
-      | true ↦ λ e k q. subst (λ (y : Numbered). is_of u y ≡ true) (same_Some x g k) (bit_true (is_of u x) (omega (arith, q, none_numbered n u xs (larger e))))
+      | true ↦ λ e k q. subst (λ (y : Numbered). is_of u y ≡ true) (same_Some x g k) (bit_true (is_of u x) (omega (arith, q, none_numbered n u xs (subst (λ m. AllByRecursion (λ (h : Numbered). m < h.number) xs) (eqb-true x.number n e) rising.0))))
       | false ↦ λ e k q. at_number n u xs g rising.1 k (omega (arith, q))
     ] refl is some
-  where
-    larger : has_number n x ≡ true → AllByRecursion (λ h. n < h.number) xs
-    larger e = let same : x.number ≡ n = grind (arith, nat_tests) in subst (λ m. AllByRecursion (λ (h : Numbered). m < h.number) xs) same rising.0
 
 find_is : (t : TableName) (hs : List Numbered) (g : Numbered) → find (is_of t) hs ≡ Some g → is_of t g ≡ true
 find_is t [] g e = absurd (none-some g e)
@@ -187,10 +170,7 @@ none_text place texts es stands empty = none es (each_counted (λ e. e.text.firs
   where
     none : (xs : List Entry) → AllByRecursion (λ e. e.text.first ≡ place → ⊥) xs → texts_at place xs ≡ 0
     none [] all = refl
-    none (x ∷ xs) all = let test : (x.text.first == place) ≡ false = differ x.text.first all.0 in rw test (omega (arith, none xs all.1))
-      where
-        differ : (n : ℕ) → (n ≡ place → ⊥) → (n == place) ≡ false
-        differ n e = grind (arith, nat_tests)
+    none (x ∷ xs) all = let test : (x.text.first == place) ≡ false = ne_eqb x.text.first place all.0 in rw test (omega (arith, none xs all.1))
 
 -- the entry of a key with its serial
 pub entry_of : (f : Entry → Key) (k : Key) (es : List Entry) → ((e : Entry) → (f e).minor ≡ e.serial) → ((n : ℕ) → total (λ e. bit (has_serial n e)) es ≤ 1) → 0 < total (λ e. bit (same_key k (f e))) es → (e : Entry) × (entry_at k.minor es ≡ Some e) × (f e ≡ k)
@@ -212,24 +192,10 @@ entry_of f k (x ∷ xs) own once h =
 
 pub text_same : (change : Move) (e : Entry) → e.text.first ≡ change.from → (change.from ≡ change.to → ⊥) → moved_entry change (placed_text change.to e) ≡ moved_entry change e
 text_same change e is other =
-    let stood : (e.text.first == change.from) ≡ true = equal e.text.first change.from is in
-    let stands : (change.to == change.from) ≡ false = differ change.to change.from (λ q. other (sym q)) in
-    rw (stood, stands) refl
-  where
-    equal : (a b : ℕ) → a ≡ b → (a == b) ≡ true
-    equal a b q = grind (arith, nat_tests)
-
-    differ : (a b : ℕ) → (a ≡ b → ⊥) → (a == b) ≡ false
-    differ a b q = grind (arith, nat_tests)
+    rw (eq-eqb e.text.first change.from is, ne_eqb change.to change.from (λ q. other (sym q))) refl
 
 pub text_counts : (change : Move) (es : List Entry) (n : ℕ) (e : Entry) → ((m : ℕ) → total (λ x. bit (has_serial m x)) es ≤ 1) → entry_at n es ≡ Some e → e.text.first ≡ change.from → (change.from ≡ change.to → ⊥) → texts_at change.from (changed n (placed_text change.to) es) + 1 ≡ texts_at change.from es
-text_counts change es n e once at is other = omega (arith, total-changed_one (λ x. bit (x.text.first == change.from)) (placed_text change.to) n es e once at, stood e.text.first change.from is, stands change.to change.from (λ q. other (sym q)))
-  where
-    stood : (a b : ℕ) → a ≡ b → bit (a == b) ≡ 1
-    stood a b q = grind (arith, nat_tests)
-
-    stands : (a b : ℕ) → (a ≡ b → ⊥) → bit (a == b) ≡ 0
-    stands a b q = grind (arith, nat_tests)
+text_counts change es n e once at is other = omega (arith, total-changed_one (λ x. bit (x.text.first == change.from)) (placed_text change.to) n es e once at, ap bit (eq-eqb e.text.first change.from is), ap bit (ne_eqb change.to change.from (λ q. other (sym q))))
 
 pub texts-placed : (n first : ℕ) (es : List Entry) (e : Entry) (room room' : ℕ) (held : List Numbered) (hashes named texts between texts' : Keys) → IsDir es room held hashes named texts → entry_at n es ≡ Some e → room' ≡ room
     → ((k : Key) → times k between.keys + bit (same_key k (text_key e)) ≡ times k texts.keys) → between.room ≡ texts.room + 1

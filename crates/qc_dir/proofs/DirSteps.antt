@@ -4,6 +4,7 @@ use Rattle.std.specs.List.{AllByRecursion, list_any, find}
 use Rattle.std.specs.Option.{option_map}
 use Rattle.std.proofs.lemmas.Option.{none-some, same_Some}
 use Rattle.std.proofs.lemmas.Bool.Decides.{nat_tests}
+use Rattle.std.proofs.lemmas.Bool.{eq-eqb}
 use Rattle.qc_types.specs.declared.names.TableName.{TableName}
 use Rattle.qc_sql.specs.Database.{same_table}
 use Rattle.qc_dir.specs.declared.entries.Entry.{Entry}
@@ -20,21 +21,15 @@ use Rattle.qc_dir.proofs.EntryTotals.{any-total, none_any, total-le}
 
 apart_serials : (es : List Entry) → ((n : ℕ) → total (λ e. bit (has_serial n e)) es ≤ 1) → AreApart (λ e f. e.serial == f.serial) es
 apart_serials [] once = tt
-apart_serials (x ∷ xs) once = (none xs (omega (arith, once x.serial, itself)), apart_serials xs (λ n. omega (arith, once n)))
+apart_serials (x ∷ xs) once = (none xs (omega (arith, once x.serial, ap bit (eq-eqb x.serial x.serial refl))), apart_serials xs (λ n. omega (arith, once n)))
   where
-    itself : bit (has_serial x.serial x) ≡ 1
-    itself = grind (arith, nat_tests)
-
     none : (ys : List Entry) → total (λ e. bit (has_serial x.serial e)) ys ≡ 0 → list_any (λ f. x.serial == f.serial) ys ≡ false
     none [] h = refl
     none (y ∷ ys) h = let test : (x.serial == y.serial) ≡ false = grind (arith, nat_tests) in rw test (none ys (omega (arith, h)))
 
 apart_tables : (bs : List TableBlock) → ((t : TableName) → total (λ b. bit (is_block_of t b)) bs ≤ 1) → AreApart (λ b c. same_table b.table c.table) bs
 apart_tables [] once = tt
-apart_tables (b ∷ bs) once = (none_any (is_block_of b.table) bs (omega (arith, once b.table, itself)), apart_tables bs (λ t. omega (arith, once t)))
-  where
-    itself : bit (is_block_of b.table b) ≡ 1
-    itself = rw (same_name b.table) refl
+apart_tables (b ∷ bs) once = (none_any (is_block_of b.table) bs (omega (arith, once b.table, ap bit (same_name b.table))), apart_tables bs (λ t. omega (arith, once t)))
 
 few_tables : (es : List Entry) → total (λ e. bit (nat_lt 8 (length e.tables))) es ≡ 0 → AllByRecursion (λ e. length e.tables ≤ 8) es
 few_tables [] h = tt

@@ -1,8 +1,9 @@
 -- Sums over the entries, which no other order and no change of what they don't read changes.
-use Rattle.std.proofs.Common.{◌≡◌, ℕ, ◌+◌, ◌<◌, ◌≤◌, Bool, true, false, cond, not, nat_lt, List, [], ◌∷◌, ◌++◌, map, refl, sym, ap, ◌∙◌, subst, Some, None, ◌||◌, arith}
+use Rattle.std.proofs.Common.{◌≡◌, ℕ, ◌+◌, ◌<◌, ◌≤◌, Bool, true, false, cond, not, nat_lt, List, [], ◌∷◌, ◌++◌, map, zero-add, refl, sym, ap, ◌∙◌, subst, Some, None, ◌||◌, arith}
 use Rattle.std.specs.List.{AllByRecursion, list_any}
 use Rattle.std.proofs.lemmas.Option.{none-some, same_Some}
 use Rattle.std.proofs.lemmas.Bool.Decides.{nat_tests}
+use Rattle.std.proofs.lemmas.Bool.{lt-ltb, ltb-true, ltb-false}
 use Rattle.qc_dir.specs.declared.entries.Entry.{Entry}
 use Rattle.qc_dir.specs.Directory.{has_serial, entry_at, without, changed, moved_to_end}
 use Rattle.qc_dir.specs.Keys.{total, bit}
@@ -67,38 +68,30 @@ total-changed w f n (x ∷ xs) same =
       | false ↦ omega (arith, total-changed w f n xs same)
     ]
 
+changed-none : (f : Entry → Entry) (n : ℕ) (es : List Entry) → with n es ≡ 0 → changed n f es ≡ es
+changed-none f n [] h = refl
+changed-none f n (x ∷ xs) h =
+    elim (has_serial n x) as (λ v. bit v + with n xs ≡ 0 → cond v (f x) x ∷ changed n f xs ≡ x ∷ xs) [
+      | true ↦ λ k. absurd (omega (arith, k))
+      | false ↦ λ k. ap (λ ys. x ∷ ys) (changed-none f n xs (omega (arith, k)))
+    ] h
+
 -- one entry changed
 pub total-changed_one : (w : Entry → ℕ) (f : Entry → Entry) (n : ℕ) (es : List Entry) (e : Entry) → ((m : ℕ) → with m es ≤ 1) → entry_at n es ≡ Some e → total w (changed n f es) + w e ≡ total w es + w (f e)
 total-changed_one w f n [] e once h = absurd (none-some e h)
 total-changed_one w f n (x ∷ xs) e once h =
     elim (has_serial n x) as (λ v. has_serial n x ≡ v → cond v (Some x) (entry_at n xs) ≡ Some e → w (cond v (f x) x) + total w (changed n f xs) + w e ≡ w x + total w xs + w (f e)) [
-      | true ↦ λ p k. rw (← same_Some x e k, changed-none xs (omega (arith, rw p at (once n)))) (omega arith)
+      | true ↦ λ p k. rw (← same_Some x e k, changed-none f n xs (omega (arith, rw p at (once n)))) (omega arith)
       | false ↦ λ p k. omega (arith, total-changed_one w f n xs e (λ m. omega (arith, once m)) k)
     ] refl h
-  where
-    changed-none : (ys : List Entry) → with n ys ≡ 0 → changed n f ys ≡ ys
-    changed-none [] k = refl
-    changed-none (y ∷ ys) k =
-        elim (has_serial n y) as (λ v. bit v + with n ys ≡ 0 → cond v (f y) y ∷ changed n f ys ≡ y ∷ ys) [
-          | true ↦ λ q. absurd (omega (arith, q))
-          | false ↦ λ q. ap (λ zs. y ∷ zs) (changed-none ys (omega (arith, q)))
-        ] k
 
 pub map-changed : {B : Type 0} (g : Entry → B) (f : Entry → Entry) (n : ℕ) (es : List Entry) (e : Entry) → ((m : ℕ) → with m es ≤ 1) → entry_at n es ≡ Some e → g (f e) ≡ g e → map g (changed n f es) ≡ map g es
 map-changed g f n [] e once h same = refl
 map-changed g f n (x ∷ xs) e once h same =
     elim (has_serial n x) as (λ v. has_serial n x ≡ v → cond v (Some x) (entry_at n xs) ≡ Some e → g (cond v (f x) x) ∷ map g (changed n f xs) ≡ g x ∷ map g xs) [
-      | true ↦ λ p k. rw (changed-none xs (omega (arith, rw p at (once n)))) (ap (λ y. y ∷ map g xs) (ap (λ (z : Entry). g (f z)) (same_Some x e k) ∙ (same ∙ ap g (sym (same_Some x e k)))))
+      | true ↦ λ p k. rw (changed-none f n xs (omega (arith, rw p at (once n)))) (ap (λ y. y ∷ map g xs) (ap (λ (z : Entry). g (f z)) (same_Some x e k) ∙ (same ∙ ap g (sym (same_Some x e k)))))
       | false ↦ λ p k. ap (λ ys. g x ∷ ys) (map-changed g f n xs e (λ m. omega (arith, once m)) k same)
     ] refl h
-  where
-    changed-none : (ys : List Entry) → with n ys ≡ 0 → changed n f ys ≡ ys
-    changed-none [] k = refl
-    changed-none (y ∷ ys) k =
-        elim (has_serial n y) as (λ v. bit v + with n ys ≡ 0 → cond v (f y) y ∷ changed n f ys ≡ y ∷ ys) [
-          | true ↦ λ q. absurd (omega (arith, q))
-          | false ↦ λ q. ap (λ zs. y ∷ zs) (changed-none ys (omega (arith, q)))
-        ] k
 
 -- ---- tests as sums
 
@@ -106,49 +99,31 @@ pub any-total : {X : Type 0} (p : X → Bool) (xs : List X) → list_any p xs �
 any-total p [] = refl
 any-total p (x ∷ xs) =
     elim (p x) as (λ v. (v || list_any p xs) ≡ nat_lt 0 (bit v + total (λ x. bit (p x)) xs)) [
-      | true ↦ sym (more (total (λ x. bit (p x)) xs))
-      | false ↦ any-total p xs ∙ ap (λ n. nat_lt 0 n) (none (total (λ x. bit (p x)) xs))
+      | true ↦ sym (lt-ltb 0 (1 + total (λ x. bit (p x)) xs) (omega arith))
+      | false ↦ any-total p xs ∙ ap (λ n. nat_lt 0 n) (sym (zero-add (total (λ x. bit (p x)) xs)))
     ]
-  where
-    more : (n : ℕ) → nat_lt 0 (1 + n) ≡ true
-    more n = grind (arith, nat_tests)
-
-    none : (n : ℕ) → n ≡ 0 + n
-    none n = omega arith
 
 pub some_any : {X : Type 0} (p : X → Bool) (xs : List X) → 0 < total (λ x. bit (p x)) xs → list_any p xs ≡ true
-some_any p xs h = any-total p xs ∙ test (total (λ x. bit (p x)) xs) h
-  where
-    test : (n : ℕ) → 0 < n → nat_lt 0 n ≡ true
-    test n k = grind (arith, nat_tests)
+some_any p xs h = any-total p xs ∙ lt-ltb 0 (total (λ x. bit (p x)) xs) h
 
 pub any_some : {X : Type 0} (p : X → Bool) (xs : List X) → list_any p xs ≡ true → 0 < total (λ x. bit (p x)) xs
-any_some p xs h = test (total (λ x. bit (p x)) xs) (sym (any-total p xs) ∙ h)
-  where
-    test : (n : ℕ) → nat_lt 0 n ≡ true → 0 < n
-    test n k = grind (arith, nat_tests)
+any_some p xs h = ltb-true 0 (total (λ x. bit (p x)) xs) (sym (any-total p xs) ∙ h)
 
 pub none_any : {X : Type 0} (p : X → Bool) (xs : List X) → total (λ x. bit (p x)) xs ≡ 0 → list_any p xs ≡ false
 none_any p xs h = any-total p xs ∙ ap (λ n. nat_lt 0 n) h
 
 pub any_none : {X : Type 0} (p : X → Bool) (xs : List X) → list_any p xs ≡ false → total (λ x. bit (p x)) xs ≡ 0
-any_none p xs h = test (total (λ x. bit (p x)) xs) (sym (any-total p xs) ∙ h)
-  where
-    test : (n : ℕ) → nat_lt 0 n ≡ false → n ≡ 0
-    test n k = grind (arith, nat_tests)
+any_none p xs h = omega (arith, ltb-false 0 (total (λ x. bit (p x)) xs) (sym (any-total p xs) ∙ h))
 
 -- what counts for a sum, counts for one of the members
 pub some_one : {X : Type 0} (w : X → ℕ) (xs : List X) → 0 < total w xs → (x : X) × (0 < w x) × ((v : X → ℕ) → v x ≤ total v xs)
 some_one w [] h = absurd (omega (arith, h))
 some_one {X = X} w (x ∷ xs) h =
     elim (nat_lt 0 (w x)) as (λ v. nat_lt 0 (w x) ≡ v → (y : X) × (0 < w y) × ((v : X → ℕ) → v y ≤ total v (x ∷ xs))) [
-      | true ↦ λ e. (x, (let some : 0 < w x = grind (arith, nat_tests) in some), λ v. omega arith)
-      | false ↦ λ e. later (some_one w xs (rest e))
+      | true ↦ λ e. (x, ltb-true 0 (w x) e, λ v. omega arith)
+      | false ↦ λ e. later (some_one w xs (omega (arith, h, ltb-false 0 (w x) e)))
     ] refl
   where
-    rest : nat_lt 0 (w x) ≡ false → 0 < total w xs
-    rest e = let none : w x ≡ 0 = grind (arith, nat_tests) in omega (arith, h, none)
-
     later : ((y : X) × (0 < w y) × ((v : X → ℕ) → v y ≤ total v xs)) → (y : X) × (0 < w y) × ((v : X → ℕ) → v y ≤ total v (x ∷ xs))
     later found = (found.0, found.1, λ v. omega (arith, found.2 v))
 

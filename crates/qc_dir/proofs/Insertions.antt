@@ -5,6 +5,7 @@ use Rattle.std.specs.List.Sorted.{IsPermutation}
 use Rattle.std.proofs.lemmas.List.Sorted.{IsPermutation-cons, IsPermutation-trans, IsPermutation-sym, IsPermutation-to_front, IsPermutation-map, IsPermutation-append_left}
 use Rattle.std.proofs.lemmas.List.{append-nil}
 use Rattle.std.proofs.lemmas.Bool.Decides.{nat_tests}
+use Rattle.std.proofs.lemmas.Bool.{lt-ltb, le-ltb, ltb-true, ltb-false}
 use Rattle.qc_types.specs.declared.names.TableName.{TableName}
 use Rattle.qc_sql.specs.Database.{same_table}
 use Rattle.qc_index.specs.declared.keys.Key.{Key}
@@ -115,15 +116,9 @@ fresh_or t entry fresh old f =
 
 fresh_none : (t : TableName) (entry : Entry) (fresh : List TableBlock) (old : Tabled) → AreFresh entry (tables_in old.held) fresh → 0 < holding t old.held → total (λ b. bit (is_block_of t b)) fresh ≡ 0
 fresh_none t entry fresh old f some =
-    let stands : nat_lt 0 (holding t old.held) ≡ true = test (holding t old.held) some in
-    zero_is (total (λ b. bit (is_block_of t b)) fresh) (fresh_or t entry fresh old f ∙ (ap (λ b. names_table t entry && not b) stands ∙ never (names_table t entry)))
+    let stands : nat_lt 0 (holding t old.held) ≡ true = lt-ltb 0 (holding t old.held) some in
+    omega (arith, ltb-false 0 (total (λ b. bit (is_block_of t b)) fresh) (fresh_or t entry fresh old f ∙ (ap (λ b. names_table t entry && not b) stands ∙ never (names_table t entry))))
   where
-    test : (n : ℕ) → 0 < n → nat_lt 0 n ≡ true
-    test n h = grind (arith, nat_tests)
-
-    zero_is : (n : ℕ) → nat_lt 0 n ≡ false → n ≡ 0
-    zero_is n h = grind (arith, nat_tests)
-
     never : (b : Bool) → (b && false) ≡ false
     never true = refl
     never false = refl
@@ -173,10 +168,7 @@ same_numbers k entry fresh es old new f a blocks = total-same (λ e. entry_times
     itself t = ap bit (same_name t)
 
     stands : (t : TableName) → 0 < naming t es → 0 < holding t old.held
-    stands t some = test (naming t es) (holding t old.held) (blocks t) some
-      where
-        test : (m n : ℕ) → nat_lt 0 m ≡ nat_lt 0 n → 0 < m → 0 < n
-        test m n p q = grind (arith, nat_tests)
+    stands t some = ltb-true 0 (holding t old.held) (sym (blocks t) ∙ lt-ltb 0 (naming t es) some)
 
     one : (e : Entry) → ((w : Entry → ℕ) → w e ≤ total w es) → (t : TableName) → ((w : TableName → ℕ) → w t ≤ total w e.tables) → numbered_as k.major t new.held ≡ numbered_as k.major t old.held
     one e counts t inside =
@@ -202,7 +194,7 @@ pub dir-inserted : (entry : Entry) (fresh : List TableBlock) (es : List Entry) (
 dir-inserted entry fresh es room room' old new hashes named texts hashes' named' texts' d none few f a rooms names name_room hash hash_room text text_room = record {
   serials = λ n. omega (arith, total-append (λ e. bit (has_serial n e)) es (entry ∷ []), serial n);
   once = λ t. once_after t entry fresh old new f a (d.once t);
-  few = omega (arith, total-append (λ e. bit (nat_lt 8 (length e.tables))) es (entry ∷ []), d.few, below (length entry.tables) few);
+  few = omega (arith, total-append (λ e. bit (nat_lt 8 (length e.tables))) es (entry ∷ []), d.few, ap bit (le-ltb 8 (length entry.tables) few));
   blocks = λ t. blocks_after t entry fresh es old new f a (d.blocks t);
   by_hash = λ k. omega (arith, total-append (λ e. bit (same_key k (hash_key e))) es (entry ∷ []), d.by_hash k, hash k);
   by_text = λ k. omega (arith, total-append (λ e. bit (same_key k (text_key e))) es (entry ∷ []), d.by_text k, text k);
@@ -212,9 +204,6 @@ dir-inserted entry fresh es room room' old new hashes named texts hashes' named'
   name_room = omega (arith, rooms, d.name_room, name_room, few, total-append (λ e. 8 - length e.tables) es (entry ∷ []));
 }
   where
-    below : (n : ℕ) → n ≤ 8 → bit (nat_lt 8 n) ≡ 0
-    below n h = grind (arith, nat_tests)
-
     serial : (n : ℕ) → total (λ e. bit (has_serial n e)) es + bit (has_serial n entry) ≤ 1
     serial n =
         elim (has_serial n entry) as (λ v. has_serial n entry ≡ v → total (λ e. bit (has_serial n e)) es + bit v ≤ 1) [

@@ -6,6 +6,7 @@ use Rattle.std.specs.Option.{option_to_list}
 use Rattle.std.proofs.lemmas.List.{append-nil}
 use Rattle.std.proofs.lemmas.List.Sorted.{IsPermutation-refl, IsPermutation-trans, IsPermutation-map, IsPermutation-append_right}
 use Rattle.std.proofs.lemmas.Bool.Decides.{nat_tests}
+use Rattle.std.proofs.lemmas.Bool.{or_parts, eq-eqb, lt-ltb, ltb-true, ltb-false}
 use Rattle.qc_types.specs.declared.names.TableName.{TableName}
 use Rattle.qc_sql.specs.Database.{same_table}
 use Rattle.qc_index.specs.declared.keys.Key.{Key}
@@ -80,11 +81,8 @@ or_last false b h = h
 pub name_stands : (es : List Entry) (serial : ℕ) (t : TableName) (rest : List TableName) (old now : Tabled) (named : Keys) (name_room : ℕ) (freed : List TableBlock) → IsRemoving es serial (t ∷ rest) old now named name_room freed
     → (n : ℕ) × (number_of t now.held ≡ Some n) × (0 < times (numbered_key n serial) named.keys)
 name_stands es serial t rest old now named name_room freed r =
-    let m = number_some t now.held (some (holding t now.held) (r.kept t ∙ or_last (nat_lt 0 (naming t es)) (list_any (same_table t) (t ∷ rest)) (ap (λ b. b || list_any (same_table t) rest) (same_name t)))) in
+    let m = number_some t now.held (ltb-true 0 (holding t now.held) (r.kept t ∙ or_last (nat_lt 0 (naming t es)) (list_any (same_table t) (t ∷ rest)) (ap (λ b. b || list_any (same_table t) rest) (same_name t)))) in
     (m.0, m.1, omega (arith, r.by_name (numbered_key m.0 serial), named_times-cons (numbered_key m.0 serial) m.0 serial now.held t rest (r.once t) m.1, ap bit (same_itself (numbered_key m.0 serial))))
-  where
-    some : (n : ℕ) → nat_lt 0 n ≡ true → 0 < n
-    some n h = grind (arith, nat_tests)
 
 -- what stands with a number is of the table with that number
 numbers_same : (n : ℕ) (t : TableName) (held : List Numbered) (ts : List TableName) → IsInOrder held → number_of t held ≡ Some n → 0 < numbers_in n held ts → list_any (same_table t) ts ≡ true
@@ -105,14 +103,8 @@ same_times : (n serial : ℕ) (t : TableName) (held : List Numbered) (ts : List 
 same_times n serial t held ts once is h =
     let u = some_one (λ u. bit (same_table t u)) ts (any_some (same_table t) ts h) in
     let same : t ≡ u.0 = same_is t u.0 (bit_true (same_table t u.0) u.1) in
-    let one : numbered_as n u.0 held ≡ 1 = subst (λ v. numbered_as n v held ≡ 1) same (numbered_as-is n n t held once is ∙ itself n) in
-    rw (test serial) (omega (arith, u.2 (λ v. numbered_as n v held), one))
-  where
-    itself : (m : ℕ) → bit (m == m) ≡ 1
-    itself m = grind (arith, nat_tests)
-
-    test : (m : ℕ) → (m == m) ≡ true
-    test m = grind (arith, nat_tests)
+    let one : numbered_as n u.0 held ≡ 1 = subst (λ v. numbered_as n v held ≡ 1) same (numbered_as-is n n t held once is ∙ ap bit (eq-eqb n n refl)) in
+    rw (eq-eqb serial serial refl) (omega (arith, u.2 (λ v. numbered_as n v held), one))
 
 -- of all names but those of this table, what is there stays so without the first name
 other_rest : (u t : TableName) (rest : List TableName) → same_table u t ≡ false → list_any (same_table u) (t ∷ rest) ≡ list_any (same_table u) rest
@@ -179,15 +171,8 @@ removing_kept es serial n t rest old now new named named' name_room freed r is f
           | false ↦ λ p. r.kept u ∙ ap (λ b. nat_lt 0 (naming u es) || b) (other_rest u t rest p)
         ] refl
       where
-        some : (m : ℕ) → 0 < m → nat_lt 0 m ≡ true
-        some m h = grind (arith, nat_tests)
-
         here : nat_lt 0 (holding t now.held) ≡ (nat_lt 0 (naming t es) || list_any (same_table t) rest)
-        here = some (holding t now.held) (held_counts t n now.held is) ∙ sym (still_named es serial n f.table.1.0 t rest now.held f.rising is (omega (arith, by_name (numbered_key n f.table.1.0), f.table.1.1)))
-
-or_parts : (a b : Bool) → (a || b) ≡ false → (a ≡ false) × (b ≡ false)
-or_parts true b h = absurd (cc h)
-or_parts false b h = (refl, h)
+        here = lt-ltb 0 (holding t now.held) (held_counts t n now.held is) ∙ sym (still_named es serial n f.table.1.0 t rest now.held f.rising is (omega (arith, by_name (numbered_key n f.table.1.0), f.table.1.1)))
 
 -- the numbers of other tables stay
 numbers_still : (m n : ℕ) (t : TableName) (item : TableBlock) (held held' : List Numbered) (ts : List TableName) → IsPermutation held (record { number = n; table = item } ∷ held') → t ≡ item.table → list_any (same_table t) ts ≡ false → numbers_in m held ts ≡ numbers_in m held' ts
@@ -226,11 +211,8 @@ freed_is n serial t item now new named named' is f =
     both : (a b : Bool) → a ≡ true → b ≡ true → bit (a && b) ≡ 1
     both a b p q = rw (p, q) refl
 
-    test : (m : ℕ) → (m == m) ≡ true
-    test m = grind (arith, nat_tests)
-
     itself : bit ((n == n) && same_table item.table item.table) ≡ 1
-    itself = both (n == n) (same_table item.table item.table) (test n) (same_name item.table)
+    itself = both (n == n) (same_table item.table item.table) (eq-eqb n n refl) (same_name item.table)
 
 kept_after : (u t : TableName) (es : List Entry) (rest : List TableName) (item : TableBlock) (n : ℕ) (held held' : List Numbered) → IsPermutation held (record { number = n; table = item } ∷ held') → t ≡ item.table → holding t held ≤ 1 → naming t es ≡ 0 → list_any (same_table t) rest ≡ false
     → nat_lt 0 (holding u held) ≡ (nat_lt 0 (naming u es) || list_any (same_table u) (t ∷ rest)) → nat_lt 0 (holding u held') ≡ (nat_lt 0 (naming u es) || list_any (same_table u) rest)
@@ -314,7 +296,4 @@ each_named es serial old now named name_room freed r = mapped now.held (each_cou
       where
         test : (b : Bool) (h : ℕ) → nat_lt 0 h ≡ (b || false) → 0 < h → b ≡ true
         test true h q k = refl
-        test false h q k = absurd (omega (arith, k, zero_is h q))
-          where
-            zero_is : (j : ℕ) → nat_lt 0 j ≡ false → j ≡ 0
-            zero_is j l = grind (arith, nat_tests)
+        test false h q k = absurd (omega (arith, k, ltb-false 0 h q))

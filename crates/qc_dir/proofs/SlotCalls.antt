@@ -3,7 +3,7 @@ use Rattle.std.proofs.Common.{◌≡◌, ℕ, ◌+◌, ◌<◌, ◌≤◌, ◌^�
 use Rattle.std.specs.List.{AllByRecursion, find, slice_get}
 use Rattle.std.specs.Option.{IsSome, option_map}
 use Rattle.std.proofs.lemmas.Option.{none-some, same_Some, slice_get_read}
-use Rattle.std.proofs.lemmas.Bool.{false≢true}
+use Rattle.std.proofs.lemmas.Bool.{false≢true, eq-eqb, ne_eqb}
 use Rattle.std.proofs.lemmas.Bool.Decides.{nat_tests}
 use Rattle.qc_types.specs.declared.names.TableName.{TableName}
 use Rattle.qc_tiles.specs.declared.blocks.Move.{Move}
@@ -119,13 +119,10 @@ pub found_at : (t : TableName) (n : ℕ) (held : List Numbered) → IsInOrder he
 found_at t n [] rising e = absurd (none-some n (sym e))
 found_at t n (h ∷ hs) rising e =
     elim (is_of t h) as (λ v. Some n ≡ option_map (λ (h : Numbered). h.number) (cond v (Some h) (find (is_of t) hs)) → (g : Numbered) × (cond v (Some h) (find (is_of t) hs) ≡ Some g) × (numbered_at n (h ∷ hs) ≡ Some g)) [
-      | true ↦ λ k. let same : n ≡ h.number = same_Some n h.number k in (h, refl, rw (equal h.number n (sym same)) refl)
+      | true ↦ λ k. let same : n ≡ h.number = same_Some n h.number k in (h, refl, rw (eq-eqb h.number n (sym same)) refl)
       | false ↦ λ k. later (found_at t n hs rising.1 k)
     ] e
   where
-    equal : (a b : ℕ) → a ≡ b → (a == b) ≡ true
-    equal a b f = grind (arith, nat_tests)
-
     higher : (gs : List Numbered) (g : Numbered) → numbered_at n gs ≡ Some g → AllByRecursion (λ k. h.number < k.number) gs → h.number < n
     higher [] g f all = absurd (none-some g f)
     higher (k ∷ ks) g f all =
@@ -135,10 +132,7 @@ found_at t n (h ∷ hs) rising e =
         ] refl f
 
     later : ((g : Numbered) × (find (is_of t) hs ≡ Some g) × (numbered_at n hs ≡ Some g)) → (g : Numbered) × (find (is_of t) hs ≡ Some g) × (numbered_at n (h ∷ hs) ≡ Some g)
-    later found = let test : (h.number == n) ≡ false = lower (higher hs found.0 found.2 rising.0) in (found.0, found.1, rw test found.2)
-      where
-        lower : h.number < n → (h.number == n) ≡ false
-        lower l = grind (arith, nat_tests)
+    later found = let test : (h.number == n) ≡ false = ne_eqb h.number n (λ q. omega (arith, q, higher hs found.0 found.2 rising.0)) in (found.0, found.1, rw test found.2)
 
 -- ---- blocks at a place
 
@@ -149,10 +143,7 @@ placed_counts place h places held by_place counts same =
 
 none_count : (place : ℕ) (held : List Numbered) → AllByRecursion (λ h. h.table.block.first ≡ place → ⊥) held → blocks_at place held ≡ 0
 none_count place [] all = refl
-none_count place (h ∷ hs) all = let test : (h.table.block.first == place) ≡ false = differ h.table.block.first all.0 in rw test (omega (arith, none_count place hs all.1))
-  where
-    differ : (n : ℕ) → (n ≡ place → ⊥) → (n == place) ≡ false
-    differ n e = grind (arith, nat_tests)
+none_count place (h ∷ hs) all = let test : (h.table.block.first == place) ≡ false = ne_eqb h.table.block.first place all.0 in rw test (omega (arith, none_count place hs all.1))
 
 pub none_placed : (place : ℕ) (places : Keys) (held : List Numbered) → ((k : Key) → times k places.keys ≡ total (λ g. bit (same_key k (place_key g))) held) → ((n : ℕ) → times (numbered_key place n) places.keys ≡ 0) → blocks_at place held ≡ 0
 none_placed place places held by_place none = none_count place held (each_counted (λ h. h.table.block.first ≡ place → ⊥) held (λ h counts same. omega (arith, placed_counts place h places held by_place counts same, none h.number)))
@@ -186,15 +177,7 @@ placed_first k places slots t by_place some is =
 
 pub moved_same : (change : Move) (t : TableBlock) (m : ℕ) → t.block.first ≡ change.from → (change.from ≡ change.to → ⊥) → moved_numbered change (record { number = m; table = record t { block = record { first = change.to; words = t.block.words } } }) ≡ moved_numbered change (record { number = m; table = t })
 moved_same change t m is other =
-    let stood : (t.block.first == change.from) ≡ true = equal t.block.first change.from is in
-    let stands : (change.to == change.from) ≡ false = differ change.to change.from (λ e. other (sym e)) in
-    rw (stood, stands) refl
-  where
-    equal : (a b : ℕ) → a ≡ b → (a == b) ≡ true
-    equal a b e = grind (arith, nat_tests)
-
-    differ : (a b : ℕ) → (a ≡ b → ⊥) → (a == b) ≡ false
-    differ a b e = grind (arith, nat_tests)
+    rw (eq-eqb t.block.first change.from is, ne_eqb change.to change.from (λ e. other (sym e))) refl
 
 -- where no block stands, nothing is moved
 pub moved_none : (change : Move) (held : List Numbered) → blocks_at change.from held ≡ 0 → map (moved_numbered change) held ≡ held
@@ -262,10 +245,7 @@ fresh_more n slots free h = record {
 
     none_there : (ks : List ℕ) → AllByRecursion (λ k. k < n) ks → total (λ j. bit (j == n)) ks ≡ 0
     none_there [] all = refl
-    none_there (k ∷ ks) all = let test : (k == n) ≡ false = differ k all.0 in rw test (omega (arith, none_there ks all.1))
-      where
-        differ : (k : ℕ) → k < n → (k == n) ≡ false
-        differ k e = grind (arith, nat_tests)
+    none_there (k ∷ ks) all = let test : (k == n) ≡ false = ne_eqb k n (λ e. omega (arith, e, all.0)) in rw test (omega (arith, none_there ks all.1))
 
     one_last : (m k : ℕ) → total (λ j. bit (j == k)) (m ∷ []) ≤ 1
     one_last m k = elim (m == k) as (λ v. bit v + 0 ≤ 1) [ true ↦ omega arith | false ↦ omega arith ]

@@ -8,6 +8,7 @@ use Rattle.std.proofs.lemmas.List.Sums.{sum_by-cons}
 use Rattle.std.specs.List.{sum_by}
 use Rattle.std.proofs.lemmas.Option.{none-some, same_Some}
 use Rattle.std.proofs.lemmas.Bool.Decides.{nat_tests}
+use Rattle.std.proofs.lemmas.Bool.{eq-eqb, ne_eqb}
 use Rattle.qc_dir.specs.declared.tables.TableBlock.{TableBlock}
 use Rattle.std.proofs.lemmas.List.{length-map}
 use Rattle.qc_index.specs.declared.keys.Key.{Key}
@@ -78,33 +79,22 @@ get-within (s ∷ ss) (suc i) v h = omega (arith, get-within ss i v h)
 
 -- ---- looking up by number
 
+pub each_map : {A : Type 0} (P Q : A → Type 0) (xs : List A) → ((x : A) → P x → Q x) → AllByRecursion P xs → AllByRecursion Q xs
+each_map P Q [] f p = tt
+each_map P Q (x ∷ xs) f p = (f x p.0, each_map P Q xs f p.1)
+
 -- all numbers are this one or larger
 held-numbers : (j : ℕ) (slots : List (Option TableBlock)) → AllByRecursion (λ h. j ≤ h.number) (held_from j slots)
 held-numbers j [] = tt
-held-numbers j (None ∷ ss) = larger (held_from (j + 1) ss) (held-numbers (j + 1) ss)
-  where
-    larger : (hs : List Numbered) → AllByRecursion (λ h. j + 1 ≤ h.number) hs → AllByRecursion (λ h. j ≤ h.number) hs
-    larger [] all = tt
-    larger (h ∷ hs) all = (omega (arith, all.0), larger hs all.1)
-held-numbers j (Some t ∷ ss) = (omega arith, larger (held_from (j + 1) ss) (held-numbers (j + 1) ss))
-  where
-    larger : (hs : List Numbered) → AllByRecursion (λ h. j + 1 ≤ h.number) hs → AllByRecursion (λ h. j ≤ h.number) hs
-    larger [] all = tt
-    larger (h ∷ hs) all = (omega (arith, all.0), larger hs all.1)
+held-numbers j (None ∷ ss) = each_map (λ h. j + 1 ≤ h.number) (λ h. j ≤ h.number) (held_from (j + 1) ss) (λ h l. omega (arith, l)) (held-numbers (j + 1) ss)
+held-numbers j (Some t ∷ ss) = (omega arith, each_map (λ h. j + 1 ≤ h.number) (λ h. j ≤ h.number) (held_from (j + 1) ss) (λ h l. omega (arith, l)) (held-numbers (j + 1) ss))
 
 none_at : (n : ℕ) (hs : List Numbered) → AllByRecursion (λ h. n < h.number) hs → numbered_at n hs ≡ None
 none_at n [] all = refl
-none_at n (h ∷ hs) all = rw (other h.number all.0) (none_at n hs all.1)
-  where
-    other : (m : ℕ) → n < m → (m == n) ≡ false
-    other m e = grind (arith, nat_tests)
+none_at n (h ∷ hs) all = rw (ne_eqb h.number n (λ e. omega (arith, e, all.0))) (none_at n hs all.1)
 
 above : (j n : ℕ) (slots : List (Option TableBlock)) → n < j → AllByRecursion (λ h. n < h.number) (held_from j slots)
-above j n slots e = larger (held_from j slots) (held-numbers j slots)
-  where
-    larger : (hs : List Numbered) → AllByRecursion (λ h. j ≤ h.number) hs → AllByRecursion (λ h. n < h.number) hs
-    larger [] all = tt
-    larger (h ∷ hs) all = (omega (arith, e, all.0), larger hs all.1)
+above j n slots e = each_map (λ h. j ≤ h.number) (λ h. n < h.number) (held_from j slots) (λ h l. omega (arith, e, l)) (held-numbers j slots)
 
 abbrev under : ℕ → Option (Option TableBlock) → Option Numbered
 under n None = None
@@ -117,13 +107,9 @@ held-at j i n [] e = refl
 held-at j zero n (None ∷ ss) e = none_at n (held_from (j + 1) ss) (above (j + 1) n ss (omega (arith, e)))
 held-at j zero n (Some t ∷ ss) e =
     let same : j ≡ n = omega (arith, e) in
-    let test : (j == n) ≡ true = grind (arith, nat_tests) in
-    rw test (ap (λ m. Some (numbered m t)) same)
+    rw (eq-eqb j n same) (ap (λ m. Some (numbered m t)) same)
 held-at j (suc i) n (None ∷ ss) e = held-at (j + 1) i n ss (omega (arith, e))
-held-at j (suc i) n (Some t ∷ ss) e = rw (other (omega (arith, e))) (held-at (j + 1) i n ss (omega (arith, e)))
-  where
-    other : j < n → (j == n) ≡ false
-    other h = grind (arith, nat_tests)
+held-at j (suc i) n (Some t ∷ ss) e = rw (ne_eqb j n (λ q. omega (arith, q, e))) (held-at (j + 1) i n ss (omega (arith, e)))
 
 pub held-rising : (j : ℕ) (slots : List (Option TableBlock)) → IsInOrder (held_from j slots)
 held-rising j [] = tt
@@ -146,10 +132,6 @@ slot_at n slots t h = held-at 0 n n slots (omega arith) ∙ ap (λ o. under n o)
 pub each_counted : {A : Type 0} (P : A → Type 0) (xs : List A) → ((x : A) → ((w : A → ℕ) → w x ≤ total w xs) → P x) → AllByRecursion P xs
 each_counted P [] f = tt
 each_counted P (x ∷ xs) f = (f x (λ w. omega arith), each_counted P xs (λ y g. f y (λ w. omega (arith, g w))))
-
-pub each_map : {A : Type 0} (P Q : A → Type 0) (xs : List A) → ((x : A) → P x → Q x) → AllByRecursion P xs → AllByRecursion Q xs
-each_map P Q [] f p = tt
-each_map P Q (x ∷ xs) f p = (f x p.0, each_map P Q xs f p.1)
 
 pub each_zip : {A : Type 0} (P Q R : A → Type 0) (xs : List A) → ((x : A) → P x → Q x → R x) → AllByRecursion P xs → AllByRecursion Q xs → AllByRecursion R xs
 each_zip P Q R [] f p q = tt
@@ -259,10 +241,7 @@ slots-emptied n capacity slots free t names places names' places' holds is by_na
 
     none_there : (ks : List ℕ) → AllByRecursion (λ k. n ≡ k → ⊥) ks → total (λ j. bit (j == n)) ks ≡ 0
     none_there [] all = refl
-    none_there (k ∷ ks) all = let test : (k == n) ≡ false = differ k all.0 in rw test (omega (arith, none_there ks all.1))
-      where
-        differ : (k : ℕ) → (n ≡ k → ⊥) → (k == n) ≡ false
-        differ k h = grind (arith, nat_tests)
+    none_there (k ∷ ks) all = let test : (k == n) ≡ false = ne_eqb k n (λ e. all.0 (sym e)) in rw test (omega (arith, none_there ks all.1))
 
     once : (k : ℕ) → total (λ j. bit (j == k)) free + total (λ j. bit (j == k)) (n ∷ []) ≤ 1
     once k =

@@ -57,9 +57,9 @@ impl Dir {
         let room = words / 128;
         let entries = Uses::new(alloc, room)?;
         let tables = TableSlots::new(alloc, words / 64)?;
-        let hashes = KeySet::new(alloc, room)?;
-        let named = KeySet::new(alloc, 8 * room)?;
-        let texts = KeySet::new(alloc, room)?;
+        let hashes = KeySet::new(alloc, room, room)?;
+        let named = KeySet::new(alloc, 8 * room, room)?;
+        let texts = KeySet::new(alloc, room, room)?;
         Ok(Dir {
             entries,
             tables,

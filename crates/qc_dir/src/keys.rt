@@ -17,7 +17,7 @@ use std::marker::Model;
 const PAIRS: u64 = 10123456789012345679;
 
 /// Keys in slots, with room for a number of them that is taken once. Each slot stands in a list of its key's first number, and in a list of both numbers.
-/// Contracts see the keys, and the room for more. Each call but `new` costs the keys of one list, of which there is about one where the numbers spread.
+/// Contracts see the keys, and the room for more. Each call but `new` costs the keys of one list.
 #[derive(Drop)]
 pub(crate) struct KeySet {
     slots: Vec<Option<Key>>,
@@ -40,12 +40,13 @@ impl Model for KeySet {
 }
 
 impl KeySet {
-    /// No keys yet, and room for so many.
-    pub(crate) fn new(alloc: Global, room: u32) -> Result<KeySet, NoMemory>
-        requires { room ≤ 2 ^ 28 }
+    /// No keys yet, and room for so many, in so many lists of each kind at least.
+    pub(crate) fn new(alloc: Global, room: u32, lists: u32) -> Result<KeySet, NoMemory>
+        requires room { room ≤ 2 ^ 28 }
+        requires lists { lists ≤ 2 ^ 28 }
         ensures { IfOk result (λ s. s ≡ record { keys = []; room = room }) }
     {
-        let mask = mask_for(room);
+        let mask = mask_for(lists);
         let slots = empty_slots(alloc, room)?;
         let by_major = all_free(alloc, mask, room)?;
         let by_key = all_free(alloc, mask, room)?;

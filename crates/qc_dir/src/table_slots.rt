@@ -50,8 +50,8 @@ impl TableSlots {
             slots.push_reserved(None);
             free.push_reserved(number);
         }
-        let names = KeySet::new(alloc, room)?;
-        let places = KeySet::new(alloc, room)?;
+        let names = KeySet::new(alloc, room, room)?;
+        let places = KeySet::new(alloc, room, room)?;
         Ok(TableSlots {
             slots,
             free,
