@@ -10,7 +10,11 @@ pub mod Uses
 pub mod Seeking
 pub mod Leaving
 pub mod OwnBlocks
+pub mod ChainRooms
 pub mod Pruned
 pub mod Pruning
+pub mod Taking
+pub mod Allocating
 pub mod Beginning
 pub mod Reserving
+pub mod Overtaking

@@ -44,7 +44,8 @@ use Rattle.qc_laws.proofs.history.Serials.{serials_apart}
 use Rattle.qc_model.specs.Cache.{cache}
 use Rattle.qc_core.specs.declared.parts.RunningTask.{RunningTask}
 use Rattle.qc_core.specs.declared.parts.Parts.{Parts}
-use Rattle.qc_core.specs.Whole.{Named, is_named, IsNamedAs, chain_blocks, chain_bytes, chain_in, stored, table_pair, work_in, plain, IsWhole, with_event}
+use Rattle.qc_core.specs.Whole.{Named, is_named, IsNamedAs, chain_blocks, chain_bytes, chain_in, stored, table_pair, work_in, plain, ChainsHaveRoom, IsWhole, with_event}
+use Rattle.qc_core.proofs.ChainRooms.{released_room}
 use Rattle.qc_core.specs.Leaves.{own_blocks, released, MayLeave, Leaves, left_by}
 use Rattle.std.proofs.lemmas.List.Sorted.{length_permutation}
 use Rattle.qc_core.proofs.Seating.{found_less}
@@ -290,6 +291,16 @@ filter_names : (q : ℕ → Bool) (cs : Chained) (n : ℕ) (names : List Named) 
 filter_names q cs n [] h = refl
 filter_names q cs n (x ∷ names) h = λ i. cond (h.0 i) (chain_in cs x ∷ filter_names q cs n names h.1 i) (filter_names q cs n names h.1 i)
 
+each_other : (n : ℕ) (names : List Named) → AllByRecursion (λ x. not (x.serial == n) ≡ not (x.serial == n)) names
+each_other n [] = tt
+each_other n (x ∷ names) = (refl, each_other n names)
+
+-- its name and its blocks are room for more
+pub room_left : (names : List Named) (cs : Chained) (n k : ℕ) (held : Kept) (words : ℕ) → are_distinct (map (λ c. c.serial) (map (chain_in cs) names)) ≡ true → IsNamedAs names n k → Begun k cs held → AllByRecursion (IsOther n k) names
+    → ChainsHaveRoom names cs words → ChainsHaveRoom (without_name n names) (released k held cs) words
+room_left names cs n k held words d named begun other h =
+    released_room names cs n k held words d named begun (chain_found cs n _ names named) (chains_left (λ m. not (m == n)) cs n k held names (each_other n names) other) h
+
 -- ---- the whole
 
 -- what is known of an entry without listed_tasks
@@ -412,6 +423,7 @@ module _ (m : Moment) (words : List ℕ) (names : List Named) (s t : Parts) (n n
         room = record {
           entries = omega (arith, h.room.entries, entries_less, l.removed.room);
           tables = omega (arith, h.room.tables, tables_less, l.removed.table_room);
+          chains = room_left names s.chains n u.entry.chain.number u.held (region_words s.options) h.sound.memory.chains.apart u.named u.begun numbers h.room.chains;
           unpinner = h.room.unpinner;
         };
       })

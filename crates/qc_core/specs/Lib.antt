@@ -9,3 +9,5 @@ pub mod KeptLaws
 pub mod Spelled
 pub mod Leaves
 pub mod Prunes
+pub mod Allocates
+pub mod Overtaken

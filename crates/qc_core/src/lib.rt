@@ -1,6 +1,7 @@
 //! The server behind the turn, and its calls.
 #![tactic(auto)]
 
+mod allocates;
 mod begins;
 mod counted;
 mod hits;
@@ -8,6 +9,7 @@ mod keys;
 mod leaves;
 mod looks;
 mod notes;
+mod overtaken;
 mod parts;
 mod pins;
 mod reserved;
