@@ -18,3 +18,6 @@ pub mod Allocating
 pub mod Beginning
 pub mod Reserving
 pub mod Overtaking
+pub mod Striking
+pub mod Struck
+pub mod Resting

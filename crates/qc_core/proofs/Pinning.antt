@@ -9,6 +9,7 @@ use Rattle.qc_tiles.specs.Tiles.{IsTiling, region_words, handed_out, block_of, a
 use Rattle.qc_tiles.specs.Cells.{block_at}
 use Rattle.qc_tiles.proofs.Changes.{found_at}
 use Rattle.qc_tiles.proofs.Keeps.{after_pin-tiling}
+use Rattle.qc_chain.specs.Chains.{AreHandedOut}
 use Rattle.qc_chain.proofs.Listed.{drop_got}
 use Rattle.qc_sound.specs.parts.Memory.{pinned_blocks}
 use Rattle.qc_sound.specs.Handed.{after_pins}
@@ -137,3 +138,7 @@ pinning_on bs k b old now new got is h =
       left = ap (λ l. after_pins l now) (sym rest) ∙ h.left;
       out = subst (λ l. AllByRecursion (Contains l) (drop (k + 1) bs)) (sym hands) out.1;
     })
+
+-- what was handed out still is
+pub out_unpinned : (words : ℕ) (ts : List Tile) (bs : List Block) → IsTiling words ts → AreHandedOut ts bs → AreHandedOut (after_unpins bs ts) bs
+out_unpinned words ts bs tiling out = record { each = subst (λ l. AllByRecursion (Contains l) bs) (sym (unpinned_all words ts bs tiling out.each).hands) out.each; once = out.once }

@@ -14,7 +14,8 @@ use Rattle.qc_dir.specs.declared.entries.Entry.{Entry}
 use Rattle.qc_dir.specs.Directory.{entry_at}
 use Rattle.qc_model.specs.Licence.{IsCommitOn}
 use Rattle.qc_turn.specs.Seats.{Held, holder}
-use Rattle.qc_turn.specs.Tasks.{listed_for}
+use Rattle.qc_turn.specs.Tasks.{listed_for, IsListed}
+use Rattle.qc_turn.specs.declared.task.Task.TheVariants as task
 use Rattle.qc_turn.specs.declared.kept.Kept.{Ghosts}
 use Rattle.qc_sound.specs.parts.Journal.{reserved}
 use Rattle.qc_core.specs.declared.parts.Parts.{Parts}
@@ -27,6 +28,10 @@ pub record IsNext {K : Ghosts Parts Event} (h : Held Parts Event K) (who : Who) 
   pub number : who.number ≡ event_count h.value.journal.events who.session + 1
   pub connected : is_connected (holder h).number h.value ≡ true
   pub free : listed_for (holder h).number (tasks_of h.value) ≡ []
+
+-- the seat rests: nothing is listed for it, or a stream that it has ended
+abbrev pub Rests : {K : Ghosts Parts Event} → Held Parts Event K → Type 0
+Rests h = IsListed (holder h).number task.Rest [] (listed_for (holder h).number (tasks_of h.value))
 
 -- events that change nothing of the cache
 abbrev pub IsNoted : Parts → How → Type 0

@@ -11,3 +11,4 @@ pub mod Leaves
 pub mod Prunes
 pub mod Allocates
 pub mod Overtaken
+pub mod Strikes

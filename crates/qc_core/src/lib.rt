@@ -16,6 +16,7 @@ mod reserved;
 mod rooms;
 mod seats;
 mod server;
+mod strikes;
 
 pub use counted::CountedJournal;
 pub use hits::Hit;

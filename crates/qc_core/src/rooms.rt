@@ -1,11 +1,15 @@
 //! Room in the journal.
 
-ghost use Rattle.std.specs.Prelude.{◌≡◌, ◌+◌, ◌≤◌, length, OnOk};
+ghost use Rattle.std.specs.Prelude.{◌≡◌, ◌+◌, ◌≤◌, [], length, OnOk};
 ghost use Rattle.qc_dir.specs.Directory.{incomplete};
-ghost use Rattle.qc_turn.specs.Seats.{MayRelease, SameHolder};
-ghost use Rattle.qc_core.specs.Calls.{HasSpare, HasMoreRoom};
+ghost use Rattle.qc_turn.specs.Tasks.{listed_for};
+ghost use Rattle.qc_turn.specs.Seats.{MayRelease, SameHolder, holder};
+ghost use Rattle.qc_core.specs.Whole.{tasks_of};
+ghost use Rattle.qc_core.specs.Calls.{HasSpare, HasMoreRoom, Rests};
+ghost use Rattle.qc_core.specs.Strikes.{rested};
 
 use crate::server::Server;
+use crate::strikes::strike_own;
 use qc_turn::Held;
 use qc_types::NoMemory;
 
@@ -21,9 +25,8 @@ impl Server {
     }
 }
 
-/// Makes room in the journal for one deciding event, beside one for each entry and one more for each fill that is under way. Where memory lacks, the
-/// server is as it was.
-pub fn reserve(held: &mut Held<'_, Server>) -> Result<(), NoMemory>
+/// Makes room in the journal for one deciding event, beside one for each entry and one more for each fill that is under way.
+fn make_room(held: &mut Held<'_, Server>) -> Result<(), NoMemory>
     requires stands { MayRelease held.old }
     ensures stands { MayRelease held.new × SameHolder held.old held.new }
     ensures same { HasMoreRoom held.old.value held.new.value }
@@ -31,4 +34,20 @@ pub fn reserve(held: &mut Held<'_, Server>) -> Result<(), NoMemory>
     ensures ranges { held.new.ranges ≡ held.old.ranges }
 {
     held.value().reserve_events()
+}
+
+/// Makes room in the journal for one deciding event, beside one for each entry and one more for each fill that is under way. Before that the seat's own
+/// stream, which has ended, is struck off where it is listed still, so that nothing is listed for the seat afterwards. Where memory lacks, no more than
+/// that was done.
+pub fn reserve(held: &mut Held<'_, Server>) -> Result<(), NoMemory>
+    requires stands { MayRelease held.old }
+    requires rests { Rests held.old }
+    ensures stands { MayRelease held.new × SameHolder held.old held.new }
+    ensures same { HasMoreRoom (rested (holder held.old).number held.old.value) held.new.value }
+    ensures rests { listed_for (holder held.old).number (tasks_of held.new.value) ≡ [] }
+    ensures room { OnOk result (HasSpare held.new.value) }
+    ensures ranges { held.new.ranges ≡ held.old.ranges }
+{
+    strike_own(held);
+    make_room(held)
 }
