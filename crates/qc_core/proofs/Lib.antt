@@ -21,3 +21,6 @@ pub mod Overtaking
 pub mod Striking
 pub mod Struck
 pub mod Resting
+pub mod Appending
+pub mod Filling
+pub mod Growing

@@ -102,7 +102,7 @@ event_keeps o j (event.Prune k need largest) n y there part l open_ free = entry
 
 -- ---- all that came after
 
-later_keeps : (o : Options) (a later : Journal) (n : ℕ) (y : Entry) → IsLawfulAfter o a later → entry_of n (cache a) ≡ Some y → y.complete ≡ false → is_ended n later ≡ false → list_any (removes y.tables) later ≡ false → entry_of n (cache (a ++ later)) ≡ Some y
+pub later_keeps : (o : Options) (a later : Journal) (n : ℕ) (y : Entry) → IsLawfulAfter o a later → entry_of n (cache a) ≡ Some y → y.complete ≡ false → is_ended n later ≡ false → list_any (removes y.tables) later ≡ false → entry_of n (cache (a ++ later)) ≡ Some y
 later_keeps o a [] n y lawful there part open_ free = ap (λ j. entry_of n (cache j)) (append-nil a) ∙ there
 later_keeps o a (e ∷ later) n y lawful there part open_ free =
     let p = neither (ends_fill n e) (is_ended n later) open_ in

@@ -12,3 +12,4 @@ pub mod Prunes
 pub mod Allocates
 pub mod Overtaken
 pub mod Strikes
+pub mod Grows

@@ -4,6 +4,7 @@
 mod allocates;
 mod begins;
 mod counted;
+mod grows;
 mod hits;
 mod keys;
 mod leaves;
@@ -19,6 +20,7 @@ mod server;
 mod strikes;
 
 pub use counted::CountedJournal;
+pub use grows::{Short, grow};
 pub use hits::Hit;
 pub use looks::look;
 pub use notes::note;
