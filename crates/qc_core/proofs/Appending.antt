@@ -15,7 +15,7 @@ use Rattle.qc_sound.specs.PlainServer.{EntryChain, StoredEntry, has_chain}
 use Rattle.qc_sound.specs.steps.Growing.{with_blocks, with_bytes}
 use Rattle.qc_sound.proofs.Changed.{only_keyed}
 use Rattle.qc_core.specs.Whole.{Named, is_named, IsNamedAs, chain_blocks, chain_bytes, chain_in, stored, free_names, ChainsHaveRoom}
-use Rattle.qc_core.proofs.Pruned.{IsOther}
+use Rattle.qc_core.proofs.Remaining.{IsOther}
 use Rattle.qc_core.proofs.Uses.{find_all}
 
 -- ---- the chain, and the others

@@ -1,7 +1,7 @@
 -- The named chains, and the room for more.
 use Rattle.std.proofs.Common.{◌≡◌, ℕ, zero, suc, ◌+◌, ◌-◌, ◌/◌, ◌<◌, ◌≤◌, eqb, Bool, true, false, cond, List, [], ◌∷◌, ◌++◌, map, length, refl, sym, ap, subst, ◌∙◌, arith, length-append, append-nil, replicate}
 use Rattle.std.specs.Prelude.{not, ◌==◌, Option, Some, None, IsPermutation, is_none, find, option_and_then, slice_get, slice_set}
-use Rattle.std.specs.List.{filter, flat_map}
+use Rattle.std.specs.List.{filter, flat_map, AllByRecursion}
 use Rattle.std.proofs.lemmas.List.Sorted.{length_permutation}
 use Rattle.std.proofs.lemmas.List.{length-replicate}
 use Rattle.std.proofs.lemmas.Option.{none-some, same_Some}
@@ -15,6 +15,7 @@ use Rattle.qc_core.specs.Whole.{Named, is_named, IsNamedAs, chain_blocks, chain_
 use Rattle.qc_core.specs.Leaves.{released}
 use Rattle.qc_core.proofs.Seating.{found_less}
 use Rattle.qc_core.proofs.OwnBlocks.{chain_count}
+use Rattle.qc_core.proofs.Remaining.{IsOther, without_name, chain_found, chains_left}
 
 -- ---- no chains yet
 
@@ -45,7 +46,7 @@ serials_same : (cs : Chained) (names : List Named) → map (λ c. c.serial) (map
 serials_same cs [] = refl
 serials_same cs (x ∷ names) = ap (λ l. x.serial ∷ l) (serials_same cs names)
 
-pub released_room : (names : List Named) (cs : Chained) (n k : ℕ) (held : Kept) (words : ℕ) → are_distinct (map (λ c. c.serial) (map (chain_in cs) names)) ≡ true → IsNamedAs names n k → Begun k cs held
+released_room : (names : List Named) (cs : Chained) (n k : ℕ) (held : Kept) (words : ℕ) → are_distinct (map (λ c. c.serial) (map (chain_in cs) names)) ≡ true → IsNamedAs names n k → Begun k cs held
     → find (λ c. c.serial == n) (map (chain_in cs) names) ≡ Some (chain_in cs (record { serial = n; number = k }))
     → map (chain_in (released k held cs)) (filter (λ x. not (is_named n x)) names) ≡ filter (λ c. not (c.serial == n)) (map (chain_in cs) names)
     → ChainsHaveRoom names cs words → ChainsHaveRoom (filter (λ x. not (is_named n x)) names) (released k held cs) words
@@ -58,3 +59,13 @@ released_room names cs n k held words d named begun found same h =
       blocks = omega (arith, h.blocks, long, own, left);
       free = omega (arith, h.free, fewer, free_more cs.chains k held begun);
     }
+
+each_other : (n : ℕ) (names : List Named) → AllByRecursion (λ x. not (x.serial == n) ≡ not (x.serial == n)) names
+each_other n [] = tt
+each_other n (x ∷ names) = (refl, each_other n names)
+
+-- its name and its blocks are room for more
+pub room_left : (names : List Named) (cs : Chained) (n k : ℕ) (held : Kept) (words : ℕ) → are_distinct (map (λ c. c.serial) (map (chain_in cs) names)) ≡ true → IsNamedAs names n k → Begun k cs held → AllByRecursion (IsOther n k) names
+    → ChainsHaveRoom names cs words → ChainsHaveRoom (without_name n names) (released k held cs) words
+room_left names cs n k held words d named begun other h =
+    released_room names cs n k held words d named begun (chain_found cs n _ names named) (chains_left (λ m. not (m == n)) cs n k held names (each_other n names) other) h

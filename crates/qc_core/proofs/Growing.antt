@@ -50,6 +50,8 @@ use Rattle.qc_core.specs.declared.grows.Short.{Short}
 use Rattle.qc_core.specs.declared.grows.Short.TheVariants as short
 use Rattle.qc_core.specs.declared.parts.Parts.{Parts}
 use Rattle.qc_core.specs.Whole.{Named, is_named, IsNamedAs, chain_blocks, chain_in, plain, tasks_of, IsNamed, IsWhole, Sound}
+use Rattle.qc_turn.specs.declared.view.FoundWord.{FoundWord}
+use Rattle.qc_core.specs.Sweeps.{IsSwept}
 use Rattle.qc_core.specs.Strikes.{is_of}
 use Rattle.qc_core.specs.KeptLaws.{tasks_same, blocks_named}
 use Rattle.qc_core.specs.Allocates.{Allocates, holding, IsPruned}
@@ -57,7 +59,7 @@ use Rattle.qc_core.specs.Grows.{MayAppend, appended, longer_by, FillsOn, MayGrow
 use Rattle.qc_core.proofs.Uses.{begun_at}
 use Rattle.qc_core.proofs.Seeking.{pair_of}
 use Rattle.qc_core.proofs.OwnBlocks.{use_count}
-use Rattle.qc_core.proofs.Pruned.{IsOther, differ}
+use Rattle.qc_core.proofs.Remaining.{IsOther, differ}
 use Rattle.qc_core.proofs.Taking.{Took, took}
 use Rattle.qc_core.proofs.Appending.{append_chains, append_entries, append_names, append_room}
 use Rattle.qc_core.proofs.Filling.{FillTask, fill_task, plain_at, fill_named, entry_filling, entry_number, pruned_after, IsAfter, still_filling, started_after}
@@ -504,3 +506,14 @@ may_grow_on words s seat n r sound long fills = record {
   seat = seat;
   fills = fills;
 }
+
+-- the fill, when ended streams of others were struck off
+pub swept_fills : (own_ seat n : ℕ) (s t : Parts) (r q : Ranged) (found : List FoundWord) → seat ≡ own_ → q ≡ r → IsSwept own_ s t found → FillsOn own_ n s r → FillsOn seat n t q
+swept_fills own_ seat n s t r q found number hand sw f =
+    let split = ap (λ j. j.events) sw.journal ∙ f.start.split in
+    record {
+      listed = subst (λ (p : ℕ × Ranged). listed_for p.0 (tasks_of t) ≡ own p.0 (task.Fill n) p.1.blocks) (λ i. (sym number i, sym hand i)) (sw.listed ∙ f.listed);
+      start = record { who = f.start.who; key = f.start.key; tables = f.start.tables; earlier = f.start.earlier; later = f.start.later; split = split };
+      more = subst (λ (x : Ranged). 8 * words_of x.blocks < length (unwrap_or (answer f.start.key (present f.start.earlier)) [])) (sym hand) f.more;
+      room = subst (λ (p : Options × Ranged). p.0.size ≤ 512 * p.1.room) (λ i. (sym sw.options i, sym hand i)) f.room;
+    }

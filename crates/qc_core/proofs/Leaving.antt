@@ -17,7 +17,7 @@ use Rattle.qc_dir.specs.Directory.{Directory, entry_at, RemovesEntry}
 use Rattle.qc_dir.specs.Blocks.{places_of}
 use Rattle.qc_sound.proofs.Handed.{gave_tiling}
 use Rattle.qc_core.specs.declared.parts.Parts.{Parts}
-use Rattle.qc_core.specs.Leaves.{blocks_in, table_blocks, own_blocks, MayLeave, released, Leaves, IsReturning}
+use Rattle.qc_core.specs.Leaves.{blocks_in, table_blocks, own_blocks, has_task, free_chain, chain_left, MayLeave, left_by, Leaves, IsReturning}
 
 pub release_append : (xs ys : List Block) (ts : List Tile) → after_release (xs ++ ys) ts ≡ after_release ys (after_release xs ts)
 release_append [] ys ts = refl
@@ -78,28 +78,28 @@ module _ (n : ℕ) (s : Parts) (u : MayLeave n s) (e : Entry) (there : entry_at 
   abbrev pub same_entry : u.entry ≡ e
   same_entry = same_Some u.entry e (sym u.there ∙ there)
 
-  abbrev pub all_out : AreHandedOut s.tiles (own_blocks u.entry u.held freed)
+  abbrev free : List Block
+  free = free_chain (has_task n s) u.held
+
+  abbrev pub all_out : AreHandedOut s.tiles (own_blocks free u.entry freed)
   all_out = u.out freed dir.tables removed.tables
 
   pub begun_there : Begun e.chain.number s.chains u.held
   begun_there = subst (λ (x : Entry). Begun x.chain.number s.chains u.held) same_entry u.begun
 
-  pub chain_out : AreHandedOut s.tiles u.held.blocks
-  chain_out = out_front s.tiles u.held.blocks (u.entry.text ∷ table_blocks freed) all_out
+  pub text_out : AreHandedOut (after_release free s.tiles) (e.text ∷ table_blocks freed)
+  text_out = subst (λ (x : Entry). AreHandedOut (after_release free s.tiles) (x.text ∷ table_blocks freed)) same_entry (out_behind (tile_words s.tiles) s.tiles free (u.entry.text ∷ table_blocks freed) u.tiling all_out)
 
-  pub text_out : AreHandedOut (after_release u.held.blocks s.tiles) (e.text ∷ table_blocks freed)
-  text_out = subst (λ (x : Entry). AreHandedOut (after_release u.held.blocks s.tiles) (x.text ∷ table_blocks freed)) same_entry (out_behind (tile_words s.tiles) s.tiles u.held.blocks (u.entry.text ∷ table_blocks freed) u.tiling all_out)
+  pub tables_out : AreHandedOut (after_give_back e.text.first (after_release free s.tiles)) (table_blocks freed)
+  tables_out = rest_handed_out (tile_words s.tiles) (after_release free s.tiles) e.text (table_blocks freed) (gave_tiling (tile_words s.tiles) s.tiles free u.tiling) text_out
 
-  pub tables_out : AreHandedOut (after_give_back e.text.first (after_release u.held.blocks s.tiles)) (table_blocks freed)
-  tables_out = rest_handed_out (tile_words s.tiles) (after_release u.held.blocks s.tiles) e.text (table_blocks freed) (gave_tiling (tile_words s.tiles) s.tiles u.held.blocks u.tiling) text_out
-
-  pub leaves_so : (cs : Chained) (mid ts us : List Tile) → cs ≡ released e.chain.number u.held s.chains → mid ≡ after_release u.held.blocks s.tiles → ts ≡ after_give_back e.text.first mid → us ≡ after_release (table_blocks freed) ts
-      → Leaves n u.entry u.held freed s (record s { dir = dir; chains = cs; tiles = us })
-  leaves_so cs mid ts us a b c d =
-      let tiles : us ≡ after_release (own_blocks u.entry u.held freed) s.tiles =
-      d ∙ (ap (after_release (table_blocks freed)) (c ∙ ap (after_give_back e.text.first) b) ∙ (ap (λ (x : Entry). after_release (table_blocks freed) (after_give_back x.text.first (after_release u.held.blocks s.tiles))) (sym same_entry) ∙ sym (release_append u.held.blocks (u.entry.text ∷ table_blocks freed) s.tiles))) in
-      let chains : cs ≡ released u.entry.chain.number u.held s.chains = a ∙ ap (λ (x : Entry). released x.chain.number u.held s.chains) (sym same_entry) in
-      record { removed = removed; server = λ i. record s { dir = dir; chains = chains i; tiles = tiles i } }
+  pub leaves_so : (x : Parts) (ts us : List Tile) → x ≡ chain_left (has_task n s) e.chain.number u.held (record s { dir = dir }) → ts ≡ after_give_back e.text.first x.tiles → us ≡ after_release (table_blocks freed) ts → Leaves n u.entry u.held freed s (record x { tiles = us })
+  leaves_so x ts us a c d =
+      let mid = after_release free s.tiles in
+      let tiles : us ≡ after_release (own_blocks free u.entry freed) s.tiles =
+      d ∙ (ap (after_release (table_blocks freed)) (c ∙ ap (λ (y : Parts). after_give_back e.text.first y.tiles) a) ∙ (ap (λ (y : Entry). after_release (table_blocks freed) (after_give_back y.text.first mid)) (sym same_entry) ∙ sym (release_append free (u.entry.text ∷ table_blocks freed) s.tiles))) in
+      let number : x ≡ chain_left (has_task n s) u.entry.chain.number u.held (record s { dir = dir }) = a ∙ ap (λ (y : Entry). chain_left (has_task n s) y.chain.number u.held (record s { dir = dir })) (sym same_entry) in
+      record { removed = subst (λ d. RemovesEntry n freed s.dir d) (sym (ap (λ (y : Parts). y.dir) a)) removed; server = (λ i. record (number i) { tiles = tiles i }) ∙ (λ i. left_by (sym (ap (λ (y : Parts). y.dir) a) i) (has_task n s) u.entry u.held freed s) }
 
 pub place_got : (ps : List (Option TableBlock)) (k : ℕ) (p : Option TableBlock) → k < length ps → p ≡ get_or ps k p → slice_get ps k ≡ Some p
 place_got [] k p h e = absurd (omega arith)

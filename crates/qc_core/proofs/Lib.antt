@@ -10,7 +10,9 @@ pub mod Uses
 pub mod Seeking
 pub mod Leaving
 pub mod OwnBlocks
+pub mod Remaining
 pub mod ChainRooms
+pub mod Letting
 pub mod Pruned
 pub mod Pruning
 pub mod Taking
@@ -24,3 +26,9 @@ pub mod Resting
 pub mod Appending
 pub mod Filling
 pub mod Growing
+pub mod Carrying
+pub mod Shifting
+pub mod Compacting
+pub mod Flushing
+pub mod Sweeping
+pub mod Cutting

@@ -26,7 +26,7 @@ use Rattle.qc_core.specs.declared.parts.RunningTask.{RunningTask}
 use Rattle.qc_core.specs.declared.parts.Parts.{Parts}
 use Rattle.qc_core.specs.contracts.server.ServerKept.TheImpl.{ghosts}
 use Rattle.qc_core.specs.Whole.{Named, plain, listed_in, work_in, tasks_of, IsWhole, Sound, with_event}
-use Rattle.qc_core.specs.Calls.{IsNoted, HasSpare}
+use Rattle.qc_core.specs.Calls.{IsNoted, ChangesNothing, HasSpare}
 
 -- ---- a seat for which nothing is listed
 
@@ -67,18 +67,24 @@ alone words names m s who e seat h ps d is number free =
 
 -- ---- one more event
 
-quiet_how : (s : Parts) (who : Who) (h : How) → IsNoted s h → IsQuiet (event.Run who h)
+quiet_how : (s : Parts) (who : Who) (h : How) → ChangesNothing s h → IsQuiet (event.Run who h)
 quiet_how s who how.Other q = record { same_cache = λ es. refl; no_operations = refl; no_end = λ n. refl; needs = tt }
 quiet_how s who (how.Conflict t key by) q = record { same_cache = λ es. refl; no_operations = refl; no_end = λ n. refl; needs = tt }
-quiet_how s who h q = absurd q
+quiet_how s who (how.Status totals) q = record { same_cache = λ es. refl; no_operations = refl; no_end = λ n. refl; needs = tt }
+quiet_how s who (how.Hit n) q = absurd q
+quiet_how s who (how.Start n key tables) q = absurd q
+quiet_how s who (how.Plain why) q = absurd q
 
-may_note : (s : Parts) (who : Who) (h : How) → IsNoted s h → MayDecide s.journal.events who → IsLicensed s.options s.journal.events (event.Run who h)
+may_note : (s : Parts) (who : Who) (h : How) → ChangesNothing s h → MayDecide s.journal.events who → IsLicensed s.options s.journal.events (event.Run who h)
 may_note s who how.Other q d = (d, tt)
 may_note s who (how.Conflict t key by) q d = (d, q)
-may_note s who h q d = absurd q
+may_note s who (how.Status totals) q d = (d, tt)
+may_note s who (how.Hit n) q d = absurd q
+may_note s who (how.Start n key tables) q d = absurd q
+may_note s who (how.Plain why) q d = absurd q
 
 pub note_sound : (words : List ℕ) (s : Parts) (who : Who) (h : How) (seat : ℕ) → Sound words s → 0 < seat → who.session ≡ seat - 1 → who.number ≡ event_count s.journal.events who.session + 1
-    → listed_for seat (tasks_of s) ≡ [] → IsNoted s h → HasSpare s → Sound words (with_event (event.Run who h) s)
+    → listed_for seat (tasks_of s) ≡ [] → ChangesNothing s h → HasSpare s → Sound words (with_event (event.Run who h) s)
 note_sound words s who h seat sound ps is number free q room =
     let w = sound.1 in
     let e = event.Run who h in
@@ -103,3 +109,12 @@ event_follows s e who seat quiet d ps is = record {
   connected = λ k ne. refl;
   tasks = λ k ne. inl refl;
 }
+
+-- what may be noted changes nothing
+pub noted_nothing : (s : Parts) (h : How) → IsNoted s h → ChangesNothing s h
+noted_nothing s how.Other q = q
+noted_nothing s (how.Conflict t key by) q = q
+noted_nothing s (how.Status totals) q = tt
+noted_nothing s (how.Hit n) q = q
+noted_nothing s (how.Start n key tables) q = q
+noted_nothing s (how.Plain why) q = q

@@ -128,8 +128,8 @@ use_count b p =
     times_append b (map (λ e. e.text) p.entries) (map (λ b. b.1) p.table_blocks ++ flat_map (λ c. c.blocks) p.chains)
     ∙ ap (λ n. times b (map (λ e. e.text) p.entries) + n) (times_append b (map (λ b. b.1) p.table_blocks) (flat_map (λ c. c.blocks) p.chains))
 
-pub own_count : (b : Block) (e : Entry) (held : Kept) (freed : List TableBlock) → times b (own_blocks e held freed) ≡ times b held.blocks + (times b (e.text ∷ []) + times b (table_blocks freed))
-own_count b e held freed = omega (arith, times_append b held.blocks (e.text ∷ table_blocks freed), times_append b (e.text ∷ []) (table_blocks freed))
+pub own_count : (b : Block) (free : List Block) (e : Entry) (freed : List TableBlock) → times b (own_blocks free e freed) ≡ times b free + (times b (e.text ∷ []) + times b (table_blocks freed))
+own_count b free e freed = omega (arith, times_append b free (e.text ∷ table_blocks freed), times_append b (e.text ∷ []) (table_blocks freed))
 
 -- ---- no task is on an entry that is idle
 

@@ -12,7 +12,7 @@ use Rattle.qc_core.specs.declared.parts.Parts.{Parts}
 use Rattle.qc_core.specs.Whole.{stored, plain, with_event, tasks_of, IsWhole}
 use Rattle.qc_core.specs.Leaves.{MayLeave, Leaves}
 use Rattle.qc_core.specs.Prunes.{MayPruneOne, PrunesOne}
-use Rattle.qc_core.proofs.Pruned.{may_leave, oldest_of, pruned_whole, pruned_tasks, without_name}
+use Rattle.qc_core.proofs.Pruned.{may_leave, oldest_of, pruned_whole, pruned_tasks, names_left}
 
 pub pruned_one : (s t v : Parts) (n need largest : ℕ) (u : MayPruneOne need s) → oldest_idle s.dir.entries ≡ Some n → largest ≡ largest_free s.tiles → ((w : MayLeave n s) → (freed : List TableBlock) × Leaves n w.entry w.held freed s t) → IsDirectory t.dir
     → v ≡ with_event (event.Prune n need largest) t → PrunesOne need s v u
@@ -24,15 +24,15 @@ pruned_one s t v n need largest u oldest size left valid pushed =
     let licence = prunes_oldest u.moment u.words p (stored s.chains o.idle.entry) need u.whole.sound u.few u.held u.small o.found in
     let licensed : IsLicensed s.options s.journal.events ev = subst (λ (q : ℕ × ℕ). IsLicensed s.options s.journal.events (event.Prune q.0 need q.1)) (λ i. (o.serial i, sym size i)) licence in
     let needs = needs_prune s.options s.journal.events u.moment.next n need largest u.whole.sound.journal.needs u.needs in
-    let whole = pruned_whole u.moment u.words u.names s t n need largest u.whole o.idle gone.0 gone.1 valid licensed needs in
-    let same = pruned_tasks u.moment u.words u.names s t n need largest u.whole o.idle gone.0 gone.1 valid licensed needs in
+    let whole = pruned_whole u.moment u.words u.names s n u.whole o.idle t need largest gone.0 gone.1 valid licensed needs in
+    let same = pruned_tasks u.moment u.words u.names s n u.whole o.idle t need largest gone.0 gone.1 valid licensed needs in
     let server = gone.1.server in
     record {
       serial = n;
       oldest = oldest;
       events = ap (λ (x : Parts). x.journal.events) pushed ∙ (λ i. (server i).journal.events ++ event.Prune n need (size i) ∷ []);
-      names = without_name n u.names;
-      whole = subst (λ x. IsWhole u.moment (without_name n u.names) u.words x) (sym pushed) whole;
+      names = names_left u.moment u.words u.names s n u.whole o.idle t need largest gone.0 gone.1 valid;
+      whole = subst (λ x. IsWhole u.moment (names_left u.moment u.words u.names s n u.whole o.idle t need largest gone.0 gone.1 valid) u.words x) (sym pushed) whole;
       tasks = ap tasks_of pushed ∙ same;
       options = ap (λ (x : Parts). x.options) pushed ∙ ap (λ (x : Parts). x.options) server;
       database = ap (λ (x : Parts). x.database) pushed ∙ ap (λ (x : Parts). x.database) server;

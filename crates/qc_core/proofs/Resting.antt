@@ -34,30 +34,9 @@ use Rattle.qc_core.specs.Whole.{Named, IsNamedAs, chain_blocks, chain_in, stored
 use Rattle.qc_core.specs.Strikes.{is_of, MayLetGo, MayStrike, MayRest, rested_by, rested}
 use Rattle.qc_core.proofs.Uses.{find_all, serial_at, stored_at, begun_at, few_blocks}
 use Rattle.qc_core.proofs.OwnBlocks.{part_out, chain_count, use_count}
-use Rattle.qc_core.proofs.Pruned.{chain_found}
+use Rattle.qc_core.proofs.Letting.{may_let_go}
 use Rattle.qc_core.proofs.Seating.{is_among}
 use Rattle.qc_core.proofs.Struck.{IsRested, once_each, struck_dir, struck_whole}
-
--- ---- a chain that is let go
-
--- the blocks of a chain are handed out, each once
-pub chain_out : (m : Moment) (names : List Named) (words : List ℕ) (s : Parts) (n number : ℕ) (held : Kept) → IsWhole m names words s → IsNamedAs names n number → Begun number s.chains held → AreHandedOut s.tiles held.blocks
-chain_out m names words s n number held h is begun =
-    let p = plain names s in
-    part_out (region_words s.options) s.tiles held.blocks h.sound.memory.tiles.tiling
-    (λ b. omega (arith, times_permuted b (handed_out s.tiles) (m.held ++ blocks_in_use p) h.sound.memory.tiles.in_use, times_append b m.held (blocks_in_use p), use_count b p, chain_count b n p.chains (chain_in s.chains (record { serial = n; number = number })) h.sound.memory.chains.apart (chain_found s.chains n _ names is), ap (λ o. times b (chain_blocks o)) begun))
-
-pub may_let_go : (m : Moment) (names : List Named) (words : List ℕ) (s : Parts) (n number : ℕ) → IsWhole m names words s → IsNamedAs names n number → MayLetGo number s
-may_let_go m names words s n number h is =
-    let c = begun_at names s n number h.named is in
-    let few = few_blocks m names words s n number c.0 h is c.1 in
-    record {
-      held = c.0;
-      begun = c.1;
-      room = omega (arith, few, h.room.unpinner);
-      tiling = own_tiling (region_words s.options) s.tiles h.sound.memory.tiles.tiling;
-      out = chain_out m names words s n number c.0 h is c.1;
-    }
 
 -- ---- what is listed for the seat
 
@@ -84,7 +63,7 @@ pub record HasTask (n : ℕ) (ws : List RunningTask) (t : Task) : Type 0 where
   pub at : find (is_of n) ws ≡ Some work
   pub task : work.task ≡ t
 
-one_of : (cs : Chained) (n : ℕ) (ws : List RunningTask) (t : ListedTask) → listed_for n (map (listed_in cs) ws) ≡ t ∷ [] → HasTask n ws t.task
+pub one_of : (cs : Chained) (n : ℕ) (ws : List RunningTask) (t : ListedTask) → listed_for n (map (listed_in cs) ws) ≡ t ∷ [] → HasTask n ws t.task
 one_of cs n [] t h = absurd cc
 one_of cs n (w ∷ ws) t h = elim (w.seat == n) as (λ b. (w.seat == n) ≡ b → cond b (listed_in cs w ∷ listed_for n (map (listed_in cs) ws)) (listed_for n (map (listed_in cs) ws)) ≡ t ∷ [] → HasTask n (w ∷ ws) t.task) [
   | true ↦ λ e k. record { work = w; at = ap (λ b. cond b (Some w) (find (is_of n) ws)) e; task = ap (λ (x : ListedTask). x.task) (head_same (listed_in cs w) t (listed_for n (map (listed_in cs) ws)) [] k) }
@@ -117,16 +96,16 @@ module _ (m : Moment) (names : List Named) (words : List ℕ) (s : Parts) (seat 
   pub may_strike : (n : ℕ) → HasTask seat s.tasks.items (task.Stream n) → MayStrike seat s
   may_strike n t =
       let named = subst (λ o. IfSome o (λ k. IsNamedAs names k t.work.chain.number)) (ap serial_of t.task) (find_all (λ w. IfSome (serial_of w.task) (λ k. IsNamedAs names k w.chain.number)) (is_of seat) s.tasks.items t.work h.named.tasks t.at) in
-      record { work = t.work; serial = n; at = t.at; stream = t.task; used = has_user n t.work t.at t.task; chain = may_let_go m names words s n t.work.chain.number h named }
+      record { work = t.work; serial = n; at = t.at; ends = inl t.task; used = has_user n t.work t.at t.task; chain = may_let_go m names words s n t.work.chain.number h named }
 
   -- a stream of the seat that has ended is struck off
-  pub may_strike_listed : IsEnded seat (listed_for seat (tasks_of s)) → MayStrike seat s
+  may_strike_listed : IsEnded seat (listed_for seat (tasks_of s)) → MayStrike seat s
   may_strike_listed e = may_strike e.0 (one_of s.chains seat s.tasks.items _ e.2)
 
   pub may_rest : IsListed seat task.Rest [] (listed_for seat (tasks_of s)) → MayRest seat s
   may_rest listed = record {
     once = once_each m names words s h;
-    stream = ⊎_elim (λ (e : listed_for seat (tasks_of s) ≡ []). inl (none_of s.chains seat s.tasks.items e)) (λ (e : (task.Rest ≡ task.Rest) × IsEnded seat (listed_for seat (tasks_of s))). inr (may_strike_listed e.1)) listed;
+    task = ⊎_elim (λ (e : listed_for seat (tasks_of s) ≡ []). inl (none_of s.chains seat s.tasks.items e)) (λ (e : (task.Rest ≡ task.Rest) × IsEnded seat (listed_for seat (tasks_of s))). inr (may_strike_listed e.1)) listed;
   }
 
   -- the directory after the call is valid, whichever way it went
@@ -134,7 +113,7 @@ module _ (m : Moment) (names : List Named) (words : List ℕ) (s : Parts) (seat 
   rested_whole r valid = ⊎_elim
       (λ (e : find (is_of seat) s.tasks.items ≡ None). subst (IsRested m words seat s) (sym (ap (λ o. rested_by seat o s) e)) (record { under = names; whole = h; rests = none_for s.chains seat s.tasks.items e; listed = λ k ne. refl; journal = refl; options = refl; connected = refl }))
       (λ (u : MayStrike seat s). struck_whole m names words s seat h u (subst IsDirectory (struck_dir seat s u) valid))
-      r.stream
+      r.task
 
 -- ---- for the lock
 

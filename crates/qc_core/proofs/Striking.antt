@@ -22,7 +22,7 @@ use Rattle.qc_sound.specs.PlainServer.{PlainServer, StoredEntry, EntryChain, Sea
 use Rattle.qc_sound.specs.Moment.{Moment}
 use Rattle.qc_sound.specs.parts.Memory.{TilesAreSound, pinned_blocks, blocks_in_use, blocks_of_tasks}
 use Rattle.qc_sound.specs.steps.Leaving.{is_of_seat, without_seat}
-use Rattle.qc_sound.specs.steps.Ending.{used_less, left_by_user, struck_off}
+use Rattle.qc_sound.specs.steps.Ending.{used_less, left_by_user, struck_off, MayEnd}
 use Rattle.qc_sound.proofs.Handed.{times, times_append, times_permuted, permuted, gives_all}
 use Rattle.qc_sound.proofs.Filters.{pins_stay, tasks_wanted}
 use Rattle.qc_sound.proofs.Moved.{moved_permutes}
@@ -32,12 +32,13 @@ use Rattle.qc_core.specs.declared.parts.Parts.{Parts}
 use Rattle.qc_core.specs.Whole.{Named, IsNamedAs, chain_blocks, chain_in, stored, work_in, plain, IsWhole}
 use Rattle.qc_core.specs.Pins.{after_unpins, IsUnpinnedSo}
 use Rattle.qc_core.specs.Strikes.{is_of, others, is_on, MayStrike}
+use Rattle.qc_core.specs.Cuts.{BlocksAreSound}
 use Rattle.qc_core.specs.KeptLaws.{blocks_named}
 use Rattle.qc_core.proofs.Pinning.{unpinned_all}
 use Rattle.qc_core.proofs.Seating.{distinct_parts, none_other}
 use Rattle.qc_core.proofs.Uses.{find_all, all_members}
 use Rattle.qc_core.proofs.OwnBlocks.{not_both, chain_count, use_count, times_there, there_times}
-use Rattle.qc_core.proofs.Pruned.{chain_found, tasks_in}
+use Rattle.qc_core.proofs.Remaining.{chain_found, tasks_in}
 
 -- ---- the tasks
 
@@ -97,22 +98,31 @@ there_in cs n (e ∷ es) = elim (e.serial == n) as (λ b. is_some (cond b (Some 
 
 -- ---- who is still wanted
 
+-- what a task on the serial has
+on_serial : (n m : ℕ) (o : Option ℕ) → o ≡ Some n → eqb n m ≡ false → unwrap_or (option_map (λ j. j == m) o) false ≡ false
+on_serial n m o is ne = ap (λ o. unwrap_or (option_map (λ j. j == m) o) false) is ∙ ne
+
+pub blocks_on : (cs : List EntryChain) (t : Task) (n : ℕ) → serial_of t ≡ Some n → blocks_of cs t ≡ blocks_at n cs
+blocks_on cs task.Rest n h = absurd (none-some n h)
+blocks_on cs (task.Stream k) n h = ap (λ j. blocks_at j cs) (same_Some k n h)
+blocks_on cs (task.Fill k) n h = ap (λ j. blocks_at j cs) (same_Some k n h)
+
 -- a task on another serial is still there
-on_other : (seat n m : ℕ) (ws : List SeatTask) → find (is_of_seat seat) ws ≡ Some (record { seat = seat; task = task.Stream n }) → are_distinct (map (λ w. w.seat) ws) ≡ true → eqb n m ≡ false → list_any (is_task_on m) ws ≡ list_any (is_task_on m) (without_seat seat ws)
-on_other seat n m [] f d ne = refl
-on_other seat n m (w ∷ ws) f d ne = elim (eqb w.seat seat) as (λ b. eqb w.seat seat ≡ b → cond b (Some w) (find (is_of_seat seat) ws) ≡ Some (record { seat = seat; task = task.Stream n }) → (is_task_on m w || list_any (is_task_on m) ws) ≡ list_any (is_task_on m) (cond (not b) (w ∷ without_seat seat ws) (without_seat seat ws))) [
+on_other : (seat n m : ℕ) (t : Task) (ws : List SeatTask) → serial_of t ≡ Some n → find (is_of_seat seat) ws ≡ Some (record { seat = seat; task = t }) → are_distinct (map (λ w. w.seat) ws) ≡ true → eqb n m ≡ false → list_any (is_task_on m) ws ≡ list_any (is_task_on m) (without_seat seat ws)
+on_other seat n m t [] is f d ne = refl
+on_other seat n m t (w ∷ ws) is f d ne = elim (eqb w.seat seat) as (λ b. eqb w.seat seat ≡ b → cond b (Some w) (find (is_of_seat seat) ws) ≡ Some (record { seat = seat; task = t }) → (is_task_on m w || list_any (is_task_on m) ws) ≡ list_any (is_task_on m) (cond (not b) (w ∷ without_seat seat ws) (without_seat seat ws))) [
   | true ↦ λ e g.
-      let is = same_Some w _ g in
-      let off : is_task_on m w ≡ false = ap (is_task_on m) is ∙ ne in
+      let same = same_Some w _ g in
+      let off : is_task_on m w ≡ false = on_serial n m (serial_of w.task) (ap (λ (x : SeatTask). serial_of x.task) same ∙ is) ne in
       let parts = distinct_parts w.seat (map (λ (w : SeatTask). w.seat) ws) d in
       ap (λ b. b || list_any (is_task_on m) ws) off ∙ ap (list_any (is_task_on m)) (sym (none_other (λ (w : SeatTask). w.seat) seat ws (subst (λ k. list_any (λ j. j == k) (map (λ (w : SeatTask). w.seat) ws) ≡ false) (eqb-true w.seat seat e) parts.0)))
-  | false ↦ λ e g. ap (λ b. is_task_on m w || b) (on_other seat n m ws g (distinct_parts w.seat (map (λ (w : SeatTask). w.seat) ws) d).1 ne)
+  | false ↦ λ e g. ap (λ b. is_task_on m w || b) (on_other seat n m t ws is g (distinct_parts w.seat (map (λ (w : SeatTask). w.seat) ws) d).1 ne)
 ] refl f
 
 -- the entry's chain is wanted by no task that is left
-others_wanted : (seat n : ℕ) (es : List StoredEntry) (ws : List SeatTask) (m : ℕ) → find (is_of_seat seat) ws ≡ Some (record { seat = seat; task = task.Stream n }) → are_distinct (map (λ w. w.seat) ws) ≡ true → is_wanted es ws m ≡ true
+others_wanted : (seat n : ℕ) (t : Task) (es : List StoredEntry) (ws : List SeatTask) (m : ℕ) → serial_of t ≡ Some n → find (is_of_seat seat) ws ≡ Some (record { seat = seat; task = t }) → are_distinct (map (λ w. w.seat) ws) ≡ true → is_wanted es ws m ≡ true
     → eqb n m ≡ false → is_wanted (left_by_user n es) (without_seat seat ws) m ≡ true
-others_wanted seat n es ws m f d h ne = (λ i. stored_left n m es i || sym (on_other seat n m ws f d ne) i) ∙ h
+others_wanted seat n t es ws m is f d h ne = (λ i. stored_left n m es i || sym (on_other seat n m t ws is f d ne) i) ∙ h
 
 -- ---- blocks of tasks
 
@@ -156,7 +166,7 @@ texts_left : (n : ℕ) (es : List StoredEntry) → map (λ e. e.text) (left_by_u
 texts_left n [] = refl
 texts_left n (e ∷ es) = elim (is_stored n e) as (λ b. (cond b (used_less e) e).text ∷ map (λ e. e.text) (left_by_user n es) ≡ e.text ∷ map (λ e. e.text) es) [ true ↦ ap (λ l. e.text ∷ l) (texts_left n es) | false ↦ ap (λ l. e.text ∷ l) (texts_left n es) ]
 
-all_pass : (q : ℕ → Bool) (cs : List EntryChain) → AllByRecursion (λ c. q c.serial ≡ true) cs → filter (λ c. q c.serial) cs ≡ cs
+pub all_pass : (q : ℕ → Bool) (cs : List EntryChain) → AllByRecursion (λ c. q c.serial ≡ true) cs → filter (λ c. q c.serial) cs ≡ cs
 all_pass q [] h = refl
 all_pass q (c ∷ cs) h = ap (λ b. cond b (c ∷ filter (λ c. q c.serial) cs) (filter (λ c. q c.serial) cs)) h.0 ∙ ap (λ l. c ∷ l) (all_pass q cs h.1)
 
@@ -168,13 +178,13 @@ one_passes q n [] a h = tt
 one_passes q n (c ∷ cs) a h = (elim (eqb c.serial n) as (λ v. eqb c.serial n ≡ v → q c.serial ≡ not v) [ true ↦ λ e. ap q (eqb-true c.serial n e) ∙ a | false ↦ λ e. h.0 (swap_false n c.serial e) ] refl, one_passes q n cs a h.1)
 
 -- what one of a list has, where another test says so of all others
-each_passes : (q : ℕ → Bool) (n : ℕ) (cs : List EntryChain) → q n ≡ true → AllByRecursion (λ c. eqb n c.serial ≡ false → q c.serial ≡ true) cs → AllByRecursion (λ c. q c.serial ≡ true) cs
+pub each_passes : (q : ℕ → Bool) (n : ℕ) (cs : List EntryChain) → q n ≡ true → AllByRecursion (λ c. eqb n c.serial ≡ false → q c.serial ≡ true) cs → AllByRecursion (λ c. q c.serial ≡ true) cs
 each_passes q n [] a h = tt
 each_passes q n (c ∷ cs) a h = (elim (eqb n c.serial) as (λ v. eqb n c.serial ≡ v → q c.serial ≡ true) [ true ↦ λ e. ap q (sym (eqb-true n c.serial e)) ∙ a | false ↦ λ e. h.0 e ] refl, each_passes q n cs a h.1)
 
 -- ---- the blocks
 
-module _ (m : Moment) (names : List Named) (words : List ℕ) (s : Parts) (seat : ℕ) (h : IsWhole m names words s) (u : MayStrike seat s) where
+module _ (m : Moment) (names : List Named) (s : Parts) (seat : ℕ) (h : BlocksAreSound m names s) (u : MayStrike seat s) where
   abbrev n : ℕ
   n = u.serial
 
@@ -187,20 +197,33 @@ module _ (m : Moment) (names : List Named) (words : List ℕ) (s : Parts) (seat 
   abbrev q : ℕ → Bool
   q k = is_wanted (left_by_user n p.entries) left_tasks k
 
+  pub on_n : serial_of u.work.task ≡ Some n
+  on_n = ⊎_elim (λ (e : u.work.task ≡ task.Stream n). ap serial_of e) (λ (e : (u.work.task ≡ task.Fill n) × (entry_at n s.dir.entries ≡ None)). ap serial_of e.0) u.ends
+
   pub named_n : IsNamedAs names n u.work.chain.number
-  named_n = subst (λ o. IfSome o (λ k. IsNamedAs names k u.work.chain.number)) (ap serial_of u.stream) (find_all (λ w. IfSome (serial_of w.task) (λ k. IsNamedAs names k w.chain.number)) (is_of seat) s.tasks.items u.work h.named.tasks u.at)
+  named_n = subst (λ o. IfSome o (λ k. IsNamedAs names k u.work.chain.number)) on_n (find_all (λ w. IfSome (serial_of w.task) (λ k. IsNamedAs names k w.chain.number)) (is_of seat) s.tasks.items u.work h.named.tasks u.at)
 
-  pub found : find (is_of_seat seat) p.tasks ≡ Some (record { seat = seat; task = task.Stream n })
-  found = found_in seat s.tasks.items u.work u.at ∙ (λ i. Some (record { seat = seat_found seat s.tasks.items u.work u.at i; task = u.stream i }))
+  pub found : find (is_of_seat seat) p.tasks ≡ Some (record { seat = seat; task = u.work.task })
+  found = found_in seat s.tasks.items u.work u.at ∙ (λ i. Some (record { seat = seat_found seat s.tasks.items u.work u.at i; task = u.work.task }))
 
-  chain_is : blocks_at n p.chains ≡ u.chain.held.blocks
-  chain_is = blocks_named s.chains names n _ named_n ∙ ap chain_blocks u.chain.begun
+  -- as the plain server has it
+  pub may_end : MayEnd seat n p
+  may_end = ⊎_elim
+      (λ (e : u.work.task ≡ task.Stream n). inl (found ∙ (λ i. Some (record { seat = seat; task = e i }))))
+      (λ (e : (u.work.task ≡ task.Fill n) × (entry_at n s.dir.entries ≡ None)). inr (found ∙ (λ i. Some (record { seat = seat; task = e.0 i })), sym (there_in s.chains n s.dir.entries) ∙ ap is_some e.1))
+      u.ends
+
+  chain_is : blocks_of p.chains u.work.task ≡ u.chain.held.blocks
+  chain_is = blocks_on p.chains u.work.task n on_n ∙ (blocks_named s.chains names n _ named_n ∙ ap chain_blocks u.chain.begun)
+
+  chain_at_n : blocks_at n p.chains ≡ u.chain.held.blocks
+  chain_at_n = blocks_named s.chains names n _ named_n ∙ ap chain_blocks u.chain.begun
 
   abbrev still : List Block
   still = flat_map (λ (w : SeatTask). blocks_of p.chains w.task) left_tasks
 
   count : (b : Block) → times b (blocks_of_tasks p) ≡ times b still + times b u.chain.held.blocks
-  count b = task_count (λ (w : SeatTask). blocks_of p.chains w.task) b seat p.tasks _ h.sound.tasks.one_each found ∙ ap (λ l. times b still + times b l) chain_is
+  count b = task_count (λ (w : SeatTask). blocks_of p.chains w.task) b seat p.tasks _ h.once found ∙ ap (λ l. times b still + times b l) chain_is
 
   -- a block of a task is one of those that are left, or of the chain
   parts_of : (b : Block) → Contains (blocks_of_tasks p) b → Contains still b ⊎ Contains u.chain.held.blocks b
@@ -221,7 +244,7 @@ module _ (m : Moment) (names : List Named) (words : List ℕ) (s : Parts) (seat 
   tasks_after ts = pins_stay q p.chains left_tasks (tasks_wanted (left_by_user n p.entries) left_tasks)
 
   pub others_stay : AllByRecursion (λ c. eqb n c.serial ≡ false → q c.serial ≡ true) p.chains
-  others_stay = all_on (λ c. is_wanted p.entries p.tasks c.serial ≡ true) (λ c. eqb n c.serial ≡ false → q c.serial ≡ true) p.chains (λ c k ne. others_wanted seat n p.entries p.tasks c.serial found h.sound.tasks.one_each k ne) h.sound.memory.chains.wanted
+  others_stay = all_on (λ c. is_wanted p.entries p.tasks c.serial ≡ true) (λ c. eqb n c.serial ≡ false → q c.serial ≡ true) p.chains (λ c k ne. others_wanted seat n u.work.task p.entries p.tasks c.serial on_n found h.once k ne) h.wanted
 
   pub q_at : q n ≡ (list_any (is_stored n) p.entries || list_any (is_task_on n) left_tasks)
   q_at = ap (λ b. b || list_any (is_task_on n) left_tasks) (stored_left n n p.entries)
@@ -234,18 +257,18 @@ module _ (m : Moment) (names : List Named) (words : List ℕ) (s : Parts) (seat 
   same_use ts e b = omega (arith, use_count b (after ts), use_count b p, ap (times b) (texts_left n p.entries), ap (λ (cs : List EntryChain). times b (flat_map (λ (c : EntryChain). c.blocks) cs)) (chains_stay e))
 
   same_hands : (ts : List Tile) → q n ≡ true → handed_out ts ≡ handed_out s.tiles → IsPermutation (handed_out ts) (m.held ++ blocks_in_use (after ts))
-  same_hands ts e is = permuted (handed_out ts) (m.held ++ blocks_in_use (after ts)) (λ b. omega (arith, ap (times b) is, times_permuted b (handed_out s.tiles) (m.held ++ blocks_in_use p) h.sound.memory.tiles.in_use, times_append b m.held (blocks_in_use p), times_append b m.held (blocks_in_use (after ts)), same_use ts e b))
+  same_hands ts e is = permuted (handed_out ts) (m.held ++ blocks_in_use (after ts)) (λ b. omega (arith, ap (times b) is, times_permuted b (handed_out s.tiles) (m.held ++ blocks_in_use p) h.tiles.in_use, times_append b m.held (blocks_in_use p), times_append b m.held (blocks_in_use (after ts)), same_use ts e b))
 
   -- another task is on the chain
   pub tiles_kept : list_any (is_task_on n) left_tasks ≡ true → TilesAreSound m (after s.tiles)
   tiles_kept on =
       let e : q n ≡ true = q_at ∙ (ap (λ b. list_any (is_stored n) p.entries || b) on ∙ or_true (list_any (is_stored n) p.entries)) in
       record {
-        tiling = h.sound.memory.tiles.tiling;
+        tiling = h.tiles.tiling;
         in_use = same_hands s.tiles e refl;
         pinned = λ b. (
-          λ k. subst (λ l. Contains l b) (sym (tasks_after s.tiles)) (⊎_elim (λ c. c) (λ c. on_in n p.chains left_tasks b on (subst (λ l. Contains l b) (sym chain_is) c)) (parts_of b ((h.sound.memory.tiles.pinned b).0 k))),
-          λ k. (h.sound.memory.tiles.pinned b).1 (left_in_all b (subst (λ l. Contains l b) (tasks_after s.tiles) k)),
+          λ k. subst (λ l. Contains l b) (sym (tasks_after s.tiles)) (⊎_elim (λ c. c) (λ c. on_in n p.chains left_tasks b on (subst (λ l. Contains l b) (sym chain_at_n) c)) (parts_of b ((h.tiles.pinned b).0 k))),
+          λ k. (h.tiles.pinned b).1 (left_in_all b (subst (λ l. Contains l b) (tasks_after s.tiles) k)),
         );
       }
     where
@@ -259,18 +282,18 @@ module _ (m : Moment) (names : List Named) (words : List ℕ) (s : Parts) (seat 
       let rest = filter (λ (c : EntryChain). not (c.serial == n)) p.chains in
       let is = pins_stay (λ k. not (k == n)) p.chains left_tasks (off_serial n left_tasks off) in
       let among = tasks_in rest left_tasks b (subst (λ l. Contains l b) (sym is) k) in
-      not_both (region_words s.options) s.tiles b u.chain.held.blocks (flat_map (λ (c : EntryChain). c.blocks) rest) h.sound.memory.tiles.tiling
-      (λ b. omega (arith, times_permuted b (handed_out s.tiles) (m.held ++ blocks_in_use p) h.sound.memory.tiles.in_use, times_append b m.held (blocks_in_use p), use_count b p, chain_count b n p.chains (chain_in s.chains (record { serial = n; number = u.work.chain.number })) h.sound.memory.chains.apart (chain_found s.chains n _ names named_n), ap (λ o. times b (chain_blocks o)) u.chain.begun))
+      not_both (region_words s.options) s.tiles b u.chain.held.blocks (flat_map (λ (c : EntryChain). c.blocks) rest) h.tiles.tiling
+      (λ b. omega (arith, times_permuted b (handed_out s.tiles) (m.held ++ blocks_in_use p) h.tiles.in_use, times_append b m.held (blocks_in_use p), use_count b p, chain_count b n p.chains (chain_in s.chains (record { serial = n; number = u.work.chain.number })) h.apart (chain_found s.chains n _ names named_n), ap (λ o. times b (chain_blocks o)) u.chain.begun))
       c among
 
   pins_after : (ts : List Tile) → list_any (is_task_on n) left_tasks ≡ false → IsUnpinnedSo (region_words s.options) s.tiles ts u.chain.held.blocks → (b : Block) → Contains (pinned_blocks ts) b ↔ Contains still b
   pins_after ts off un b = (
-    λ k. let r = (un.pins b).0 k in ⊎_elim (λ c. c) (λ c. absurd (r.1 c)) (parts_of b ((h.sound.memory.tiles.pinned b).0 r.0)),
-    λ k. (un.pins b).1 ((h.sound.memory.tiles.pinned b).1 (left_in_all b k), λ c. apart off b k c),
+    λ k. let r = (un.pins b).0 k in ⊎_elim (λ c. c) (λ c. absurd (r.1 c)) (parts_of b ((h.tiles.pinned b).0 r.0)),
+    λ k. (un.pins b).1 ((h.tiles.pinned b).1 (left_in_all b k), λ c. apart off b k c),
   )
 
   un : IsUnpinnedSo (region_words s.options) s.tiles (after_unpins u.chain.held.blocks s.tiles) u.chain.held.blocks
-  un = unpinned_all (region_words s.options) s.tiles u.chain.held.blocks h.sound.memory.tiles.tiling u.chain.out.each
+  un = unpinned_all (region_words s.options) s.tiles u.chain.held.blocks h.tiles.tiling u.chain.out.each
 
   pub tiles_unpinned : list_any (is_task_on n) left_tasks ≡ false → list_any (is_stored n) p.entries ≡ true → TilesAreSound m (after (after_unpins u.chain.held.blocks s.tiles))
   tiles_unpinned off there =
@@ -296,7 +319,7 @@ module _ (m : Moment) (names : List Named) (words : List ℕ) (s : Parts) (seat 
       record {
         tiling = g.tiling;
         in_use = permuted (handed_out us) (m.held ++ blocks_in_use (after us)) (λ b.
-            omega (arith, times_permuted b (handed_out ts) (handed_out us ++ u.chain.held.blocks) g.hands, times_append b (handed_out us) u.chain.held.blocks, ap (times b) un.hands, times_permuted b (handed_out s.tiles) (m.held ++ blocks_in_use p) h.sound.memory.tiles.in_use, times_append b m.held (blocks_in_use p), times_append b m.held (blocks_in_use (after us)), use_count b p, use_count b (after us), ap (times b) (texts_left n p.entries), ap (λ (cs : List EntryChain). times b (flat_map (λ (c : EntryChain). c.blocks) cs)) chains, chain_count b n p.chains (chain_in s.chains (record { serial = n; number = u.work.chain.number })) h.sound.memory.chains.apart (chain_found s.chains n _ names named_n), ap (λ o. times b (chain_blocks o)) u.chain.begun));
+            omega (arith, times_permuted b (handed_out ts) (handed_out us ++ u.chain.held.blocks) g.hands, times_append b (handed_out us) u.chain.held.blocks, ap (times b) un.hands, times_permuted b (handed_out s.tiles) (m.held ++ blocks_in_use p) h.tiles.in_use, times_append b m.held (blocks_in_use p), times_append b m.held (blocks_in_use (after us)), use_count b p, use_count b (after us), ap (times b) (texts_left n p.entries), ap (λ (cs : List EntryChain). times b (flat_map (λ (c : EntryChain). c.blocks) cs)) chains, chain_count b n p.chains (chain_in s.chains (record { serial = n; number = u.work.chain.number })) h.apart (chain_found s.chains n _ names named_n), ap (λ o. times b (chain_blocks o)) u.chain.begun));
         pinned = λ b. let t = pins_after ts off un b in (
           λ k. subst (λ l. Contains l b) (sym (tasks_after us)) (t.0 (subst (λ l. Contains l b) g.pins k)),
           λ k. subst (λ l. Contains l b) (sym g.pins) (t.1 (subst (λ l. Contains l b) (tasks_after us) k)),

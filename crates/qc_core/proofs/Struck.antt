@@ -1,8 +1,7 @@
 -- A server stays sound when a stream is struck off.
-use Rattle.std.proofs.Common.{◌≡◌, ◌≢◌, ℕ, ◌+◌, Bool, true, false, List, [], ◌∷◌, map, length, refl, sym, ap, subst, ◌∙◌, arith, inl}
-use Rattle.std.specs.Prelude.{not, ◌||◌, ◌==◌, None, IfSome, is_some, slice_set}
+use Rattle.std.proofs.Common.{◌≡◌, ◌≢◌, ℕ, ◌+◌, ◌-◌, ◌<◌, ◌≤◌, eqb, eq-eqb, ne_eqb, Bool, true, false, cond, List, [], ◌∷◌, ◌++◌, map, length, refl, sym, ap, subst, ◌∙◌, arith, true≢false, inl, inr, ⊎_elim, append-nil}
+use Rattle.std.specs.Prelude.{not, ◌||◌, ◌==◌, ◌⊎◌, Option, Some, None, IfSome, is_some, slice_set, find}
 use Rattle.std.specs.List.{list_any, AllByRecursion}
-use Rattle.qc_model.specs.Licence.{region_words}
 use Rattle.qc_laws.specs.history.Runs.{are_distinct}
 use Rattle.qc_tiles.specs.declared.blocks.Tile.{Tile}
 use Rattle.qc_chain.specs.Chains.{Chained, Begun, after_release}
@@ -13,22 +12,30 @@ use Rattle.qc_turn.specs.Tasks.{listed_for}
 use Rattle.qc_sound.specs.PlainServer.{PlainServer, serial_of, is_task_on, is_stored, is_wanted, listed_tasks}
 use Rattle.qc_sound.specs.Moment.{Moment}
 use Rattle.qc_sound.specs.Sound.{IsSound}
-use Rattle.qc_sound.specs.parts.Memory.{TilesAreSound}
+use Rattle.qc_types.specs.declared.names.TableName.{TableName}
+use Rattle.qc_sound.specs.parts.Memory.{TilesAreSound, TablesAreSound, names_table}
+use Rattle.qc_sound.specs.PlainServer.{StoredEntry, EntryChain, SeatTask}
+use Rattle.qc_sound.proofs.Filters.{distinct_filter, or_right}
+use Rattle.qc_turn.specs.declared.task.Task.TheVariants as task
+use Rattle.qc_core.specs.Cuts.{BlocksAreSound}
+use Rattle.qc_core.proofs.Cutting.{whole_blocks, filter_passes}
 use Rattle.qc_sound.specs.steps.Leaving.{without_seat}
-use Rattle.qc_sound.specs.steps.Ending.{left_by_user, struck_off}
+use Rattle.qc_sound.specs.steps.Ending.{used_less, left_by_user, struck_off}
 use Rattle.qc_sound.proofs.Ending.{strike_step, strike_lists, none_each}
 use Rattle.qc_laws.proofs.history.Serials.{neither}
 use Rattle.qc_core.specs.declared.parts.RunningTask.{RunningTask}
 use Rattle.qc_core.specs.declared.parts.Parts.{Parts}
-use Rattle.qc_core.specs.Whole.{Named, chain_blocks, is_named, IsNamedAs, stored, chain_in, work_in, plain, tasks_of, IsNamed, IsWhole}
+use Rattle.qc_core.specs.Whole.{Named, chain_blocks, is_named, IsNamedAs, stored, chain_in, table_pair, work_in, plain, tasks_of, IsNamed, SeatsAreSound, ChainsHaveRoom, RoomIsSound, IsWhole}
 use Rattle.qc_core.specs.Pins.{after_unpins}
 use Rattle.qc_core.specs.Leaves.{released}
-use Rattle.qc_core.specs.Strikes.{others, is_on, without_task_of, with_user_less, let_go, MayStrike, rested_from, rested_by, rested}
+use Rattle.qc_core.specs.Strikes.{is_of, others, is_on, without_task_of, with_user_less, let_go, MayStrike, rested_from, rested_by, rested}
 use Rattle.qc_core.specs.KeptLaws.{tasks_same}
 use Rattle.qc_core.proofs.Seating.{all_less, found_less}
 use Rattle.qc_core.proofs.Uses.{find_all}
-use Rattle.qc_core.proofs.Pruned.{room_left, works_named, without_name, differ, IsOther, stored_same, chains_left, begun_left, distinct_less, named_else}
-use Rattle.qc_core.proofs.Striking.{others_in, any_in, left_in, all_left, left_length, there_in, named_n, found, chains_stay, q_at, tiles_kept, tiles_unpinned, tiles_released, wanted_else}
+use Rattle.qc_model.specs.Licence.{region_words}
+use Rattle.qc_core.proofs.ChainRooms.{room_left}
+use Rattle.qc_core.proofs.Remaining.{works_named, without_name, differ, IsOther, stored_same, chains_left, begun_left, distinct_less, named_else}
+use Rattle.qc_core.proofs.Striking.{others_in, any_in, left_in, all_left, left_length, there_in, named_n, may_end, chains_stay, q_at, tiles_kept, tiles_unpinned, tiles_released, wanted_else}
 
 -- ---- what is done with the chain, where it is known
 
@@ -42,10 +49,13 @@ go_is true there number held s begun = refl
 go_is false true number held s begun = ap (λ o. record s { tiles = after_unpins (chain_blocks o) s.tiles }) begun
 go_is false false number held s begun = ap (λ o. record s { chains = record { chains = slice_set s.chains.chains number None; room = s.chains.room + length (chain_blocks o) }; tiles = after_release (chain_blocks o) (after_unpins (chain_blocks o) s.tiles) }) begun
 
+ends_on : (seat : ℕ) (s : Parts) (u : MayStrike seat s) → serial_of u.work.task ≡ Some u.serial
+ends_on seat s u = ⊎_elim (λ (e : u.work.task ≡ task.Stream u.serial). ap serial_of e) (λ (e : (u.work.task ≡ task.Fill u.serial) × (entry_at u.serial s.dir.entries ≡ None)). ap serial_of e.0) u.ends
+
 pub struck_is : (seat : ℕ) (s : Parts) (u : MayStrike seat s) → rested seat s ≡ go_on (list_any (is_on u.serial) (others seat s.tasks.items)) (is_some (entry_at u.serial s.dir.entries)) u.work.chain.number u.chain.held (with_user_less u.serial (without_task_of seat s))
 struck_is seat s u =
     ap (λ o. rested_by seat o s) u.at
-    ∙ (ap (λ t. rested_from seat u.work.chain.number (serial_of t) s) u.stream
+    ∙ (ap (λ o. rested_from seat u.work.chain.number o s) (ends_on seat s u)
     ∙ go_is (list_any (is_on u.serial) (others seat s.tasks.items)) (is_some (entry_at u.serial s.dir.entries)) u.work.chain.number u.chain.held (with_user_less u.serial (without_task_of seat s)) u.chain.begun)
 
 -- the directory is that without the user, whatever is done with the chain
@@ -65,7 +75,29 @@ seats_same (w ∷ ws) = ap (λ l. w.seat ∷ l) (seats_same ws)
 pub once_each : (m : Moment) (names : List Named) (words : List ℕ) (s : Parts) → IsWhole m names words s → are_distinct (map (λ w. w.seat) s.tasks.items) ≡ true
 once_each m names words s h = ap are_distinct (sym (seats_same s.tasks.items)) ∙ h.sound.tasks.one_each
 
-module _ (m : Moment) (names : List Named) (words : List ℕ) (s : Parts) (seat : ℕ) (h : IsWhole m names words s) (u : MayStrike seat s) (valid : IsDirectory (with_entries (after_leave u.serial s.dir.entries) s.dir)) where
+left_serials : (n : ℕ) (es : List Entry) → map (λ e. e.serial) (after_leave n es) ≡ map (λ e. e.serial) es
+left_serials n [] = refl
+left_serials n (e ∷ es) = elim (e.serial == n) as (λ b. (cond b (record e { users = e.users - 1 }) e).serial ∷ map (λ e. e.serial) (after_leave n es) ≡ e.serial ∷ map (λ e. e.serial) es) [
+  | true ↦ ap (λ l. e.serial ∷ l) (left_serials n es)
+  | false ↦ ap (λ l. e.serial ∷ l) (left_serials n es)
+]
+
+names_left : (t : TableName) (n : ℕ) (es : List StoredEntry) → list_any (names_table t) (left_by_user n es) ≡ list_any (names_table t) es
+names_left t n [] = refl
+names_left t n (e ∷ es) = elim (is_stored n e) as (λ b. (names_table t (cond b (used_less e) e) || list_any (names_table t) (left_by_user n es)) ≡ (names_table t e || list_any (names_table t) es)) [
+  | true ↦ ap (λ b. names_table t e || b) (names_left t n es)
+  | false ↦ ap (λ b. names_table t e || b) (names_left t n es)
+]
+
+-- ---- the server when a task was struck off
+
+pub record IsStruck (m : Moment) (before : List Named) (seat : ℕ) (s : Parts) (n : ℕ) (t : Parts) : Type 0 where
+  pub under : List Named
+  pub blocks : BlocksAreSound m under t
+  pub plain : plain under t ≡ struck_off seat n t.tiles (plain before s)
+  pub others : t ≡ record s { dir = t.dir; chains = t.chains; tiles = t.tiles; tasks = t.tasks }
+
+module _ (m : Moment) (names : List Named) (s : Parts) (seat : ℕ) (h : BlocksAreSound m names s) (u : MayStrike seat s) (valid : IsDirectory (with_entries (after_leave u.serial s.dir.entries) s.dir)) where
   abbrev n : ℕ
   n = u.serial
 
@@ -87,8 +119,29 @@ module _ (m : Moment) (names : List Named) (words : List ℕ) (s : Parts) (seat 
   named_entries : AllByRecursion (λ (e : Entry). IsNamedAs names e.serial e.chain.number) (after_leave n s.dir.entries)
   named_entries = all_left (λ e. IsNamedAs names e.serial e.chain.number) n s.dir.entries (λ e k. k) h.named.entries
 
+  once : are_distinct (map (λ w. w.seat) s.tasks.items) ≡ true
+  once = ap are_distinct (sym (seats_same s.tasks.items)) ∙ h.once
+
   fewer : length (others seat s.tasks.items) + 1 ≡ length s.tasks.items
-  fewer = found_less (λ (w : RunningTask). w.seat) seat s.tasks.items u.work (once_each m names words s h) u.at
+  fewer = found_less (λ (w : RunningTask). w.seat) seat s.tasks.items u.work once u.at
+
+  abbrev q : ℕ → Bool
+  q k = is_wanted (left_by_user n p.entries) (without_seat seat p.tasks) k
+
+  -- whichever way the chain went
+  blocks_so : (under : List Named) (ts : List Tile) (t : Parts) → plain under t ≡ struck_off seat n ts p → IsNamed under t → TilesAreSound m (struck_off seat n ts p) → t ≡ record first { chains = t.chains; tiles = ts } → ChainsHaveRoom under t.chains (region_words s.options) → BlocksAreSound m under t
+  blocks_so under ts t is named tiles same chains = record {
+    named = named;
+    tiles = subst (TilesAreSound m) (sym is) tiles;
+    tables = subst TablesAreSound (sym is) (record { named = λ t. names_left t n p.entries ∙ h.tables.named t; once = h.tables.once; words = h.tables.words });
+    apart = subst (λ (z : PlainServer). are_distinct (map (λ c. c.serial) z.chains) ≡ true) (sym is) (distinct_filter (λ (c : EntryChain). c.serial) (λ c. q c.serial) p.chains h.apart);
+    wanted = subst (λ (z : PlainServer). AllByRecursion (λ c. is_wanted z.entries z.tasks c.serial ≡ true) z.chains) (sym is) (filter_passes q p.chains);
+    once = subst (λ (z : PlainServer). are_distinct (map (λ w. w.seat) z.tasks) ≡ true) (sym is) (distinct_filter (λ (w : SeatTask). w.seat) (λ w. not (w.seat == seat)) p.tasks h.once);
+    serials = subst (λ (x : Parts). are_distinct (map (λ e. e.serial) x.dir.entries) ≡ true) (sym same) (ap are_distinct (left_serials n s.dir.entries) ∙ h.serials);
+    directory = subst (λ (x : Parts). IsDirectory x.dir) (sym same) valid;
+    seats = subst SeatsAreSound (sym same) (record { once = h.seats.once; room = h.seats.room; task_room = omega (arith, h.seats.task_room, fewer) });
+    room = subst (RoomIsSound under) (sym same) (record { entries = omega (arith, h.room.entries, left_length n s.dir.entries); tables = h.room.tables; chains = chains; unpinner = h.room.unpinner });
+  }
 
   -- the chain stays under its name
   module _ (ts : List Tile) (e : is_wanted (left_by_user n p.entries) (without_seat seat p.tasks) n ≡ true) where
@@ -99,31 +152,20 @@ module _ (m : Moment) (names : List Named) (words : List ℕ) (s : Parts) (seat 
       spare = s.journal.spare;
       database = s.database;
       entries = left_in s.chains n s.dir.entries i;
-      chains = sym (chains_stay m names words s seat h u e) i;
+      chains = sym (chains_stay m names s seat h u e) i;
       table_blocks = p.table_blocks;
       tiles = ts;
       connected = s.connected.items;
       tasks = others_in seat s.tasks.items i;
     }
 
-    pub stay_whole : TilesAreSound m (struck_off seat n ts p) → IsWhole m names words (record first { tiles = ts })
-    stay_whole tiles = record {
-      named = record { begun = h.named.begun; numbers = h.named.numbers; entries = named_entries; tasks = named_tasks };
-      sound = subst (λ z. IsSound m words z) (sym stay_plain) (strike_step m words p seat n ts h.sound (inl (found m names words s seat h u)) tiles);
-      directory = valid;
-      seats = record { once = h.seats.once; room = h.seats.room; task_room = omega (arith, h.seats.task_room, fewer) };
-      room = record { entries = omega (arith, h.room.entries, left_length n s.dir.entries); tables = h.room.tables; chains = h.room.chains; unpinner = h.room.unpinner };
+    stay : TilesAreSound m (struck_off seat n ts p) → IsStruck m names seat s n (record first { tiles = ts })
+    stay tiles = record {
+      under = names;
+      blocks = blocks_so names ts (record first { tiles = ts }) stay_plain (record { begun = h.named.begun; numbers = h.named.numbers; entries = named_entries; tasks = named_tasks }) tiles refl h.room.chains;
+      plain = stay_plain;
+      others = refl;
     }
-
-    pub stay_rests : listed_for seat (tasks_of (record first { tiles = ts })) ≡ []
-    stay_rests =
-        ap (listed_for seat) (tasks_same names (record first { tiles = ts }) (record { begun = h.named.begun; numbers = h.named.numbers; entries = named_entries; tasks = named_tasks }) ∙ ap listed_tasks stay_plain)
-        ∙ (strike_lists p seat n ts).alone
-
-    pub stay_lists : (k : ℕ) → k ≢ seat → listed_for k (tasks_of (record first { tiles = ts })) ≡ listed_for k (tasks_of s)
-    stay_lists k ne =
-        ap (listed_for k) (tasks_same names (record first { tiles = ts }) (record { begun = h.named.begun; numbers = h.named.numbers; entries = named_entries; tasks = named_tasks }) ∙ ap listed_tasks stay_plain)
-        ∙ ((strike_lists p seat n ts).others k ne ∙ sym (ap (listed_for k) (tasks_same names s h.named)))
 
   -- the chain goes, and its name
   module _ (off : list_any (is_task_on n) (without_seat seat p.tasks) ≡ false) (gone : list_any (is_stored n) p.entries ≡ false) where
@@ -140,7 +182,7 @@ module _ (m : Moment) (names : List Named) (words : List ℕ) (s : Parts) (seat 
     goes = record first { chains = cs; tiles = ts }
 
     numbers : AllByRecursion (IsOther n number) names
-    numbers = differ n number names h.named.numbers (named_n m names words s seat h u)
+    numbers = differ n number names h.named.numbers (named_n m names s seat h u)
 
     -- no entry is on that chain
     none_on : (es : List Entry) → list_any (is_stored n) (map (stored s.chains) es) ≡ false → AllByRecursion (λ e. IsNamedAs names e.serial e.chain.number) es → AllByRecursion (λ e. e.chain.number ≢ number) es
@@ -161,7 +203,7 @@ module _ (m : Moment) (names : List Named) (words : List ℕ) (s : Parts) (seat 
       spare = s.journal.spare;
       database = s.database;
       entries = (stored_same s.chains number u.chain.held (after_leave n s.dir.entries) left_on ∙ left_in s.chains n s.dir.entries) i;
-      chains = chains_left (λ k. is_wanted (left_by_user n p.entries) (without_seat seat p.tasks) k) s.chains n number u.chain.held names (of_names names (wanted_else m names words s seat h u off gone)) numbers i;
+      chains = chains_left (λ k. is_wanted (left_by_user n p.entries) (without_seat seat p.tasks) k) s.chains n number u.chain.held names (of_names names (wanted_else m names s seat h u off gone)) numbers i;
       table_blocks = p.table_blocks;
       tiles = ts;
       connected = s.connected.items;
@@ -180,22 +222,27 @@ module _ (m : Moment) (names : List Named) (words : List ℕ) (s : Parts) (seat 
       tasks = works_named n names (others seat s.tasks.items) (none_each (is_task_on n) (map work_in (others seat s.tasks.items)) (ap (list_any (is_task_on n)) (others_in seat s.tasks.items) ∙ off)) named_tasks;
     }
 
-    pub go_whole : IsWhole m (without_name n names) words goes
-    go_whole = record {
-      named = go_named;
-      sound = subst (λ z. IsSound m words z) (sym go_plain) (strike_step m words p seat n ts h.sound (inl (found m names words s seat h u)) (tiles_released m names words s seat h u off gone));
-      directory = valid;
-      seats = record { once = h.seats.once; room = h.seats.room; task_room = omega (arith, h.seats.task_room, fewer) };
-      room = record { entries = omega (arith, h.room.entries, left_length n s.dir.entries); tables = h.room.tables; chains = room_left names s.chains n number u.chain.held (region_words s.options) h.sound.memory.chains.apart (named_n m names words s seat h u) u.chain.begun numbers h.room.chains; unpinner = h.room.unpinner };
+    go : IsStruck m names seat s n goes
+    go = record {
+      under = without_name n names;
+      blocks = blocks_so (without_name n names) ts goes go_plain go_named (tiles_released m names s seat h u off gone) refl (room_left names s.chains n number u.chain.held (region_words s.options) h.apart (named_n m names s seat h u) u.chain.begun numbers h.room.chains);
+      plain = go_plain;
+      others = refl;
     }
 
-    pub go_rests : listed_for seat (tasks_of goes) ≡ []
-    go_rests = ap (listed_for seat) (tasks_same (without_name n names) goes go_named ∙ ap listed_tasks go_plain) ∙ (strike_lists p seat n ts).alone
+  struck_so : (a b : Bool) → list_any (is_task_on n) (without_seat seat p.tasks) ≡ a → list_any (is_stored n) p.entries ≡ b → IsStruck m names seat s n (go_on a b u.work.chain.number u.chain.held first)
+  struck_so true b x y =
+      let e = q_at m names s seat h u ∙ (ap (λ c. list_any (is_stored n) p.entries || c) x ∙ or_right (list_any (is_stored n) p.entries) true refl) in
+      stay s.tiles e (tiles_kept m names s seat h u x)
+  struck_so false true x y =
+      let e = q_at m names s seat h u ∙ ap (λ c. c || list_any (is_task_on n) (without_seat seat p.tasks)) y in
+      stay (after_unpins u.chain.held.blocks s.tiles) e (tiles_unpinned m names s seat h u x y)
+  struck_so false false x y = go x y
 
-    pub go_lists : (k : ℕ) → k ≢ seat → listed_for k (tasks_of goes) ≡ listed_for k (tasks_of s)
-    go_lists k ne =
-        ap (listed_for k) (tasks_same (without_name n names) goes go_named ∙ ap listed_tasks go_plain)
-        ∙ ((strike_lists p seat n ts).others k ne ∙ sym (ap (listed_for k) (tasks_same names s h.named)))
+  pub struck_blocks : IsStruck m names seat s n (rested seat s)
+  struck_blocks =
+      subst (IsStruck m names seat s n) (sym (struck_is seat s u))
+      (struck_so (list_any (is_on n) (others seat s.tasks.items)) (is_some (entry_at n s.dir.entries)) (sym on_is) (sym there_is))
 
 -- what the server is when the seat rests
 pub record IsRested (m : Moment) (words : List ℕ) (seat : ℕ) (s t : Parts) : Type 0 where
@@ -207,32 +254,28 @@ pub record IsRested (m : Moment) (words : List ℕ) (seat : ℕ) (s t : Parts) :
   pub options : t.options ≡ s.options
   pub connected : t.connected ≡ s.connected
 
-module _ (m : Moment) (names : List Named) (words : List ℕ) (s : Parts) (seat : ℕ) (h : IsWhole m names words s) (u : MayStrike seat s) (valid : IsDirectory (with_entries (after_leave u.serial s.dir.entries) s.dir)) where
-  abbrev k : ℕ
-  k = u.serial
-
-  abbrev q : PlainServer
-  q = plain names s
-
-  abbrev less : Parts
-  less = with_user_less k (without_task_of seat s)
-
-  struck_so : (a b : Bool) → list_any (is_task_on k) (without_seat seat q.tasks) ≡ a → list_any (is_stored k) q.entries ≡ b → IsRested m words seat s (go_on a b u.work.chain.number u.chain.held less)
-  struck_so true b x y =
-      let e = q_at m names words s seat h u ∙ (ap (λ c. list_any (is_stored k) q.entries || c) x ∙ or_true (list_any (is_stored k) q.entries)) in
-      record { under = names; whole = stay_whole m names words s seat h u valid s.tiles e (tiles_kept m names words s seat h u x); rests = stay_rests m names words s seat h u valid s.tiles e; listed = stay_lists m names words s seat h u valid s.tiles e; journal = refl; options = refl; connected = refl }
-    where
-      or_true : (b : Bool) → (b || true) ≡ true
-      or_true true = refl
-      or_true false = refl
-  struck_so false true x y =
-      let e = q_at m names words s seat h u ∙ ap (λ c. c || list_any (is_task_on k) (without_seat seat q.tasks)) y in
-      let ts = after_unpins u.chain.held.blocks s.tiles in
-      record { under = names; whole = stay_whole m names words s seat h u valid ts e (tiles_unpinned m names words s seat h u x y); rests = stay_rests m names words s seat h u valid ts e; listed = stay_lists m names words s seat h u valid ts e; journal = refl; options = refl; connected = refl }
-  struck_so false false x y =
-      record { under = without_name k names; whole = go_whole m names words s seat h u valid x y; rests = go_rests m names words s seat h u valid x y; listed = go_lists m names words s seat h u valid x y; journal = refl; options = refl; connected = refl }
-
-  pub struck_whole : IsRested m words seat s (rested seat s)
-  struck_whole =
-      subst (IsRested m words seat s) (sym (struck_is seat s u))
-      (struck_so (list_any (is_on k) (others seat s.tasks.items)) (is_some (entry_at k s.dir.entries)) (sym (on_is m names words s seat h u valid)) (sym (there_is m names words s seat h u valid)))
+pub struck_whole : (m : Moment) (names : List Named) (words : List ℕ) (s : Parts) (seat : ℕ) → IsWhole m names words s → (u : MayStrike seat s) → IsDirectory (with_entries (after_leave u.serial s.dir.entries) s.dir) → IsRested m words seat s (rested seat s)
+struck_whole m names words s seat h u valid =
+    let bs = whole_blocks m names words s h in
+    let n = u.serial in
+    let t = rested seat s in
+    let p = plain names s in
+    let r = struck_blocks m names s seat bs u valid in
+    let b = r.blocks in
+    let whole : IsWhole m r.under words t = record {
+      named = b.named;
+      sound = subst (λ z. IsSound m words z) (sym r.plain) (strike_step m words p seat n t.tiles h.sound (may_end m names s seat bs u) (subst (TilesAreSound m) r.plain b.tiles));
+      directory = b.directory;
+      seats = b.seats;
+      room = b.room;
+    } in
+    let lists = strike_lists p seat n t.tiles in
+    record {
+      under = r.under;
+      whole = whole;
+      rests = ap (listed_for seat) (tasks_same r.under t b.named ∙ ap listed_tasks r.plain) ∙ lists.alone;
+      listed = λ k ne. ap (listed_for k) (tasks_same r.under t b.named ∙ ap listed_tasks r.plain) ∙ (lists.others k ne ∙ sym (ap (listed_for k) (tasks_same names s h.named)));
+      journal = ap (λ (x : Parts). x.journal) r.others;
+      options = ap (λ (x : Parts). x.options) r.others;
+      connected = ap (λ (x : Parts). x.connected) r.others;
+    }

@@ -141,7 +141,7 @@ back cs n (y ∷ es) x h = elim (eqb y.serial n) as (λ b. eqb y.serial n ≡ b 
 ] refl h
 
 -- all entries, but for the one that is used
-all_without : (P : Entry → Type 0) (n : ℕ) (es : List Entry) → AllByRecursion P es → AllByRecursion P (without n es)
+pub all_without : (P : Entry → Type 0) (n : ℕ) (es : List Entry) → AllByRecursion P es → AllByRecursion P (without n es)
 all_without P n [] h = tt
 all_without P n (x ∷ es) h = elim (eqb x.serial n) as (λ b. AllByRecursion P (cond (not b) (x ∷ without n es) (without n es))) [
   | true ↦ all_without P n es h.1

@@ -33,11 +33,16 @@ pub record IsNext {K : Ghosts Parts Event} (h : Held Parts Event K) (who : Who) 
 abbrev pub Rests : {K : Ghosts Parts Event} → Held Parts Event K → Type 0
 Rests h = IsListed (holder h).number task.Rest [] (listed_for (holder h).number (tasks_of h.value))
 
--- events that change nothing of the cache
+-- a command that changed no data, or a conflict
 abbrev pub IsNoted : Parts → How → Type 0
 IsNoted s how.Other = Unit {0}
 IsNoted s (how.Conflict t key by) = IsCommitOn s.journal.events by t
 IsNoted s _ = ⊥
+
+-- runs that change nothing of the cache
+abbrev pub ChangesNothing : Parts → How → Type 0
+ChangesNothing s (how.Status totals) = Unit {0}
+ChangesNothing s h = IsNoted s h
 
 -- there is room for one event beside those that the entries may still have
 abbrev pub HasSpare : Parts → Type 0

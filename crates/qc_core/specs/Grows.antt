@@ -1,5 +1,5 @@
 -- The chain of an entry that is filled gets a block more.
-use Rattle.std.specs.Prelude.{◌≡◌, ◌≢◌, ℕ, ◌+◌, ◌*◌, ◌<◌, ◌≤◌, List, [], ◌∷◌, ◌++◌, length, Some, None, unwrap_or, true, Contains}
+use Rattle.std.specs.Prelude.{◌≡◌, ◌≢◌, ℕ, ◌+◌, ◌*◌, ◌<◌, ◌≤◌, List, [], ◌∷◌, ◌++◌, length, Some, None, unwrap_or, true, Contains, Result, IfOk, IfErr}
 use Rattle.qc_model.specs.Journal.{present}
 use Rattle.qc_model.specs.Session.{answer}
 use Rattle.qc_model.specs.Cache.{cache, entry_of}
@@ -72,6 +72,11 @@ abbrev pub IsShort : ℕ → Parts → Parts → Short → Type 0
 IsShort n old new (short.Overtaken by) = (entry_of n (cache old.journal.events) ≡ None) × IsOvertakenBy old.journal.events n by × (new ≡ old)
 IsShort n old new (short.NoRoom need largest) =
     IsFilling old.journal.events n × (count : ℕ) × PrunesMany (unit_words old.options) count old new × LacksTile (unit_words old.options) new (record { need = need; largest = largest })
+
+-- what a call for one block more makes of the server and the ranges, and answers
+pub record TellsGrowth (n : ℕ) (old : Parts) (before : Ranged) (new : Parts) (after : Ranged) (told : Result Block Short) : Type 0 where
+  pub ok : IfOk told (λ block. Grows n old block new × (after ≡ longer_by block before))
+  pub err : IfErr told (λ e. IsShort n old new e × (after ≡ before))
 
 -- ---- on the server alone
 

@@ -1,5 +1,6 @@
 -- An entry leaves.
-use Rattle.std.specs.Prelude.{◌≡◌, ℕ, ◌+◌, List, [], ◌∷◌, ◌++◌, map, length, drop, Option, Some, None, slice_set, IsPermutation}
+use Rattle.std.specs.List.{list_any}
+use Rattle.std.specs.Prelude.{◌≡◌, ℕ, ◌+◌, Bool, true, false, List, [], ◌∷◌, ◌++◌, map, length, drop, Option, Some, None, slice_set, IsPermutation}
 use Rattle.qc_tiles.specs.declared.blocks.Tile.{Tile}
 use Rattle.qc_tiles.specs.declared.blocks.Block.{Block}
 use Rattle.qc_tiles.specs.Tiles.{IsTiling, region_words}
@@ -8,6 +9,7 @@ use Rattle.qc_dir.specs.declared.entries.Entry.{Entry}
 use Rattle.qc_dir.specs.declared.tables.TableBlock.{TableBlock}
 use Rattle.qc_dir.specs.Directory.{Directory, entry_at, RemovesEntry}
 use Rattle.qc_core.specs.declared.parts.Parts.{Parts}
+use Rattle.qc_core.specs.Strikes.{is_on}
 
 -- the blocks of the tables in some places
 abbrev pub blocks_in : List (Option TableBlock) → List Block
@@ -18,9 +20,18 @@ blocks_in (Some t ∷ ps) = t.block ∷ blocks_in ps
 abbrev pub table_blocks : List TableBlock → List Block
 table_blocks ts = map (λ t. t.block) ts
 
--- the blocks that an entry gives back: those of its chain, its text, and of tables
-abbrev pub own_blocks : Entry → Chain → List TableBlock → List Block
-own_blocks e held freed = held.blocks ++ (e.text ∷ table_blocks freed)
+-- whether a task is on the entry
+abbrev pub has_task : ℕ → Parts → Bool
+has_task n s = list_any (is_on n) s.tasks.items
+
+-- the chain's blocks, which go with the entry where no task is on it
+abbrev pub free_chain : (on : Bool) → Chain → List Block
+free_chain true held = []
+free_chain false held = held.blocks
+
+-- the blocks that an entry gives back: those of its chain that are free, its text, and of tables
+abbrev pub own_blocks : List Block → Entry → List TableBlock → List Block
+own_blocks free e freed = free ++ (e.text ∷ table_blocks freed)
 
 -- the entry is there with its chain, and its blocks are handed out, whichever of the tables are freed
 pub record MayLeave (serial : ℕ) (s : Parts) : Type 0 where
@@ -29,18 +40,27 @@ pub record MayLeave (serial : ℕ) (s : Parts) : Type 0 where
   pub there : entry_at serial s.dir.entries ≡ Some entry
   pub begun : Begun entry.chain.number s.chains held
   pub tiling : IsTiling (region_words s.tiles) s.tiles
-  pub out : (freed rest : List TableBlock) → IsPermutation s.dir.tables (freed ++ rest) → AreHandedOut s.tiles (own_blocks entry held freed)
+  pub chain : AreHandedOut s.tiles held.blocks
+  pub out : (freed rest : List TableBlock) → IsPermutation s.dir.tables (freed ++ rest) → AreHandedOut s.tiles (own_blocks (free_chain (has_task serial s) held) entry freed)
 
 abbrev pub released : ℕ → Chain → Chained → Chained
 released n held cs = record { chains = slice_set cs.chains n None; room = cs.room + length held.blocks }
 
-abbrev pub left_by : Directory → Entry → Chain → List TableBlock → Parts → Parts
-left_by dir e held freed s = record s { dir = dir; chains = released e.chain.number held s.chains; tiles = after_release (own_blocks e held freed) s.tiles }
+abbrev pub released_unless : (on : Bool) → ℕ → Chain → Chained → Chained
+released_unless true n held cs = cs
+released_unless false n held cs = released n held cs
+
+-- the chain is given back where no task is on it
+abbrev pub chain_left : (on : Bool) → ℕ → Chain → Parts → Parts
+chain_left on n held s = record s { chains = released_unless on n held s.chains; tiles = after_release (free_chain on held) s.tiles }
+
+abbrev pub left_by : Directory → (on : Bool) → Entry → Chain → List TableBlock → Parts → Parts
+left_by dir on e held freed s = record s { dir = dir; chains = released_unless on e.chain.number held s.chains; tiles = after_release (own_blocks (free_chain on held) e freed) s.tiles }
 
 -- the entry is out, and its blocks were given back
 pub record Leaves (serial : ℕ) (e : Entry) (held : Chain) (freed : List TableBlock) (old new : Parts) : Type 0 where
   pub removed : RemovesEntry serial freed old.dir new.dir
-  pub server : new ≡ left_by new.dir e held freed old
+  pub server : new ≡ left_by new.dir (has_task serial old) e held freed old
 
 -- so many of the places have been gone through
 pub record IsReturning (ps : List (Option TableBlock)) (k : ℕ) (old now : List Tile) : Type 0 where

@@ -7,9 +7,13 @@ pub mod Calls
 pub mod Hits
 pub mod KeptLaws
 pub mod Spelled
+pub mod Strikes
 pub mod Leaves
 pub mod Prunes
 pub mod Allocates
 pub mod Overtaken
-pub mod Strikes
 pub mod Grows
+pub mod Sweeps
+pub mod Statuses
+pub mod Cuts
+pub mod Compacts

@@ -1,4 +1,4 @@
--- A stream that its seat has ended is struck off.
+-- A task that ends without an event is struck off: a stream that its seat has ended, or the fill of an entry that has left.
 use Rattle.std.specs.Prelude.{◌≡◌, ℕ, ◌+◌, ◌<◌, ◌≤◌, ◌⊎◌, Bool, true, false, not, List, length, map, Option, Some, None, IfSome, is_some, ◌==◌, slice_set}
 use Rattle.std.specs.List.{list_any, filter, find}
 use Rattle.qc_tiles.specs.declared.blocks.Block.{Block}
@@ -6,6 +6,7 @@ use Rattle.qc_tiles.specs.Tiles.{IsTiling, region_words}
 use Rattle.qc_chain.specs.Chains.{Chain, Chained, Begun, AreHandedOut, chain_at, after_release}
 use Rattle.qc_dir.specs.Directory.{entry_at, after_leave, with_entries}
 use Rattle.qc_laws.specs.history.Runs.{are_distinct}
+use Rattle.qc_turn.specs.declared.task.Task.{Task}
 use Rattle.qc_turn.specs.declared.task.Task.TheVariants as task
 use Rattle.qc_sound.specs.PlainServer.{is_task_on, serial_of}
 use Rattle.qc_core.specs.declared.parts.RunningTask.{RunningTask}
@@ -56,7 +57,7 @@ let_go true there number s = s
 let_go false true number s = with_unpinned number s
 let_go false false number s = with_released number (with_unpinned number s)
 
--- ---- a stream has ended
+-- ---- a task is out
 
 -- its entry, where it is there, has a user
 pub record MayEnd (n number : ℕ) (s : Parts) : Type 0 where
@@ -71,18 +72,22 @@ after_end n number s = let_go (list_any (is_on n) s.tasks.items) (is_some (entry
 
 -- ---- a seat rests
 
--- the seat has a stream, and no other task
+-- a stream, or a fill of an entry that has left
+abbrev pub EndsAlone : Task → ℕ → Parts → Type 0
+EndsAlone t n s = (t ≡ task.Stream n) ⊎ ((t ≡ task.Fill n) × (entry_at n s.dir.entries ≡ None))
+
+-- the seat's task may end without an event
 pub record MayStrike (seat : ℕ) (s : Parts) : Type 0 where
   pub work : RunningTask
   pub serial : ℕ
   pub at : find (is_of seat) s.tasks.items ≡ Some work
-  pub stream : work.task ≡ task.Stream serial
+  pub ends : EndsAlone work.task serial s
   pub used : IfSome (entry_at serial s.dir.entries) (λ e. 0 < e.users)
   pub chain : MayLetGo work.chain.number s
 
 pub record MayRest (seat : ℕ) (s : Parts) : Type 0 where
   pub once : are_distinct (map (λ w. w.seat) s.tasks.items) ≡ true
-  pub stream : (find (is_of seat) s.tasks.items ≡ None) ⊎ MayStrike seat s
+  pub task : (find (is_of seat) s.tasks.items ≡ None) ⊎ MayStrike seat s
 
 abbrev pub rested_from : ℕ → ℕ → Option ℕ → Parts → Parts
 rested_from seat number None s = s
@@ -92,6 +97,6 @@ abbrev pub rested_by : ℕ → Option RunningTask → Parts → Parts
 rested_by seat None s = s
 rested_by seat (Some w) s = rested_from seat w.chain.number (serial_of w.task) s
 
--- the server when the stream of a seat, if it has one, was struck off
+-- the server when the task of a seat, if it has one, was struck off
 abbrev pub rested : ℕ → Parts → Parts
 rested seat s = rested_by seat (find (is_of seat) s.tasks.items) s

@@ -2,28 +2,41 @@
 
 ghost use Rattle.std.specs.Prelude.{◌≡◌, true, false, List, [], ◌∷◌, None};
 ghost use Rattle.qc_tiles.specs.Tiles.{IsTiling, region_words};
-ghost use Rattle.qc_chain.specs.Chains.{AreHandedOut, after_release};
+ghost use Rattle.qc_chain.specs.Chains.{Chain, Begun, AreHandedOut, after_release};
 ghost use Rattle.qc_dir.specs.declared.tables.TableBlock.{TableBlock};
 ghost use Rattle.qc_dir.specs.Directory.{IsDirectory, oldest_idle};
-ghost use Rattle.qc_core.specs.Leaves.{blocks_in, MayLeave, Leaves};
+ghost use Rattle.qc_core.specs.Leaves.{blocks_in, has_task, chain_left, MayLeave, Leaves};
 ghost use Rattle.qc_core.specs.Prunes.{MayPruneOne, PrunesOne};
 
 use crate::parts::Parts;
+use crate::strikes::is_on;
+use qc_chain::ChainName;
 use qc_dir::{Removed, TableBlock};
 use qc_model::events::Event;
 use qc_tiles::Tiles;
 
 impl Parts {
-    /// Takes an entry out, and gives back its blocks, and those of the tables that no other entry names.
-    fn drop_entry(&mut self, serial: u64)
+    /// Takes an entry out, and gives back its blocks, and those of the tables that no other entry names. Its chain stays while a task is on it.
+    pub(crate) fn drop_entry(&mut self, serial: u64)
         requires { MayLeave serial self.old }
         ensures left { (u : MayLeave serial self.old) → (freed : List TableBlock) × Leaves serial u.entry u.held freed self.old self.new }
         ensures valid { IsDirectory self.new.dir }
     {
         let Removed { entry, freed } = self.dir.remove(serial);
-        self.chains.release(entry.chain, &mut self.tiles);
+        self.drop_chain(serial, entry.chain);
         self.tiles.give_back(entry.text);
         give_back_tables(&mut self.tiles, freed.items());
+    }
+
+    /// Gives the chain of an entry back that is out, where no task is on it.
+    fn drop_chain(&mut self, serial: u64, chain: ChainName)
+        requires { (held : Chain) × Begun chain.number self.old.chains held × AreHandedOut self.old.tiles held.blocks }
+        ensures { (held : Chain) → Begun chain.number self.old.chains held → self.new ≡ chain_left (has_task serial self.old) chain.number held self.old }
+    {
+        if is_on(self.tasks.items(), serial) {
+            return;
+        }
+        self.chains.release(chain, &mut self.tiles);
     }
 
     /// Takes the least recently used entry out that is complete and without users, as no free block holds the need, and pushes its event. False, with

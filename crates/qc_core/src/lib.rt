@@ -4,6 +4,7 @@
 mod allocates;
 mod begins;
 mod counted;
+mod flushes;
 mod grows;
 mod hits;
 mod keys;
@@ -17,9 +18,12 @@ mod reserved;
 mod rooms;
 mod seats;
 mod server;
+mod statuses;
 mod strikes;
+mod sweeps;
 
 pub use counted::CountedJournal;
+pub use flushes::flush;
 pub use grows::{Short, grow};
 pub use hits::Hit;
 pub use looks::look;
@@ -30,3 +34,4 @@ pub use reserved::ReservedList;
 pub use rooms::reserve;
 pub use seats::{Full, enter, leave};
 pub use server::Server;
+pub use statuses::status;

@@ -1,14 +1,19 @@
 //! Seats connect and leave.
 
-ghost use Rattle.std.specs.Prelude.{◌≡◌, ◌+◌, ◌<◌, ◌==◌, true, false, nat_le, is_ok, IfOk, OnErr, IfSome, IfNone, slice_get, Some};
+ghost use Rattle.std.specs.Prelude.{◌≡◌, ◌+◌, ◌<◌, ◌==◌, true, false, [], nat_le, is_ok, IfOk, OnErr, IfSome, IfNone, slice_get, Some};
 ghost use Rattle.std.specs.List.{list_any};
 ghost use Rattle.qc_laws.specs.history.Runs.{are_distinct};
 ghost use Rattle.qc_turn.specs.Seats.{MayRelease, SameHolder, holder};
 ghost use Rattle.qc_turn.specs.Words.{word_seats};
+ghost use Rattle.qc_turn.specs.Tasks.{listed_for};
+ghost use Rattle.qc_core.specs.Whole.{tasks_of};
+ghost use Rattle.qc_core.specs.Calls.{Rests};
 ghost use Rattle.qc_core.specs.Connects.{is_connected, connects, disconnects};
+ghost use Rattle.qc_core.specs.Strikes.{rested};
 
 use crate::parts::Parts;
 use crate::server::Server;
+use crate::strikes::strike_own;
 use qc_turn::Held;
 
 /// The largest number of a seat that may connect.
@@ -85,8 +90,24 @@ pub fn enter(held: &mut Held<'_, Server>) -> Result<u8, Full>
     Ok((seat - 1) as u8)
 }
 
-/// Ends the connection of the seat that holds the turn, whose session this is.
+/// Ends the connection of the seat that holds the turn, whose session this is. Before that the seat's own stream, which has ended, is struck off where it
+/// is listed still.
 pub fn leave(held: &mut Held<'_, Server>, session: u8)
+    requires stands { MayRelease held.old }
+    requires session { session + 1 ≡ (holder held.old).number }
+    requires connected { is_connected (holder held.old).number held.old.value ≡ true }
+    requires rests { Rests held.old }
+    ensures stands { MayRelease held.new × SameHolder held.old held.new }
+    ensures left { held.new.value ≡ disconnects (holder held.old).number (rested (holder held.old).number held.old.value) }
+    ensures rests { listed_for (holder held.old).number (tasks_of held.new.value) ≡ [] }
+    ensures ranges { held.new.ranges ≡ held.old.ranges }
+{
+    strike_own(held);
+    end_connection(held, session);
+}
+
+/// The seat that holds the turn isn't connected any more.
+fn end_connection(held: &mut Held<'_, Server>, session: u8)
     requires stands { MayRelease held.old }
     requires session { session + 1 ≡ (holder held.old).number }
     requires connected { is_connected (holder held.old).number held.old.value ≡ true }

@@ -1,10 +1,11 @@
-//! Streams that have ended are struck off.
+//! Tasks are struck off that end without an event.
 
 ghost use Rattle.std.specs.Prelude.{◌≡◌, ◌<◌, true, false, [], map, find, IfSome, IfNone, IsSomeAnd, is_some, slice_get};
 ghost use Rattle.std.specs.List.{list_any};
 ghost use Rattle.qc_laws.specs.history.Runs.{are_distinct};
 ghost use Rattle.qc_dir.specs.Directory.{IsDirectory, entry_at, after_leave, with_entries};
 ghost use Rattle.qc_turn.specs.Tasks.{listed_for};
+ghost use Rattle.qc_sound.specs.PlainServer.{serial_of};
 ghost use Rattle.qc_turn.specs.Seats.{MayRelease, SameHolder, holder};
 ghost use Rattle.qc_core.specs.Whole.{tasks_of};
 ghost use Rattle.qc_core.specs.Calls.{Rests};
@@ -16,8 +17,8 @@ use qc_chain::ChainName;
 use qc_turn::{Held, Task};
 
 impl Parts {
-    /// Strikes the stream of a seat off, where it has one: the entry has one user less, and the chain is unpinned where no other task is on it, and goes
-    /// where its entry has left as well.
+    /// Strikes the task of a seat off, where it has one: a stream, or the fill of an entry that has left. An entry that was streamed has one user less. The
+    /// chain is unpinned where no other task is on it, and goes where its entry has left as well.
     pub(crate) fn rest(&mut self, seat: u32)
         requires may { MayRest seat self.old }
         requires valid { IsDirectory self.old.dir }
@@ -27,10 +28,10 @@ impl Parts {
         let Some(ended) = self.take_task(seat) else {
             return;
         };
-        let Task::Stream(serial) = ended.task else {
+        let Some(serial) = serial_in(ended.task) else {
             unreachable!()
         };
-        self.end_stream(serial, ended.chain);
+        self.end_task(serial, ended.chain);
     }
 
     /// Takes the task of a seat out of the list, where it has one.
@@ -46,8 +47,8 @@ impl Parts {
         Some(self.tasks.remove(index))
     }
 
-    /// What a stream leaves whose task is out.
-    fn end_stream(&mut self, serial: u64, chain: ChainName)
+    /// What a task leaves that is out of the list.
+    fn end_task(&mut self, serial: u64, chain: ChainName)
         requires { MayEnd serial chain.number self.old }
         ensures ended { self.new ≡ after_end serial chain.number self.old }
         ensures valid { IsDirectory self.new.dir }
@@ -86,7 +87,7 @@ impl Parts {
 
 impl Server {
     /// The same of what is in the box.
-    fn rest(&mut self, seat: u32)
+    pub(crate) fn rest(&mut self, seat: u32)
         requires may { MayRest seat self.old }
         requires valid { IsDirectory self.old.dir }
         ensures rested { self.new ≡ rested seat self.old }
@@ -103,6 +104,7 @@ pub(crate) fn strike_own(held: &mut Held<'_, Server>)
     ensures stands { MayRelease held.new × SameHolder held.old held.new }
     ensures struck { held.new.value ≡ rested (holder held.old).number held.old.value }
     ensures rests { listed_for (holder held.old).number (tasks_of held.new.value) ≡ [] }
+    ensures connected { held.new.value.connected ≡ held.old.value.connected }
     ensures ranges { held.new.ranges ≡ held.old.ranges }
 {
     let seat = held.number();
@@ -122,6 +124,16 @@ fn task_of(tasks: &[RunningTask], seat: u32) -> Option<usize>
         index += 1;
     }
     None
+}
+
+/// The serial of what is streamed or filled.
+fn serial_in(task: Task) -> Option<u64>
+    ensures { result ≡ serial_of task }
+{
+    match task {
+        Task::Rest => None,
+        Task::Stream(serial) | Task::Fill(serial) => Some(serial),
+    }
 }
 
 /// Whether a task is on the entry with a serial.

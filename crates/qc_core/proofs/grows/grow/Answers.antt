@@ -1,42 +1,37 @@
-use Rattle.std.proofs.Common.{◌≡◌, ◌≤◌, ◌<◌, ℕ, arith, sym, ap, subst, ◌∙◌}
-use Rattle.std.specs.Prelude.{IfOk}
-use Rattle.std.specs.Result.{IfErr}
-use Rattle.qc_key.specs.Hash.{hash}
-use Rattle.qc_model.specs.Licence.{region_words}
+use Rattle.std.proofs.Common.{◌≡◌, ℕ, List, sym, ap, subst, ◌∙◌, refl}
 use Rattle.qc_chain.specs.Chains.{Ranged}
-use Rattle.qc_turn.specs.Views.{idle_of}
-use Rattle.qc_turn.specs.Seats.{words, holder, MayRelease, SameHolder, with_value, with_ranges}
+use Rattle.qc_turn.specs.Tasks.{listed_for, own}
+use Rattle.qc_turn.specs.declared.task.Task.TheVariants as task
+use Rattle.qc_turn.specs.Seats.{holder, with_ranges}
 use Rattle.qc_core.specs.declared.parts.Parts.{Parts}
-use Rattle.qc_core.specs.Grows.{MayGrowOn, Grows, IsShort, StaysFilling, longer_by}
-use Rattle.qc_core.proofs.Standing.{both_stand}
-use Rattle.qc_core.proofs.Growing.{may_grow_on, grow_follows}
+use Rattle.qc_core.specs.Whole.{tasks_of}
+use Rattle.qc_core.specs.Grows.{TellsGrowth}
+use Rattle.qc_core.specs.Sweeps.{Finds}
+use Rattle.qc_core.proofs.Sweeping.{finds_same}
+use Rattle.qc_core.proofs.Growing.{swept_fills}
 use Rattle.qc_core.proofs.grows.grow.Goals as goal
 
-pub grow-grown-requires : goal.grow-grown-requires
-grow-grown-requires c =
+pub grow_chain-requires-clause-fills : goal.grow_chain-requires-clause-fills
+grow_chain-requires-clause-fills c =
     let h = c.args.held.now in
-    let u = may_grow_on (words h) h.value (holder h).number c.args.serial h.ranges c.requires.stands.sound (omega (arith, c.requires.stands.held.width, h.turn.now.small)) c.requires.fills in
-    subst (λ (p : Parts × Ranged). MayGrowOn c.args.serial p.0 p.1) (λ i. (sym (c.value-2.ensures.value ∙ c.value.ensures.value) i, sym (c.replace-ranges.ensures.value ∙ c.ranges-2.ensures.value) i)) u
-
-pub returns-clause-stands : goal.returns-clause-stands
-returns-clause-stands c =
-    let h = c.args.held.now in
-    let n = c.args.serial in
-    let same = c.value-2.ensures.value ∙ c.value.ensures.value in
-    let hand = c.replace-ranges.ensures.value ∙ c.ranges-2.ensures.value in
-    let u = may_grow_on (words h) h.value (holder h).number n h.ranges c.requires.stands.sound (omega (arith, c.requires.stands.held.width, h.turn.now.small)) c.requires.fills in
-    let new = c.grow-grown.new.self in
-    let st = subst (λ (p : Parts × Ranged). (u : MayGrowOn n p.0 p.1) → StaysFilling n p.0 new c.grow-grown.new.ranges u.words u.seat) (λ i. (same i, hand i)) c.grow-grown.ensures.stays u in
-    let ok = subst (λ (p : Parts × Ranged). IfOk c.grow-grown.result (λ block. Grows n p.0 block new × (c.grow-grown.new.ranges ≡ longer_by block p.1))) (λ i. (same i, hand i)) c.grow-grown.ensures.ok in
-    let err = subst (λ (p : Parts × Ranged). IfErr c.grow-grown.result (λ e. IsShort n p.0 new e × (c.grow-grown.new.ranges ≡ p.1))) (λ i. (same i, hand i)) c.grow-grown.ensures.err in
-    both_stand h c.grow-grown.new.ranges new c.requires.stands (st.names, st.whole) (grow_follows n (holder h).number (idle_of (holder h).found) h.value new c.grow-grown.new.ranges (words h) _ _ c.grow-grown.result ok err st)
+    let k = c.strike_ended.new.held in
+    let w = c.strike_ended.ensures.swept in
+    swept_fills (holder h).number (holder k).number c.args.serial h.value k.value h.ranges k.ranges w.0 (ap (λ v. v.number) w.1.holder) w.1.ranges w.2 c.requires.fills
 
 pub returns-clause-listed : goal.returns-clause-listed
 returns-clause-listed c =
+    let w = c.strike_ended.ensures.swept in
+    subst (λ n. listed_for n (tasks_of c.grow_chain.new.held.value) ≡ own n (task.Fill c.args.serial) c.grow_chain.new.held.ranges.blocks) (ap (λ v. v.number) w.1.holder) c.grow_chain.ensures.listed
+
+pub returns-clause-found : goal.returns-clause-found
+returns-clause-found c =
     let h = c.args.held.now in
-    let n = c.args.serial in
-    let same = c.value-2.ensures.value ∙ c.value.ensures.value in
-    let hand = c.replace-ranges.ensures.value ∙ c.ranges-2.ensures.value in
-    let u = may_grow_on (words h) h.value (holder h).number n h.ranges c.requires.stands.sound (omega (arith, c.requires.stands.held.width, h.turn.now.small)) c.requires.fills in
-    let st = subst (λ (p : Parts × Ranged). (u : MayGrowOn n p.0 p.1) → StaysFilling n p.0 c.grow-grown.new.self c.grow-grown.new.ranges u.words u.seat) (λ i. (same i, hand i)) c.grow-grown.ensures.stays u in
-    st.alone
+    let k = c.strike_ended.new.held in
+    let m = c.grow_chain.new.held in
+    let w = c.strike_ended.ensures.swept in
+    let p = c.grow_chain.ensures.stands.1 in (
+      w.0,
+      w.3,
+      subst (λ (r : Ranged). Finds h (with_ranges m r) w.0) w.1.ranges (finds_same h k (with_ranges m k.ranges) w.0 w.1 (record { seat = p.seat; turn = p.turn; holder = p.holder }) refl),
+      subst (λ (p : Parts × Ranged). TellsGrowth c.args.serial p.0 p.1 m.value m.ranges c.grow_chain.result) (λ i. (w.2.value i, w.1.ranges i)) c.grow_chain.ensures.told,
+    )

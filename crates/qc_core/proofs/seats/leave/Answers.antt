@@ -1,33 +1,33 @@
-use Rattle.std.proofs.Common.{◌≡◌, ◌+◌, ℕ, arith, sym, subst, ◌∙◌}
-use Rattle.std.specs.Prelude.{true}
-use Rattle.qc_laws.specs.history.Runs.{are_distinct}
-use Rattle.qc_turn.specs.Views.{idle_of}
-use Rattle.qc_turn.specs.Seats.{words, holder, MayRelease, SameHolder, with_value}
+use Rattle.std.proofs.Common.{◌≡◌, ℕ, true, sym, ap, subst, ◌∙◌}
+use Rattle.std.specs.Prelude.{◌==◌}
+use Rattle.std.specs.List.{list_any}
+use Rattle.qc_turn.specs.Tasks.{listed_for}
+use Rattle.qc_turn.specs.Seats.{holder}
+use Rattle.qc_turn.proofs.Holders.{same_on, number_is}
 use Rattle.qc_core.specs.declared.parts.Parts.{Parts}
-use Rattle.qc_core.specs.Connects.{is_connected, disconnects}
-use Rattle.qc_core.proofs.Standing.{value_stands}
-use Rattle.qc_core.proofs.Connecting.{connected_place, disconnect_sound, disconnect_follows}
+use Rattle.qc_core.specs.Reserved.{Reserved}
+use Rattle.qc_core.specs.Whole.{tasks_of}
+use Rattle.qc_core.specs.Connects.{disconnects}
 use Rattle.qc_core.proofs.seats.leave.Goals as goal
 
-pub disconnect-requires-clause-connected : goal.disconnect-requires-clause-connected
-disconnect-requires-clause-connected c =
-    let seat : c.from.result + 1 ≡ (holder c.args.held.now).number = omega (arith, c.from.ensures, c.requires.session) in
-    subst (λ (p : ℕ × Parts). is_connected p.0 p.1 ≡ true) (λ i. (sym seat i, sym c.value.ensures.value i)) c.requires.connected
+pub end_connection-requires-clause-session : goal.end_connection-requires-clause-session
+end_connection-requires-clause-session c = c.requires.session ∙ sym (number_is c.args.held.now c.strike_own.new.held c.strike_own.ensures.stands.1)
 
-pub disconnect-requires-clause-once : goal.disconnect-requires-clause-once
-disconnect-requires-clause-once c = subst (λ (s : Parts). are_distinct s.connected.items ≡ true) (sym c.value.ensures.value) c.requires.stands.sound.1.seats.once
+pub end_connection-requires-clause-connected : goal.end_connection-requires-clause-connected
+end_connection-requires-clause-connected c =
+    let number = number_is c.args.held.now c.strike_own.new.held c.strike_own.ensures.stands.1 in
+    subst (λ (p : ℕ × Reserved ℕ). list_any (λ m. m == p.0) p.1.items ≡ true) (λ i. (sym number i, sym c.strike_own.ensures.connected i)) c.requires.connected
 
 pub returns-clause-stands : goal.returns-clause-stands
 returns-clause-stands c =
-    let h = c.args.held.now in
-    let n = (holder h).number in
-    let seat : c.from.result + 1 ≡ n = omega (arith, c.from.ensures, c.requires.session) in
-    let same : c.disconnect.new.self ≡ disconnects n h.value = c.disconnect.ensures ∙ (λ i. disconnects (seat i) (c.value.ensures.value i)) in
-    let place = connected_place n h.value.connected.items c.requires.connected in
-    subst (λ x. MayRelease (with_value h x) × SameHolder h (with_value h x)) (sym same)
-    (value_stands h (disconnects n h.value) c.requires.stands (disconnect_sound (words h) h.value n place.0 c.requires.stands.sound place.1) (disconnect_follows h.value n (idle_of (holder h).found)))
+    let one = c.strike_own.ensures.stands in
+    let two = c.end_connection.ensures.stands in
+    (two.0, same_on c.args.held.now c.strike_own.new.held c.end_connection.new.held one.1 two.1)
 
 pub returns-clause-left : goal.returns-clause-left
 returns-clause-left c =
-    let seat : c.from.result + 1 ≡ (holder c.args.held.now).number = omega (arith, c.from.ensures, c.requires.session) in
-    c.disconnect.ensures ∙ (λ i. disconnects (seat i) (c.value.ensures.value i))
+    let number = number_is c.args.held.now c.strike_own.new.held c.strike_own.ensures.stands.1 in
+    c.end_connection.ensures.left ∙ (λ i. disconnects (number i) (c.strike_own.ensures.struck i))
+
+pub returns-clause-rests : goal.returns-clause-rests
+returns-clause-rests c = ap (λ (s : Parts). listed_for (holder c.args.held.now).number (tasks_of s)) c.end_connection.ensures.left ∙ c.strike_own.ensures.rests

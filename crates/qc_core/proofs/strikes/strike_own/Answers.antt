@@ -45,3 +45,13 @@ returns-clause-rests c =
     let is : c.rest.new.self ≡ rested n h.value = c.rest.ensures.rested ∙ (λ i. rested (c.number-seat.ensures i) (c.value.ensures.value i)) in
     let r = rested_sound (words h) h.value n sound may (subst (λ (s : Parts). IsDirectory s.dir) is c.rest.ensures.valid) in
     ap (λ (s : Parts). listed_for n (tasks_of s)) is ∙ r.0.rests
+
+pub returns-clause-connected : goal.returns-clause-connected
+returns-clause-connected c =
+    let h = c.args.held.now in
+    let n = (holder h).number in
+    let sound = c.requires.stands.sound in
+    let may = may_rest (at_rest hash) sound.0 (words h) h.value n sound.1 c.requires.rests in
+    let is : c.rest.new.self ≡ rested n h.value = c.rest.ensures.rested ∙ (λ i. rested (c.number-seat.ensures i) (c.value.ensures.value i)) in
+    let r = rested_sound (words h) h.value n sound may (subst (λ (s : Parts). IsDirectory s.dir) is c.rest.ensures.valid) in
+    ap (λ (s : Parts). s.connected) is ∙ r.0.connected

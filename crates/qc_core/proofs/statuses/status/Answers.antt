@@ -1,0 +1,21 @@
+use Rattle.std.proofs.Common.{subst}
+use Rattle.qc_turn.specs.Seats.{holder}
+use Rattle.qc_core.specs.declared.parts.Parts.{Parts}
+use Rattle.qc_core.specs.Statuses.{TellsStatus}
+use Rattle.qc_core.proofs.Sweeping.{finds_same, next_swept, spare_swept}
+use Rattle.qc_core.proofs.statuses.status.Goals as goal
+
+pub push_status-requires-clause-next : goal.push_status-requires-clause-next
+push_status-requires-clause-next c = let w = c.strike_ended.ensures.swept in next_swept c.args.held.now c.strike_ended.new.held c.args.who w.0 w.1 w.2 c.requires.next
+
+pub push_status-requires-clause-room : goal.push_status-requires-clause-room
+push_status-requires-clause-room c = let w = c.strike_ended.ensures.swept in spare_swept (holder c.args.held.now).number c.args.held.now.value c.strike_ended.new.held.value w.0 w.2 c.requires.room
+
+pub returns-clause-told : goal.returns-clause-told
+returns-clause-told c =
+    let h = c.args.held.now in
+    let k = c.strike_ended.new.held in
+    let m = c.push_status.new.held in
+    let w = c.strike_ended.ensures.swept in
+    let p = c.push_status.ensures in
+    (w.0, w.3, finds_same h k m w.0 w.1 p.stands.1 p.ranges, subst (λ (s : Parts). TellsStatus c.args.who s m.value c.push_status.result) w.2.value p.told)
