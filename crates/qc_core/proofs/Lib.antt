@@ -32,3 +32,4 @@ pub mod Compacting
 pub mod Flushing
 pub mod Sweeping
 pub mod Cutting
+pub mod GivingUp

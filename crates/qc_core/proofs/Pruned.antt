@@ -84,7 +84,7 @@ pub record Idle (m : Moment) (words : List ℕ) (names : List Named) (s : Parts)
 
 module _ (m : Moment) (words : List ℕ) (names : List Named) (s : Parts) (n : ℕ) (h : IsWhole m names words s) (u : Idle m words names s n) where
   abbrev pub may_leave : MayLeave n s
-  may_leave = cut_leaves m names s n (whole_blocks m names words s h) u.entry u.held u.there u.begun (chain_out m names words s n u.entry.chain.number u.held h u.named u.begun)
+  may_leave = cut_leaves m names s n (whole_blocks m names words s h) u.entry u.held u.there u.begun (chain_out m names s n u.entry.chain.number u.held (whole_blocks m names words s h) u.named u.begun)
 
   module _ (t : Parts) (need largest : ℕ) (freed : List TableBlock) (l : Leaves n u.entry u.held freed s t) (valid : IsDirectory t.dir) where
     abbrev ev : Event

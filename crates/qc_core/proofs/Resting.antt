@@ -35,6 +35,7 @@ use Rattle.qc_core.specs.Strikes.{is_of, MayLetGo, MayStrike, MayRest, rested_by
 use Rattle.qc_core.proofs.Uses.{find_all, serial_at, stored_at, begun_at, few_blocks}
 use Rattle.qc_core.proofs.OwnBlocks.{part_out, chain_count, use_count}
 use Rattle.qc_core.proofs.Letting.{may_let_go}
+use Rattle.qc_core.proofs.Cutting.{whole_blocks}
 use Rattle.qc_core.proofs.Seating.{is_among}
 use Rattle.qc_core.proofs.Struck.{IsRested, once_each, struck_dir, struck_whole}
 
@@ -96,7 +97,7 @@ module _ (m : Moment) (names : List Named) (words : List ℕ) (s : Parts) (seat 
   pub may_strike : (n : ℕ) → HasTask seat s.tasks.items (task.Stream n) → MayStrike seat s
   may_strike n t =
       let named = subst (λ o. IfSome o (λ k. IsNamedAs names k t.work.chain.number)) (ap serial_of t.task) (find_all (λ w. IfSome (serial_of w.task) (λ k. IsNamedAs names k w.chain.number)) (is_of seat) s.tasks.items t.work h.named.tasks t.at) in
-      record { work = t.work; serial = n; at = t.at; ends = inl t.task; used = has_user n t.work t.at t.task; chain = may_let_go m names words s n t.work.chain.number h named }
+      record { work = t.work; serial = n; at = t.at; ends = inl t.task; used = has_user n t.work t.at t.task; chain = may_let_go m names s n t.work.chain.number (whole_blocks m names words s h) named }
 
   -- a stream of the seat that has ended is struck off
   may_strike_listed : IsEnded seat (listed_for seat (tasks_of s)) → MayStrike seat s

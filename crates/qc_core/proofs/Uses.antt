@@ -30,7 +30,7 @@ use Rattle.qc_sound.specs.Moment.{Moment}
 use Rattle.qc_sound.specs.Sound.{IsSound}
 use Rattle.qc_sound.specs.parts.Directory.{IsStoredAs}
 use Rattle.qc_sound.specs.parts.Contents.{IsSpelled}
-use Rattle.qc_sound.specs.parts.Memory.{blocks_in_use}
+use Rattle.qc_sound.specs.parts.Memory.{TilesAreSound, blocks_in_use}
 use Rattle.qc_sound.specs.parts.Tasks.{is_stream_of}
 use Rattle.qc_sound.specs.PlainServer.{is_stored}
 use Rattle.qc_sound.specs.steps.Hits.{used_more, moved_stored, streaming, hit, Pins}
@@ -203,21 +203,21 @@ few_out (t ∷ ts) = elim t.free as (λ v. length (map block_of (cond (not v) (t
   | false ↦ omega (arith, few_out ts)
 ]
 
-pub few_blocks : (m : Moment) (names : List Named) (words : List ℕ) (s : Parts) (n number : ℕ) (held : Kept) → IsWhole m names words s → IsNamedAs names n number → Begun number s.chains held → 512 * length held.blocks ≤ s.options.size
-few_blocks m names words s n number held h is begun =
+pub few_blocks : (m : Moment) (names : List Named) (s : Parts) (n number : ℕ) (held : Kept) → TilesAreSound m (plain names s) → IsNamedAs names n number → Begun number s.chains held → 512 * length held.blocks ≤ s.options.size
+few_blocks m names s n number held h is begun =
     let p = plain names s in
     let chains = flat_map (λ (c : EntryChain). c.blocks) p.chains in
     let tables = map (λ (b : _ × Block). b.1) p.table_blocks in
     let texts = map (λ (e : StoredEntry). e.text) p.entries in
     let own = more_chains s.chains names n _ is in
     let same : length (chain_blocks (chain_at number s.chains)) ≡ length held.blocks = ap (λ o. length (chain_blocks o)) begun in
-    let one : length (handed_out s.tiles) ≡ length (m.held ++ blocks_in_use p) = sym (length_permutation (handed_out s.tiles) (m.held ++ blocks_in_use p) h.sound.memory.tiles.in_use) in
+    let one : length (handed_out s.tiles) ≡ length (m.held ++ blocks_in_use p) = sym (length_permutation (handed_out s.tiles) (m.held ++ blocks_in_use p) h.in_use) in
     let two = length-append m.held (blocks_in_use p) in
     let three = length-append texts (tables ++ chains) in
     let four = length-append tables chains in
     let tiles = few_out s.tiles in
-    let long = length_words s.tiles h.sound.memory.tiles.tiling.large in
-    let words_are = tiling_words (region_words s.options) s.tiles h.sound.memory.tiles.tiling in
+    let long = length_words s.tiles h.tiling.large in
+    let words_are = tiling_words (region_words s.options) s.tiles h.tiling in
     let eighth : 8 * (s.options.size / 8) ≤ s.options.size = omega arith in
     omega (arith, own, same, one, two, three, four, tiles, long, words_are, eighth)
 
@@ -235,7 +235,7 @@ may_use m names words s n room h complete wide some_room =
     let same : e.entry.users ≡ pair.at.users = ap (λ (x : StoredEntry). x.users) e.is in
     let most = count_by-le-length (λ (w : SeatTask). is_stream_of pair.at.serial w.task) p.tasks in
     let long : length p.tasks ≡ length s.tasks.items = length-map s.tasks.items work_in in
-    let few = few_blocks m names words s e.entry.serial e.entry.chain.number c.0 h named c.1 in
+    let few = few_blocks m names s e.entry.serial e.entry.chain.number c.0 h.sound.memory.tiles named c.1 in
     record {
       entry = e.entry;
       held = c.0;

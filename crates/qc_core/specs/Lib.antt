@@ -17,3 +17,4 @@ pub mod Sweeps
 pub mod Statuses
 pub mod Cuts
 pub mod Compacts
+pub mod Ends

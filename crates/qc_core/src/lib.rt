@@ -4,6 +4,7 @@
 mod allocates;
 mod begins;
 mod counted;
+mod ends;
 mod flushes;
 mod grows;
 mod hits;
