@@ -40,11 +40,11 @@ module _ {V E : Type 0} {K : Ghosts V E} where
         long = ap (λ (l : List ℕ). length l) now ∙ (long ∙ c.long);
         carried = λ j low. carried_by j low;
         left = λ j low.
-        let ne : change.from + j ≢ change.to + i = λ z. omega (arith, z, may.down, low) in
-        ap (λ l. get_or l (change.from + j) 0) now ∙ (get_or-set_other (words k) (change.to + i) (change.from + j) word 0 ne ∙ c.left j (omega (arith, low)));
+            let ne : change.from + j ≢ change.to + i = λ z. omega (arith, z, may.down, low) in
+            ap (λ l. get_or l (change.from + j) 0) now ∙ (get_or-set_other (words k) (change.to + i) (change.from + j) word 0 ne ∙ c.left j (omega (arith, low)));
         below = λ j low.
-        let ne : j ≢ change.to + i = λ z. omega (arith, z, low) in
-        ap (λ l. get_or l j 0) now ∙ (get_or-set_other (words k) (change.to + i) j word 0 ne ∙ c.below j low);
+            let ne : j ≢ change.to + i = λ z. omega (arith, z, low) in
+            ap (λ l. get_or l j 0) now ∙ (get_or-set_other (words k) (change.to + i) j word 0 ne ∙ c.below j low);
       }
     where
       carried_by : (j : ℕ) → j < i + 1 → get_or (words g) (change.to + j) 0 ≡ get_or (words h) (change.from + j) 0

@@ -2,6 +2,7 @@
 use Rattle.std.proofs.Common.{◌≡◌, ◌≢◌, ℕ, zero, suc, ◌+◌, ◌-◌, ◌<◌, ◌≤◌, eqb, Bool, true, false, cond, List, [], ◌∷◌, ◌++◌, map, length, refl, sym, ap, subst, ◌∙◌, arith, true≢false, inl, inr, ⊎_elim, ◌⊎◌, append-nil}
 use Rattle.std.specs.Prelude.{not, ◌&&◌, ◌==◌, Option, Some, None, Contains, nat_lt}
 use Rattle.std.proofs.lemmas.Bool.Decides.{nat_tests}
+use Rattle.std.proofs.lemmas.Option.{none-some}
 use Rattle.std.specs.List.{filter, flat_map, list_any, AllByRecursion}
 use Rattle.std.proofs.lemmas.List.Elements.{Contains-append_left, Contains-append_right, Contains-append_cases}
 use Rattle.qc_types.specs.Blocks.{least_block}
@@ -10,7 +11,7 @@ use Rattle.qc_model.specs.Licence.{region_words}
 use Rattle.qc_tiles.specs.declared.blocks.Block.{Block}
 use Rattle.qc_tiles.specs.declared.blocks.Move.{Move}
 use Rattle.qc_tiles.specs.declared.blocks.Tile.{Tile}
-use Rattle.qc_tiles.specs.Tiles.{CoversFrom, IsTiling, block_of, tile, free_tile, handed_out, may_move, movable, swapped, joined, after_move_down}
+use Rattle.qc_tiles.specs.Tiles.{CoversFrom, FreeApart, IsTiling, block_of, tile, free_tile, handed_out, may_move, movable, swapped, joined, after_move_down}
 use Rattle.qc_chain.proofs.Releases.{joined-used, in_front, in_first, behind}
 use Rattle.qc_turn.specs.declared.task.ListedTask.{ListedTask}
 use Rattle.qc_turn.specs.declared.task.Task.{Task}
@@ -27,6 +28,7 @@ use Rattle.qc_core.specs.declared.parts.Parts.{Parts}
 use Rattle.qc_core.specs.contracts.server.ServerKept.TheImpl.{ghosts}
 use Rattle.qc_core.specs.Whole.{Named, plain, tasks_of, IsWhole, Sound}
 use Rattle.qc_core.specs.KeptLaws.{tasks_same}
+use Rattle.qc_core.specs.Compacts.{OneFreeBetween}
 
 -- ---- where the next block goes
 
@@ -79,7 +81,7 @@ unpinned_word first end x (t ∷ u ∷ ts) change c n m low high = elim (may_mov
       let sum = occurs_append x (counted t.first t.words) (counted u.first u.words ++ more) in
       let sums = occurs_append x (counted u.first u.words) more in
       let some : 0 < occurs x (counted t.first t.words ++ (counted u.first u.words ++ more)) = by x (λ k. omega (arith, sum, counted_here x t.first t.words (omega (arith, low, to)) (omega (arith, k, c.0, c.1.0))))
-          (λ k. omega (arith, sum, sums, counted_here x u.first u.words k (omega (arith, high, from, size)))) in
+      (λ k. omega (arith, sum, sums, counted_here x u.first u.words k (omega (arith, high, from, size)))) in
       subst (λ l. 0 < occurs x (places (all_blocks l))) (sym keeps) some
   | false ↦ λ e f.
       let more = unpinned_word (first + t.words) end x (u ∷ ts) change c.1 n.1 f low high in
@@ -196,3 +198,37 @@ swapped_less first end (t ∷ u ∷ ts) change c l m = elim (may_move t u) as (�
 
 pub move_less : (W : ℕ) (ts : List Tile) (change : Move) → IsTiling W ts → movable ts ≡ Some change → firsts (handed_out (after_move_down ts)) < firsts (handed_out ts)
 move_less W ts change tiling is = subst (λ l. firsts l < firsts (handed_out ts)) (sym (joined-used (swapped ts))) (swapped_less 0 W ts change tiling.covers tiling.large is)
+
+-- ---- where none can move, few free blocks are left
+
+movable_behind : (b : Bool) (x : Move) (o : Option Move) → cond b (Some x) o ≡ None → o ≡ None
+movable_behind true x o h = absurd (none-some x (sym h))
+movable_behind false x o h = h
+
+stays_pinned : (a b p : Bool) (x : Move) (o : Option Move) → a ≡ true → b ≡ false → cond (a && (not b && not p)) (Some x) o ≡ None → p ≡ true
+stays_pinned false b p x o ha hb h = absurd (true≢false (sym ha))
+stays_pinned true true p x o ha hb h = absurd (true≢false hb)
+stays_pinned true false true x o ha hb h = refl
+stays_pinned true false false x o ha hb h = absurd (none-some x (sym h))
+
+one_free : (ts : List Tile) → FreeApart ts → movable ts ≡ None → OneFreeBetween 0 ts
+one_free [] a m = omega arith
+one_free (t ∷ []) a m = (omega arith, elim t.pinned as (λ p. cond p 0 (cond t.free (0 + 1) 0) ≤ 1) [ true ↦ omega arith | false ↦ elim t.free as (λ f. cond f (0 + 1) 0 ≤ 1) [ true ↦ omega arith | false ↦ omega arith ] ])
+one_free (t ∷ u ∷ us) a m =
+    let rest = one_free (u ∷ us) a.1 (movable_behind (may_move t u) (going t u) (movable (u ∷ us)) m) in (
+      omega arith,
+      elim t.pinned as (λ p. OneFreeBetween (cond p 0 (cond t.free (0 + 1) 0)) (u ∷ us)) [
+        | true ↦ rest
+        | false ↦ elim t.free as (λ f. t.free ≡ f → OneFreeBetween (cond f (0 + 1) 0) (u ∷ us)) [
+          | true ↦ λ e.
+              let pinned = stays_pinned t.free u.free u.pinned (going t u) (movable (u ∷ us)) e (a.0 e) m in (
+                omega arith,
+                subst (λ p. OneFreeBetween (cond p 0 (cond u.free (0 + 1 + 1) (0 + 1))) us) (sym pinned) (subst (λ p. OneFreeBetween (cond p 0 (cond u.free (0 + 1) 0)) us) pinned rest.1),
+              )
+          | false ↦ λ e. rest
+        ] refl
+      ],
+    )
+
+pub few_free : (W : ℕ) (ts : List Tile) → IsTiling W ts → movable ts ≡ None → OneFreeBetween 0 ts
+few_free W ts tiling none = one_free ts tiling.apart none

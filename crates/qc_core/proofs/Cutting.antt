@@ -241,8 +241,7 @@ module _ (m : Moment) (names : List Named) (s : Parts) (n : ℕ) (h : BlocksAreS
         let entries_less : length t.dir.entries + 1 ≡ length s.dir.entries = ap (λ (l : List Entry). length l + 1) l.removed.entries ∙ found_less (λ (e : Entry). e.serial) n s.dir.entries e h.serials there in
         let tables_less : length s.dir.tables ≡ length freed + length t.dir.tables = sym (length_permutation s.dir.tables (freed ++ t.dir.tables) l.removed.tables) ∙ length-append freed t.dir.tables in
         let entries : length t.dir.entries + t.dir.room ≡ region_words s.options / 128 = omega (arith, h.room.entries, entries_less, l.removed.room) in
-        let tables : length t.dir.tables + t.dir.table_room ≡ region_words s.options / 64 = omega (arith, h.room.tables, tables_less, l.removed.table_room) in
-        (
+        let tables : length t.dir.tables + t.dir.table_room ≡ region_words s.options / 64 = omega (arith, h.room.tables, tables_less, l.removed.table_room) in (
           record { entries = entries; tables = tables; chains = h.room.chains; unpinner = h.room.unpinner },
           record { entries = entries; tables = tables; chains = room_left names s.chains n e.chain.number held (region_words s.options) h.apart named_n begun numbers h.room.chains; unpinner = h.room.unpinner },
         )

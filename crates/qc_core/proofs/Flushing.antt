@@ -26,10 +26,10 @@ use Rattle.qc_core.specs.contracts.server.ServerKept.TheImpl.{ghosts}
 use Rattle.qc_core.specs.Whole.{plain, tasks_of, with_event, IsWhole, Sound}
 use Rattle.qc_core.specs.Calls.{IsNext, HasSpare}
 use Rattle.qc_core.specs.Connects.{is_connected}
-use Rattle.qc_core.specs.Compacts.{shifted_by, Moves, IsCompacted, MayCarry, HasCarried}
+use Rattle.qc_core.specs.Compacts.{shifted_by, Moves, OneFreeBetween, IsCompacted, MayCarry, HasCarried}
 use Rattle.qc_core.proofs.Noting.{alone}
 use Rattle.qc_core.proofs.Shifting.{IsShifted, shifted_whole}
-use Rattle.qc_core.proofs.Compacting.{bounds, move_misses, free_words, firsts, move_less}
+use Rattle.qc_core.proofs.Compacting.{bounds, move_misses, free_words, firsts, move_less, few_free}
 
 shift_follows : (s : Parts) (change : Move) (n : ℕ) (idle : List ℕ) → tasks_of (shifted_by change s) ≡ tasks_of s → Follows ghosts n idle s (shifted_by change s)
 shift_follows s change n idle same = record { journal = ([], sym (append-nil s.journal.events)); others = λ k ne. refl; fixed = refl; connected = λ k ne. refl; tasks = λ k ne. inl (ap (listed_for k) same) }
@@ -49,8 +49,8 @@ module _ (k : Held Parts Event ghosts) (v x : Parts) (change : Move) (stands : M
         down = b.down;
         within = omega (arith, b.within, w.sound.region);
         free = λ y low high.
-        subst (λ (t : Parts). OutsideOtherFills (holder k).number (tasks_of t) y × IsFreeOfOthers ghosts (holder k).number (idle_of (holder k).found) y t) (sym (taken_is k (with_value k x) (same_value k x stands.held)))
-        (free_words (holder k).number y (idle_of (holder k).found) (taken k) k.value stands.follows (λ n. move_misses stands.sound.0 (words k) k.value change y n w is_here low high));
+            subst (λ (t : Parts). OutsideOtherFills (holder k).number (tasks_of t) y × IsFreeOfOthers ghosts (holder k).number (idle_of (holder k).found) y t) (sym (taken_is k (with_value k x) (same_value k x stands.held)))
+            (free_words (holder k).number y (idle_of (holder k).found) (taken k) k.value stands.follows (λ n. move_misses stands.sound.0 (words k) k.value change y n w is_here low high));
       }
 
   module _ (g : Held Parts Event ghosts) (c : HasCarried (with_value k x) g change change.words) where
@@ -113,9 +113,10 @@ compacts_on h k g v x change i same is moved valid c = record {
 
 pub compacts_end : (h k : Held Parts Event ghosts) (v x : Parts) (i : Compacts h k) → v ≡ k.value → movable v.tiles ≡ None → x ≡ v → Compacts h (with_value k x) × IsCompacted h.value x
 compacts_end h k v x i same none kept =
-    let is : x ≡ k.value = kept ∙ same in (
+    let is : x ≡ k.value = kept ∙ same in
+    let last : movable x.tiles ≡ None = ap (λ (s : Parts). movable s.tiles) kept ∙ none in (
       subst (λ y. Compacts h (with_value k y)) (sym is) (record { stands = record { held = i.stands.held; sound = i.stands.sound; follows = i.stands.follows }; same = record { seat = i.same.seat; turn = i.same.turn; holder = i.same.holder }; count = i.count; moves = i.moves; listed = i.listed; ranges = i.ranges }),
-      record { count = i.count; moves = subst (Moves i.count h.value) (sym is) i.moves; last = ap (λ (s : Parts). movable s.tiles) kept ∙ none },
+      record { count = i.count; moves = subst (Moves i.count h.value) (sym is) i.moves; last = last; free = subst (λ (s : Parts). movable s.tiles ≡ None → OneFreeBetween 0 s.tiles) (sym is) (few_free (region_words k.value.options) k.value.tiles i.stands.sound.1.sound.memory.tiles.tiling) last },
     )
 
 -- ---- what a compacted server has of its journal

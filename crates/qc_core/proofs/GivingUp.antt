@@ -99,8 +99,8 @@ given_is n seat ts us blocks p =
     let ws = without_seat seat p.tasks in
     let same : left_by_user n es ≡ es = user_none n es (none_staying n p.entries) in
     let chains : filter (λ (c : EntryChain). is_wanted (left_by_user n es) ws c.serial) (filter (λ (c : EntryChain). is_wanted es p.tasks c.serial) p.chains) ≡ filter (λ (c : EntryChain). is_wanted es ws c.serial) p.chains =
-        ap (λ l. filter (λ (c : EntryChain). is_wanted l ws c.serial) (filter (λ (c : EntryChain). is_wanted es p.tasks c.serial) p.chains)) same
-        ∙ filter_within (λ k. is_wanted es ws k) (λ k. is_wanted es p.tasks k) p.chains (λ k. or_more (list_any (is_stored k) es) (list_any (is_task_on k) ws) (list_any (is_task_on k) p.tasks) (any_filter (is_task_on k) (λ w. not (is_of_seat seat w)) p.tasks)) in
+    ap (λ l. filter (λ (c : EntryChain). is_wanted l ws c.serial) (filter (λ (c : EntryChain). is_wanted es p.tasks c.serial) p.chains)) same
+    ∙ filter_within (λ k. is_wanted es ws k) (λ k. is_wanted es p.tasks k) p.chains (λ k. or_more (list_any (is_stored k) es) (list_any (is_task_on k) ws) (list_any (is_task_on k) p.tasks) (any_filter (is_task_on k) (λ w. not (is_of_seat seat w)) p.tasks)) in
     λ i. record p { entries = same i; chains = chains i; table_blocks = blocks; tiles = us; tasks = ws }
 
 some_room : (ys : List Cached) (y : Cached) (n spare : ℕ) → entry_of n ys ≡ Some y → length ys + incomplete_count ys ≤ spare → 1 ≤ spare

@@ -1,8 +1,9 @@
 -- Blocks move down, with their words.
-use Rattle.std.specs.Prelude.{◌≡◌, ◌≢◌, ℕ, zero, suc, ◌+◌, ◌<◌, ◌≤◌, List, [], ◌∷◌, length, slice_index, option_map, Some, None}
+use Rattle.std.specs.Prelude.{◌≡◌, ◌≢◌, ℕ, zero, suc, ◌+◌, ◌<◌, ◌≤◌, List, [], ◌∷◌, length, slice_index, option_map, Some, None, if◌then◌else◌}
 use Rattle.qc_model.specs.declared.events.Who.{Who}
 use Rattle.qc_model.specs.declared.events.Event.TheVariants as event
 use Rattle.qc_tiles.specs.declared.blocks.Move.{Move}
+use Rattle.qc_tiles.specs.declared.blocks.Tile.{Tile}
 use Rattle.qc_tiles.specs.Tiles.{movable, after_move_down}
 use Rattle.qc_chain.specs.Chains.{after_shift}
 use Rattle.qc_dir.specs.Directory as dir
@@ -23,11 +24,17 @@ abbrev pub Moves : ℕ → Parts → Parts → Type 0
 Moves zero old new = new ≡ old
 Moves (suc k) old new = (mid : Parts) × Moves k old mid × (change : Move) × (movable mid.tiles ≡ Some change) × (new ≡ shifted_by change mid)
 
+-- At most one free block stands before the first pinned one, between two of them and behind the last. So many were seen since a pinned one.
+abbrev pub OneFreeBetween : ℕ → List Tile → Type 0
+OneFreeBetween seen [] = seen ≤ 1
+OneFreeBetween seen (t ∷ ts) = (seen ≤ 1) × OneFreeBetween (if t.pinned then 0 else if t.free then seen + 1 else seen) ts
+
 -- blocks moved until none could any more
 pub record IsCompacted (old new : Parts) : Type 0 where
   pub count : ℕ
   pub moves : Moves count old new
   pub last : movable new.tiles ≡ None
+  pub free : OneFreeBetween 0 new.tiles
 
 -- ---- the words of a move
 
