@@ -33,3 +33,4 @@ pub mod Flushing
 pub mod Sweeping
 pub mod Cutting
 pub mod GivingUp
+mod examples

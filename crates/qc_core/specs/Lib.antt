@@ -18,3 +18,4 @@ pub mod Statuses
 pub mod Cuts
 pub mod Compacts
 pub mod Ends
+pub mod Starts

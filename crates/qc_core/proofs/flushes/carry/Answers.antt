@@ -7,11 +7,17 @@ use Rattle.qc_core.proofs.flushes.carry.Goals as goal
 pub loop-index-init : goal.loop-index-init
 loop-index-init c = carry_start c.args.held.now c.args.change c.requires.held
 
-pub overflow_add-word : goal.overflow_add-word
-overflow_add-word c =
+pub overflow_add-change : goal.overflow_add-change
+overflow_add-change c =
     let h = c.args.held.now in
     let inside : c.loop-index.index < c.args.change.words = c.loop-index-test.true in
-    omega (arith, c.requires.within, inside, c.requires.held.width, h.turn.now.small)
+    omega (arith, c.requires.within, c.requires.down, inside, c.requires.held.width, h.turn.now.small)
+
+pub overflow_add-change-in-loop-index : goal.overflow_add-change-in-loop-index
+overflow_add-change-in-loop-index c =
+    let h = c.args.held.now in
+    let inside : c.loop-index.index < c.args.change.words = c.loop-index-test.true in
+    omega (arith, c.requires.within, c.requires.down, inside, c.requires.held.width, h.turn.now.small)
 
 pub load-word-requires : goal.load-word-requires
 load-word-requires c =
