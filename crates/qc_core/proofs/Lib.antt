@@ -30,6 +30,7 @@ pub mod Carrying
 pub mod Shifting
 pub mod Compacting
 pub mod Flushing
+pub mod RunningPlain
 pub mod Sweeping
 pub mod Cutting
 pub mod GivingUp
