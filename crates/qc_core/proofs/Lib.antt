@@ -31,6 +31,7 @@ pub mod Shifting
 pub mod Compacting
 pub mod Flushing
 pub mod RunningPlain
+pub mod Rivaling
 pub mod Sweeping
 pub mod Cutting
 pub mod GivingUp
