@@ -62,7 +62,7 @@ use Rattle.qc_core.proofs.OwnBlocks.{use_count}
 use Rattle.qc_core.proofs.Remaining.{IsOther, differ}
 use Rattle.qc_core.proofs.Taking.{Took, took}
 use Rattle.qc_core.proofs.Appending.{append_chains, append_entries, append_names, append_room}
-use Rattle.qc_core.proofs.Filling.{FillTask, fill_task, plain_at, fill_named, entry_filling, entry_number, pruned_after, IsAfter, still_filling, started_after}
+use Rattle.qc_core.proofs.FillTasks.{FillTask, fill_task, plain_at, fill_named, entry_filling, entry_number, pruned_after, IsAfter, still_filling, started_after}
 
 -- ---- the words of blocks
 

@@ -19,12 +19,11 @@ pub mod Taking
 pub mod Allocating
 pub mod Beginning
 pub mod Reserving
-pub mod Overtaking
 pub mod Striking
 pub mod Struck
 pub mod Resting
 pub mod Appending
-pub mod Filling
+pub mod FillTasks
 pub mod Growing
 pub mod Carrying
 pub mod Shifting

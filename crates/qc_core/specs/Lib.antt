@@ -11,7 +11,6 @@ pub mod Strikes
 pub mod Leaves
 pub mod Prunes
 pub mod Allocates
-pub mod Overtaken
 pub mod Grows
 pub mod Sweeps
 pub mod Statuses

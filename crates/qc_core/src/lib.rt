@@ -12,7 +12,6 @@ mod keys;
 mod leaves;
 mod looks;
 mod notes;
-mod overtaken;
 mod parts;
 mod pins;
 mod plains;

@@ -4,7 +4,7 @@ use Rattle.qc_chain.specs.Chains.{Ranged}
 use Rattle.qc_sound.specs.Moment.{at_rest}
 use Rattle.qc_journal.specs.Room.{Recorded}
 use Rattle.qc_core.specs.Overtaken.{WasOvertaken, IsOvertakenBy}
-use Rattle.qc_core.proofs.Filling.{fill_task, overtaken, entry_filling, entry_gone, may_allocate}
+use Rattle.qc_core.proofs.FillTasks.{fill_task, overtaken, entry_filling, entry_gone, may_allocate}
 use Rattle.qc_core.proofs.Growing.{err_short, is_filling, may_append_now, ranges_are, grows_so, stays_so, stays_short, stays_same}
 use Rattle.qc_core.proofs.parts.Parts.grow.Goals as goal
 
