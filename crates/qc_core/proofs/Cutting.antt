@@ -1,44 +1,39 @@
 -- An entry is taken out, as the plain server has it, whether a task is on it or not.
-use Rattle.std.proofs.Common.{◌≡◌, ◌≢◌, ℕ, ◌+◌, ◌-◌, ◌/◌, ◌<◌, ◌≤◌, eqb, eq-eqb, eqb-true, ne_eqb, Bool, true, false, cond, List, [], ◌∷◌, ◌++◌, map, length, refl, sym, ap, subst, ◌∙◌, arith, true≢false, length-append}
-use Rattle.std.specs.Prelude.{not, ◌||◌, ◌==◌, Option, Some, None, IfSome, Contains, IsPermutation, find}
+use Rattle.std.proofs.Common.{◌≡◌, ℕ, ◌+◌, ◌/◌, eqb, eq-eqb, ne_eqb, Bool, true, false, cond, List, [], ◌∷◌, ◌++◌, map, length, refl, sym, ap, subst, ◌∙◌, arith, true≢false, length-append}
+use Rattle.std.specs.Prelude.{not, ◌||◌, ◌==◌, Some, Contains, IsPermutation}
 use Rattle.std.specs.List.{list_any, filter, flat_map, AllByRecursion}
 use Rattle.std.proofs.lemmas.List.Sorted.{length_permutation}
-use Rattle.qc_types.specs.declared.names.TableName.{TableName}
 use Rattle.qc_sql.specs.Database.{same_table}
 use Rattle.qc_model.specs.Licence.{region_words}
-use Rattle.qc_model.specs.Cache.{cache}
 use Rattle.qc_laws.specs.history.Runs.{are_distinct}
-use Rattle.qc_laws.proofs.history.Serials.{neither}
 use Rattle.qc_tiles.specs.declared.blocks.Tile.{Tile}
 use Rattle.qc_tiles.specs.declared.blocks.Block.{Block}
 use Rattle.qc_tiles.specs.Tiles.{handed_out}
 use Rattle.qc_tiles.proofs.Calls.{own_tiling}
-use Rattle.qc_chain.specs.Chains.{Chained, chain_at, Begun, AreHandedOut, after_release}
+use Rattle.qc_chain.specs.Chains.{Chained, Begun, AreHandedOut, after_release}
 use Rattle.qc_chain.specs.Chains.{Chain as Kept}
 use Rattle.qc_dir.specs.declared.entries.Entry.{Entry}
 use Rattle.qc_dir.specs.declared.tables.TableBlock.{TableBlock}
 use Rattle.qc_dir.specs.Directory.{Directory, IsDirectory, AreApart, entry_at, has_serial, without, is_block_of}
-use Rattle.qc_sound.specs.PlainServer.{PlainServer, StoredEntry, EntryChain, SeatTask, is_task_on, is_stored, is_wanted, listed_tasks}
+use Rattle.qc_sound.specs.PlainServer.{PlainServer, EntryChain, is_task_on, is_stored, is_wanted}
 use Rattle.qc_sound.specs.Moment.{Moment}
-use Rattle.qc_sound.specs.parts.Memory.{TilesAreSound, TablesAreSound, blocks_in_use, blocks_of_tasks, pinned_blocks, names_table, is_on_table}
+use Rattle.qc_sound.specs.parts.Memory.{TilesAreSound, TablesAreSound, blocks_in_use, blocks_of_tasks, pinned_blocks, names_table}
 use Rattle.qc_sound.specs.steps.Leaving.{staying}
 use Rattle.qc_sound.specs.Handed.{IsGivenBack}
-use Rattle.qc_sound.proofs.Filters.{tasks_wanted, pins_stay, tasks_stay, or_right, distinct_filter}
+use Rattle.qc_sound.proofs.Filters.{tasks_wanted, pins_stay, or_right, distinct_filter}
 use Rattle.qc_sound.proofs.Handed.{times, times_append, times_permuted, permuted, gives_all}
 use Rattle.qc_sound.proofs.Ending.{none_each}
-use Rattle.qc_core.specs.declared.parts.RunningTask.{RunningTask}
 use Rattle.qc_core.specs.declared.parts.Parts.{Parts}
-use Rattle.qc_core.specs.Whole.{Named, is_named, IsNamedAs, chain_blocks, chain_in, stored, table_pair, work_in, tasks_of, plain, IsNamed, IsWhole, RoomIsSound}
+use Rattle.qc_core.specs.Whole.{Named, is_named, IsNamedAs, chain_blocks, chain_in, stored, table_pair, plain, IsNamed, IsWhole, RoomIsSound}
 use Rattle.qc_core.specs.Leaves.{own_blocks, free_chain, has_task, released, MayLeave, Leaves, left_by}
-use Rattle.qc_core.specs.Cuts.{BlocksAreSound, cut, is_removed, IsCut}
-use Rattle.qc_core.specs.KeptLaws.{tasks_same}
+use Rattle.qc_core.specs.Cuts.{BlocksAreSound, cut}
 use Rattle.qc_core.proofs.Seating.{found_less}
 use Rattle.qc_core.proofs.Seating.{distinct_less as serials_less}
-use Rattle.qc_core.proofs.Uses.{serials_distinct, all_members, stored_at, stored_without, serial_at, find_all, begun_at, all_without}
+use Rattle.qc_core.proofs.Uses.{serials_distinct, all_members, stored_at, stored_without, serial_at, find_all, all_without}
 use Rattle.qc_core.proofs.Striking.{any_in, all_pass, each_passes}
 use Rattle.qc_core.proofs.OwnBlocks.{part_out, not_both, chain_count, text_count, table_count, use_count, own_count}
 use Rattle.qc_core.proofs.ChainRooms.{room_left}
-use Rattle.qc_core.proofs.Remaining.{IsOther, differ, entries_else, stored_same, without_name, chains_left, none_staying, same_staying, wanted_names, distinct_less, entries_named, works_named, begun_left, any_names, any_on, apart_once, words_left, tasks_in, chain_found, filter_names}
+use Rattle.qc_core.proofs.Remaining.{IsOther, differ, entries_else, stored_same, without_name, chains_left, same_staying, wanted_names, distinct_less, entries_named, works_named, begun_left, any_names, any_on, apart_once, words_left, tasks_in, chain_found, filter_names}
 
 -- ---- from the whole
 

@@ -43,11 +43,11 @@ use Rattle.qc_core.specs.contracts.server.ServerKept.TheImpl.{ghosts}
 use Rattle.qc_core.specs.Whole.{Named, is_named, IsNamedAs, chain_blocks, task_blocks, listed_in, work_in, plain, tasks_of, IsWhole}
 use Rattle.qc_core.specs.Strikes.{is_of}
 use Rattle.qc_core.specs.Allocates.{MayAllocate, Prunes, PrunesMany}
-use Rattle.qc_core.specs.Overtaken.{removes, WasOvertaken}
+use Rattle.qc_core.specs.Overtaken.{overtakes, WasOvertaken}
 use Rattle.qc_core.specs.Grows.{FillsOn, MayGrowOn}
 use Rattle.qc_core.proofs.Uses.{find_all}
 use Rattle.qc_core.proofs.Seeking.{pair_of, pair_there}
-use Rattle.qc_core.proofs.Overtaking.{later_keeps}
+use Rattle.qc_core.proofs.Overtaking.{IsThere, stays_all}
 
 -- ---- the task of the seat
 
@@ -168,7 +168,7 @@ pub record IsAfter (s t : Parts) : Type 0 where
   pub later : Journal
   pub events : t.journal.events ≡ s.journal.events ++ later
   pub unended : (n : ℕ) → is_ended n later ≡ false
-  pub left : (tables : List TableName) → list_any (removes tables) later ≡ false
+  pub left : (tables : List TableName) → list_any (overtakes tables) later ≡ false
   pub others : (k : ℕ) → of_seat ghosts k later ≡ []
 
 any_join : {A : Type 0} (p : A → Bool) (xs ys : List A) → list_any p xs ≡ false → list_any p ys ≡ false → list_any p (xs ++ ys) ≡ false
@@ -190,7 +190,7 @@ pruned_after need (suc k) s t h =
       later = a.later ++ e ∷ [];
       events = p.events ∙ (ap (λ l. l ++ e ∷ []) a.events ∙ append_assoc s.journal.events a.later (e ∷ []));
       unended = λ n. any_join _ a.later (e ∷ []) (a.unended n) refl;
-      left = λ ts. any_join (removes ts) a.later (e ∷ []) (a.left ts) refl;
+      left = λ ts. any_join (overtakes ts) a.later (e ∷ []) (a.left ts) refl;
       others = λ k. filter-append _ a.later (e ∷ []) ∙ ap (λ l. l ++ []) (a.others k);
     }
 
@@ -202,8 +202,8 @@ still_filling o s t n lawful a h = by (entry_of n (cache s.journal.events)) refl
     by None e k = absurd k
     by (Some y) e k =
         let back = lawful_back o [] s.journal.events a.later (subst (IsLawful o) a.events lawful) in
-        let there = ap (λ j. entry_of n (cache j)) a.events ∙ later_keeps o s.journal.events a.later n y back e k (a.unended n) (a.left y.tables) in
-        subst (λ (q : Option Cached). IsSomeAnd q (λ y. y.complete ≡ false)) (sym there) k
+        let there = stays_all o n y.tables s.journal.events a.later back (record { entry = y; at = e; partial = k; named = refl }) (a.unended n) (a.left y.tables) in
+        subst (λ j. IsFilling j n) (sym a.events) (subst (λ (q : Option Cached). IsSomeAnd q (λ y. y.complete ≡ false)) (sym there.at) there.partial)
 
 -- and was started where it was
 abbrev pub started_after : (s t : Parts) (n : ℕ) → IsAfter s t → (u : IsStarted s.journal.events n) → (v : IsStarted t.journal.events n) × (v.earlier ≡ u.earlier) × (v.key ≡ u.key)
@@ -231,8 +231,9 @@ after_follows s t seat idle a = record {
 
 pub overtaken : (words : List ℕ) (names : List Named) (s : Parts) (seat n : ℕ) (bs : List Block) → IsWhole (at_rest hash) names words s → FillTask seat n bs s.chains s.tasks.items → IsStarted s.journal.events n → entry_at n s.dir.entries ≡ None → WasOvertaken s.journal.events n
 overtaken words names s seat n bs h t start none = record {
-  lawful = (s.options, h.sound.journal.lawful);
+  options = s.options;
+  lawful = h.sound.journal.lawful;
   start = start;
-  unended = fill_unended (at_rest hash) names words s seat n bs h t;
-  gone = entry_gone (at_rest hash) names words s seat n bs h t none;
+  filling = fill_unended (at_rest hash) names words s seat n bs h t;
+  left = entry_gone (at_rest hash) names words s seat n bs h t none;
 }

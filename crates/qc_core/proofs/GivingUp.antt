@@ -1,7 +1,7 @@
 -- A fill is given up: its entry leaves, then the fill, and the event says so.
-use Rattle.std.proofs.Common.{◌≡◌, ◌≢◌, ℕ, ◌+◌, ◌-◌, ◌<◌, ◌≤◌, eqb, eq-eqb, eqb-true, Bool, true, false, cond, List, [], ◌∷◌, ◌++◌, map, length, refl, sym, ap, subst, ◌∙◌, arith, true≢false, inr}
-use Rattle.std.specs.Prelude.{not, ◌||◌, ◌==◌, Option, Some, None, IfSome, find}
-use Rattle.std.specs.List.{list_any, filter, AllByRecursion}
+use Rattle.std.proofs.Common.{◌≡◌, ℕ, ◌+◌, ◌-◌, ◌<◌, ◌≤◌, eqb, Bool, true, false, cond, List, [], ◌∷◌, ◌++◌, map, length, refl, sym, ap, subst, ◌∙◌, arith, true≢false, inr}
+use Rattle.std.specs.Prelude.{not, ◌||◌, Option, Some, None, IfSome, find}
+use Rattle.std.specs.List.{list_any, filter}
 use Rattle.std.proofs.lemmas.Option.{none-some}
 use Rattle.qc_key.specs.Hash.{hash}
 use Rattle.qc_types.specs.declared.names.TableName.{TableName}
@@ -18,10 +18,9 @@ use Rattle.qc_chain.specs.Chains.{Begun}
 use Rattle.qc_chain.specs.Chains.{Chain as Kept}
 use Rattle.qc_dir.specs.declared.entries.Entry.{Entry}
 use Rattle.qc_dir.specs.declared.tables.TableBlock.{TableBlock}
-use Rattle.qc_dir.specs.Directory.{IsDirectory, entry_at, has_serial, without, after_leave, with_entries}
-use Rattle.qc_turn.specs.declared.task.Task.TheVariants as task
+use Rattle.qc_dir.specs.Directory.{IsDirectory, entry_at, has_serial, without}
 use Rattle.qc_turn.specs.Tasks.{listed_for}
-use Rattle.qc_sound.specs.PlainServer.{PlainServer, StoredEntry, EntryChain, SeatTask, serial_of, is_task_on, is_stored, is_wanted, listed_tasks}
+use Rattle.qc_sound.specs.PlainServer.{PlainServer, StoredEntry, EntryChain, serial_of, is_task_on, is_stored, is_wanted, listed_tasks}
 use Rattle.qc_sound.specs.Moment.{Moment, at_rest}
 use Rattle.qc_sound.specs.Sound.{IsSound}
 use Rattle.qc_sound.specs.parts.Journal.{incomplete_count}
@@ -31,14 +30,13 @@ use Rattle.qc_sound.specs.steps.Ending.{used_less, left_by_user, struck_off}
 use Rattle.qc_sound.proofs.Needs.{needs_push}
 use Rattle.qc_sound.proofs.Growing.{Meant, meant}
 use Rattle.qc_sound.proofs.Gone.{gone_step, gone_lists}
-use Rattle.qc_core.specs.declared.parts.RunningTask.{RunningTask}
 use Rattle.qc_core.specs.declared.parts.Parts.{Parts}
-use Rattle.qc_core.specs.Whole.{Named, IsNamedAs, stored, table_pair, work_in, plain, tasks_of, IsWhole, with_event}
+use Rattle.qc_core.specs.Whole.{IsNamedAs, table_pair, plain, IsWhole, with_event}
 use Rattle.qc_core.specs.KeptLaws.{tasks_same}
 use Rattle.qc_core.specs.Leaves.{MayLeave, Leaves}
 use Rattle.qc_core.specs.Strikes.{is_of, MayStrike, MayRest, rested}
 use Rattle.qc_core.specs.Cuts.{BlocksAreSound, cut}
-use Rattle.qc_core.specs.Ends.{Fills, MayGiveUpFill, EndsFill}
+use Rattle.qc_core.specs.Ends.{MayGiveUpFill, EndsFill}
 use Rattle.qc_core.proofs.Uses.{Back, back, find_all, begun_at}
 use Rattle.qc_core.proofs.Remaining.{none_staying}
 use Rattle.qc_core.proofs.Striking.{found_in, seat_found}

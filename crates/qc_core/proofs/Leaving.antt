@@ -9,7 +9,7 @@ use Rattle.qc_tiles.specs.declared.blocks.Block.{Block}
 use Rattle.qc_tiles.specs.Tiles.{IsTiling, handed_out, after_give_back}
 use Rattle.qc_tiles.specs.Tiles.{region_words as tile_words}
 use Rattle.qc_tiles.proofs.Keeps.{after_give_back-tiling}
-use Rattle.qc_chain.specs.Chains.{Chained, Begun, AreHandedOut, AreOnce, after_release}
+use Rattle.qc_chain.specs.Chains.{Begun, AreHandedOut, AreOnce, after_release}
 use Rattle.qc_chain.proofs.Releases.{rest_handed_out}
 use Rattle.qc_dir.specs.declared.entries.Entry.{Entry}
 use Rattle.qc_dir.specs.declared.tables.TableBlock.{TableBlock}

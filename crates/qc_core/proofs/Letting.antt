@@ -1,5 +1,5 @@
 -- A chain whose blocks are unpinned or given back.
-use Rattle.std.proofs.Common.{◌≡◌, ℕ, ◌≤◌, List, ◌++◌, map, length, ap, arith}
+use Rattle.std.proofs.Common.{ℕ, List, ◌++◌, ap, arith}
 use Rattle.qc_model.specs.Licence.{region_words}
 use Rattle.qc_tiles.specs.Tiles.{handed_out}
 use Rattle.qc_tiles.proofs.Calls.{own_tiling}

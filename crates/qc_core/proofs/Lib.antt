@@ -34,4 +34,6 @@ pub mod Rivaling
 pub mod Sweeping
 pub mod Cutting
 pub mod GivingUp
+pub mod Overtaking
+pub mod Filling
 mod examples

@@ -14,7 +14,6 @@ use Rattle.qc_tiles.specs.declared.blocks.Block.{Block}
 use Rattle.qc_tiles.specs.Tiles.{IsTiling, CoversFrom, handed_out, block_of}
 use Rattle.qc_types.specs.Blocks.{least_block}
 use Rattle.qc_chain.specs.Chains.{AreHandedOut, AreOnce}
-use Rattle.qc_chain.specs.Chains.{Chain as Kept}
 use Rattle.qc_dir.specs.declared.entries.Entry.{Entry}
 use Rattle.qc_dir.specs.declared.tables.TableBlock.{TableBlock}
 use Rattle.qc_turn.specs.declared.task.Task.TheVariants as task

@@ -1,57 +1,35 @@
 -- An entry that nobody uses leaves by a prune.
-use Rattle.std.proofs.Common.{◌≡◌, ◌≢◌, ℕ, zero, suc, ◌+◌, ◌-◌, ◌<◌, ◌≤◌, eqb, eq-eqb, eqb-true, ne_eqb, Bool, true, false, cond, List, [], ◌∷◌, ◌++◌, map, length, refl, sym, ap, subst, ◌∙◌, arith, true≢false, length-append, ⊎_elim}
-use Rattle.std.specs.Prelude.{not, ◌&&◌, ◌||◌, ◌==◌, Option, Some, None, IfSome, Contains, IsPermutation, is_some, find, option_and_then, option_map, unwrap_or, slice_get, slice_set, count_by}
-use Rattle.std.specs.List.{list_any, filter, flat_map, AllByRecursion}
-use Rattle.std.proofs.lemmas.List.Elements.{Contains-append_left, Contains-append_right, Contains-append_cases, All-from_recursion, recursion_from_All}
-use Rattle.std.proofs.lemmas.List.Sorted.{All-permutation, length_permutation}
+use Rattle.std.proofs.Common.{◌≡◌, ℕ, ◌+◌, ◌-◌, ◌<◌, ◌≤◌, eqb, eq-eqb, eqb-true, Bool, true, false, cond, List, [], ◌∷◌, ◌++◌, map, length, refl, sym, ap, subst, ◌∙◌, arith, true≢false}
+use Rattle.std.specs.Prelude.{◌||◌, ◌==◌, Option, Some, None, find, option_map, count_by}
+use Rattle.std.specs.List.{list_any, AllByRecursion}
 use Rattle.std.proofs.lemmas.Option.{none-some, same_Some}
-use Rattle.qc_types.specs.declared.names.TableName.{TableName}
-use Rattle.qc_sql.specs.Database.{same_table}
 use Rattle.qc_model.specs.declared.events.Event.{Event}
 use Rattle.qc_model.specs.declared.events.Event.TheVariants as event
-use Rattle.qc_model.specs.Licence.{IsLicensed, region_words}
-use Rattle.qc_laws.specs.history.Runs.{are_distinct}
-use Rattle.qc_laws.proofs.history.Serials.{both_true, opposite, neither}
+use Rattle.qc_model.specs.Licence.{IsLicensed}
+use Rattle.qc_laws.proofs.history.Serials.{both_true}
 use Rattle.qc_laws.proofs.history.Events.{found_all}
-use Rattle.qc_tiles.specs.declared.blocks.Tile.{Tile}
-use Rattle.qc_tiles.specs.declared.blocks.Block.{Block}
-use Rattle.qc_tiles.specs.Tiles.{handed_out}
-use Rattle.qc_tiles.proofs.Calls.{own_tiling}
-use Rattle.qc_chain.specs.Chains.{Chained, chain_at, Begun, AreHandedOut, after_release}
+use Rattle.qc_chain.specs.Chains.{Chained, Begun}
 use Rattle.qc_chain.specs.Chains.{Chain as Kept}
 use Rattle.qc_dir.specs.declared.entries.Entry.{Entry}
 use Rattle.qc_dir.specs.declared.tables.TableBlock.{TableBlock}
-use Rattle.qc_dir.specs.Directory.{Directory, IsDirectory, AreApart, entry_at, has_serial, without, is_block_of}
-use Rattle.qc_dir.specs.Directory.{names_table as dir_names}
-use Rattle.qc_turn.specs.declared.task.Task.{Task}
-use Rattle.qc_turn.specs.declared.task.Task.TheVariants as task
-use Rattle.qc_sound.specs.PlainServer.{StoredEntry, EntryChain, SeatTask, blocks_at, blocks_of}
-use Rattle.qc_sound.specs.PlainServer.{PlainServer}
+use Rattle.qc_dir.specs.Directory.{IsDirectory, AreApart, entry_at, has_serial}
+use Rattle.qc_sound.specs.PlainServer.{SeatTask}
 use Rattle.qc_sound.specs.Sound.{IsSound}
 use Rattle.qc_sound.specs.Moment.{Moment}
 use Rattle.qc_sound.specs.parts.Tasks.{is_stream_of}
-use Rattle.qc_sound.specs.parts.Memory.{blocks_in_use, pinned_blocks, names_table, is_on_table, are_once}
-use Rattle.qc_sound.specs.PlainServer.{serial_of, is_task_on, is_wanted}
+use Rattle.qc_sound.specs.PlainServer.{is_task_on}
 use Rattle.qc_sound.specs.Pending.{NeedsOf}
 use Rattle.qc_sound.specs.PlainServer.{is_stored}
-use Rattle.qc_sound.specs.steps.Leaving.{staying, left, GivesBack}
-use Rattle.qc_sound.specs.Handed.{IsGivenBack}
-use Rattle.qc_sound.proofs.Moved.{same_serials}
+use Rattle.qc_sound.specs.steps.Leaving.{left, GivesBack}
 use Rattle.qc_sound.proofs.Leaves.{prune_step}
-use Rattle.qc_sound.proofs.Filters.{tasks_wanted, pins_stay}
-use Rattle.qc_sound.proofs.Handed.{times, times_append, times_permuted, permuted, gives_all}
-use Rattle.qc_laws.proofs.history.Serials.{serials_apart}
 use Rattle.qc_model.specs.Cache.{cache}
-use Rattle.qc_core.specs.declared.parts.RunningTask.{RunningTask}
 use Rattle.qc_core.specs.declared.parts.Parts.{Parts}
-use Rattle.qc_core.specs.Whole.{Named, is_named, IsNamedAs, chain_blocks, chain_bytes, chain_in, stored, table_pair, work_in, plain, IsWhole, with_event}
+use Rattle.qc_core.specs.Whole.{Named, IsNamedAs, stored, table_pair, plain, IsWhole, with_event}
 use Rattle.qc_core.specs.Leaves.{MayLeave, Leaves}
 use Rattle.qc_core.proofs.Cutting.{whole_blocks, cut_leaves, cut_one, CutOne}
 use Rattle.qc_core.proofs.Letting.{chain_out}
 use Rattle.qc_sound.specs.parts.Memory.{TilesAreSound, TablesAreSound}
-use Rattle.std.proofs.lemmas.List.Sorted.{length_permutation}
-use Rattle.qc_core.proofs.Seating.{found_less}
-use Rattle.qc_core.proofs.Uses.{serials_distinct, all_members, stored_at, stored_without, find_all, begun_at}
+use Rattle.qc_core.proofs.Uses.{stored_at, find_all, begun_at}
 use Rattle.qc_laws.specs.history.Runs.{IsKept}
 use Rattle.qc_laws.proofs.history.Stays.{answers_stay}
 use Rattle.qc_model.specs.Cache.{entry_of, is_entry}
@@ -67,7 +45,6 @@ use Rattle.qc_core.specs.Whole.{tasks_of}
 use Rattle.qc_core.specs.KeptLaws.{tasks_same}
 use Rattle.qc_core.proofs.Seeking.{pair_there}
 use Rattle.qc_core.proofs.OwnBlocks.{no_work}
-use Rattle.qc_core.proofs.OwnBlocks.{part_out, not_both, chain_count, text_count, table_count, use_count, own_count}
 
 -- ---- the whole
 

@@ -1,17 +1,13 @@
 -- A seat that rests: what may be struck off, and what the lock sees of it.
-use Rattle.std.proofs.Common.{◌≡◌, ◌≢◌, ℕ, zero, suc, ◌-◌, ◌<◌, eq-eqb, ne_eqb, Bool, true, false, cond, List, [], ◌∷◌, ◌++◌, map, refl, sym, ap, subst, ◌∙◌, arith, true≢false, inl, inr, ⊎_elim, append-nil}
+use Rattle.std.proofs.Common.{◌≡◌, ◌≢◌, ℕ, zero, suc, ◌-◌, ◌<◌, eq-eqb, ne_eqb, Bool, true, false, cond, List, [], ◌∷◌, map, refl, sym, ap, subst, ◌∙◌, arith, true≢false, inl, inr, ⊎_elim, append-nil}
 use Rattle.std.specs.Prelude.{not, ◌==◌, Option, Some, None, IfSome, find, slice_get, count_by, IsSomeAnd}
 use Rattle.std.specs.List.{list_any}
 use Rattle.std.proofs.lemmas.List.Sums.{sum_by-cons}
 use Rattle.std.proofs.lemmas.Option.{none-some, same_Some}
 use Rattle.qc_key.specs.Hash.{hash}
-use Rattle.qc_model.specs.Licence.{region_words}
 use Rattle.qc_laws.specs.history.Runs.{are_distinct}
 use Rattle.qc_laws.proofs.history.Serials.{neither, both_true, opposite}
-use Rattle.qc_tiles.specs.Tiles.{handed_out}
-use Rattle.qc_tiles.proofs.Calls.{own_tiling}
-use Rattle.qc_chain.specs.Chains.{Chained, Begun, AreHandedOut}
-use Rattle.qc_chain.specs.Chains.{Chain as Kept}
+use Rattle.qc_chain.specs.Chains.{Chained}
 use Rattle.qc_dir.specs.declared.entries.Entry.{Entry}
 use Rattle.qc_dir.specs.Directory.{IsDirectory, entry_at, after_leave}
 use Rattle.qc_turn.specs.declared.task.ListedTask.{ListedTask}
@@ -24,16 +20,13 @@ use Rattle.qc_turn.specs.Views.{of_seat}
 use Rattle.qc_turn.specs.Releases.{Follows}
 use Rattle.qc_sound.specs.PlainServer.{SeatTask, serial_of, is_stored}
 use Rattle.qc_sound.specs.Moment.{Moment, at_rest}
-use Rattle.qc_sound.specs.parts.Memory.{blocks_in_use}
 use Rattle.qc_sound.specs.parts.Tasks.{is_stream_of}
-use Rattle.qc_sound.proofs.Handed.{times, times_append, times_permuted}
 use Rattle.qc_core.specs.declared.parts.RunningTask.{RunningTask}
 use Rattle.qc_core.specs.declared.parts.Parts.{Parts}
 use Rattle.qc_core.specs.contracts.server.ServerKept.TheImpl.{ghosts}
-use Rattle.qc_core.specs.Whole.{Named, IsNamedAs, chain_blocks, chain_in, stored, work_in, listed_in, plain, tasks_of, IsWhole, Sound}
-use Rattle.qc_core.specs.Strikes.{is_of, MayLetGo, MayStrike, MayRest, rested_by, rested}
-use Rattle.qc_core.proofs.Uses.{find_all, serial_at, stored_at, begun_at, few_blocks}
-use Rattle.qc_core.proofs.OwnBlocks.{part_out, chain_count, use_count}
+use Rattle.qc_core.specs.Whole.{Named, IsNamedAs, stored, work_in, listed_in, plain, tasks_of, IsWhole, Sound}
+use Rattle.qc_core.specs.Strikes.{is_of, MayStrike, MayRest, rested_by, rested}
+use Rattle.qc_core.proofs.Uses.{find_all, serial_at, stored_at}
 use Rattle.qc_core.proofs.Letting.{may_let_go}
 use Rattle.qc_core.proofs.Cutting.{whole_blocks}
 use Rattle.qc_core.proofs.Seating.{is_among}

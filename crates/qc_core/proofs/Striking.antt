@@ -29,7 +29,7 @@ use Rattle.qc_sound.proofs.Moved.{moved_permutes}
 use Rattle.qc_laws.proofs.history.Events.{all_on}
 use Rattle.qc_core.specs.declared.parts.RunningTask.{RunningTask}
 use Rattle.qc_core.specs.declared.parts.Parts.{Parts}
-use Rattle.qc_core.specs.Whole.{Named, IsNamedAs, chain_blocks, chain_in, stored, work_in, plain, IsWhole}
+use Rattle.qc_core.specs.Whole.{Named, IsNamedAs, chain_blocks, chain_in, stored, work_in, plain}
 use Rattle.qc_core.specs.Pins.{after_unpins, IsUnpinnedSo}
 use Rattle.qc_core.specs.Strikes.{is_of, others, is_on, MayStrike}
 use Rattle.qc_core.specs.Cuts.{BlocksAreSound}

@@ -1,6 +1,6 @@
 -- A server stays sound when a stream is struck off.
-use Rattle.std.proofs.Common.{◌≡◌, ◌≢◌, ℕ, ◌+◌, ◌-◌, ◌<◌, ◌≤◌, eqb, eq-eqb, ne_eqb, Bool, true, false, cond, List, [], ◌∷◌, ◌++◌, map, length, refl, sym, ap, subst, ◌∙◌, arith, true≢false, inl, inr, ⊎_elim, append-nil}
-use Rattle.std.specs.Prelude.{not, ◌||◌, ◌==◌, ◌⊎◌, Option, Some, None, IfSome, is_some, slice_set, find}
+use Rattle.std.proofs.Common.{◌≡◌, ◌≢◌, ℕ, ◌+◌, ◌-◌, Bool, true, false, cond, List, [], ◌∷◌, map, length, refl, sym, ap, subst, ◌∙◌, arith, ⊎_elim}
+use Rattle.std.specs.Prelude.{not, ◌||◌, ◌==◌, Some, None, IfSome, is_some, slice_set}
 use Rattle.std.specs.List.{list_any, AllByRecursion}
 use Rattle.qc_laws.specs.history.Runs.{are_distinct}
 use Rattle.qc_tiles.specs.declared.blocks.Tile.{Tile}
@@ -25,10 +25,10 @@ use Rattle.qc_sound.proofs.Ending.{strike_step, strike_lists, none_each}
 use Rattle.qc_laws.proofs.history.Serials.{neither}
 use Rattle.qc_core.specs.declared.parts.RunningTask.{RunningTask}
 use Rattle.qc_core.specs.declared.parts.Parts.{Parts}
-use Rattle.qc_core.specs.Whole.{Named, chain_blocks, is_named, IsNamedAs, stored, chain_in, table_pair, work_in, plain, tasks_of, IsNamed, SeatsAreSound, ChainsHaveRoom, RoomIsSound, IsWhole}
+use Rattle.qc_core.specs.Whole.{Named, chain_blocks, is_named, IsNamedAs, stored, chain_in, work_in, plain, tasks_of, IsNamed, SeatsAreSound, ChainsHaveRoom, RoomIsSound, IsWhole}
 use Rattle.qc_core.specs.Pins.{after_unpins}
 use Rattle.qc_core.specs.Leaves.{released}
-use Rattle.qc_core.specs.Strikes.{is_of, others, is_on, without_task_of, with_user_less, let_go, MayStrike, rested_from, rested_by, rested}
+use Rattle.qc_core.specs.Strikes.{others, is_on, without_task_of, with_user_less, let_go, MayStrike, rested_from, rested_by, rested}
 use Rattle.qc_core.specs.KeptLaws.{tasks_same}
 use Rattle.qc_core.proofs.Seating.{all_less, found_less}
 use Rattle.qc_core.proofs.Uses.{find_all}

@@ -1,5 +1,5 @@
 -- What the calls ask.
-use Rattle.std.specs.Prelude.{◌≡◌, ℕ, ◌+◌, ◌-◌, ◌<◌, ◌≤◌, Bool, true, List, [], Some, not, ◌&&◌}
+use Rattle.std.specs.Prelude.{◌≡◌, ℕ, ◌+◌, ◌-◌, ◌<◌, ◌≤◌, Bool, true, List, [], Some, is_some, not, ◌&&◌}
 use Rattle.qc_model.specs.declared.events.Who.{Who}
 use Rattle.qc_model.specs.declared.events.Event.{Event}
 use Rattle.qc_model.specs.declared.events.How.{How}
@@ -12,9 +12,11 @@ use Rattle.qc_model.specs.Session.{State}
 use Rattle.qc_model.specs.Choice.{is_stale, wrote}
 use Rattle.qc_dir.specs.declared.entries.Entry.{Entry}
 use Rattle.qc_dir.specs.Directory.{entry_at}
-use Rattle.qc_model.specs.Licence.{IsCommitOn}
+use Rattle.qc_model.specs.Licence.{IsCommitOn, MayGiveUp}
 use Rattle.qc_turn.specs.Seats.{Held, holder}
-use Rattle.qc_turn.specs.Tasks.{listed_for, IsListed}
+use Rattle.qc_turn.specs.Tasks.{listed_for, own, IsListed}
+use Rattle.qc_tiles.specs.declared.blocks.Block.{Block}
+use Rattle.qc_model.specs.declared.events.GoneWhy.{GoneWhy}
 use Rattle.qc_turn.specs.declared.task.Task.TheVariants as task
 use Rattle.qc_turn.specs.declared.kept.Kept.{Ghosts}
 use Rattle.qc_sound.specs.parts.Journal.{reserved}
@@ -32,6 +34,14 @@ pub record IsNext {K : Ghosts Parts Event} (h : Held Parts Event K) (who : Who) 
 -- the seat rests: nothing is listed for it, or a stream that it has ended
 abbrev pub Rests : {K : Ghosts Parts Event} → Held Parts Event K → Type 0
 Rests h = IsListed (holder h).number task.Rest [] (listed_for (holder h).number (tasks_of h.value))
+
+-- the seat's fill of an entry is listed, and nothing else of the seat
+abbrev pub ListsFill : {K : Ghosts Parts Event} → ℕ → Held Parts Event K → Type 0
+ListsFill n h = (bs : List Block) × (listed_for (holder h).number (tasks_of h.value) ≡ own (holder h).number (task.Fill n) bs)
+
+-- where the entry is there still, it may be given up
+abbrev pub MayBeGone : ℕ → GoneWhy → Parts → Type 0
+MayBeGone n why s = is_some (entry_of n (cache s.journal.events)) ≡ true → MayGiveUp s.options s.journal.events n why
 
 -- a command that changed no data, or a conflict
 abbrev pub IsNoted : Parts → How → Type 0

@@ -14,6 +14,13 @@ use Rattle.qc_core.specs.declared.parts.Parts.{Parts}
 use Rattle.qc_core.specs.Whole.{Named, IsWhole, tasks_of}
 use Rattle.qc_core.specs.Strikes.{is_of}
 
+-- the event was added, and what it says nothing of stays
+pub record EndsBy (e : Event) (old new : Parts) : Type 0 where
+  pub events : new.journal.events ≡ old.journal.events ++ e ∷ []
+  pub options : new.options ≡ old.options
+  pub database : new.database ≡ old.database
+  pub connected : new.connected ≡ old.connected
+
 -- the seat fills the entry with a serial
 pub record Fills (seat serial : ℕ) (s : Parts) : Type 0 where
   pub work : RunningTask

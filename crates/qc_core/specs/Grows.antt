@@ -21,7 +21,7 @@ use Rattle.qc_core.specs.declared.grows.Short.TheVariants as short
 use Rattle.qc_core.specs.declared.parts.Parts.{Parts}
 use Rattle.qc_core.specs.Whole.{Named, IsWhole, tasks_of}
 use Rattle.qc_core.specs.Allocates.{PrunesMany, LacksTile}
-use Rattle.qc_core.specs.Overtaken.{IsOvertakenBy}
+use Rattle.qc_core.specs.Overtaken.{IsOvertaken}
 
 -- ---- one block
 
@@ -69,7 +69,7 @@ pub record Grows (n : ℕ) (old : Parts) (block : Block) (new : Parts) : Type 0 
 -- The entry has left the cache, by this event, and nothing changes; or it is still filled, and after some prunes no free block holds a unit, and no entry
 -- is left that is complete and without users.
 abbrev pub IsShort : ℕ → Parts → Parts → Short → Type 0
-IsShort n old new (short.Overtaken by) = (entry_of n (cache old.journal.events) ≡ None) × IsOvertakenBy old.journal.events n by × (new ≡ old)
+IsShort n old new (short.Overtaken by) = (entry_of n (cache old.journal.events) ≡ None) × IsOvertaken old.journal.events n by × (new ≡ old)
 IsShort n old new (short.NoRoom need largest) =
     IsFilling old.journal.events n × (count : ℕ) × PrunesMany (unit_words old.options) count old new × LacksTile (unit_words old.options) new (record { need = need; largest = largest })
 

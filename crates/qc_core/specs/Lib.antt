@@ -19,3 +19,4 @@ pub mod Compacts
 pub mod Ends
 pub mod Starts
 pub mod Plains
+pub mod Overtaken

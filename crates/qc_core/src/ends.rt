@@ -1,15 +1,28 @@
 //! Fills end.
 
-ghost use Rattle.std.specs.Prelude.{◌≡◌, length};
+ghost use Rattle.std.specs.Prelude.{◌≡◌, [], true, None, length, is_some, is_ok, IfOk, OnErr, IfErr};
 ghost use Rattle.qc_model.specs.declared.events.Event.TheVariants as event;
-ghost use Rattle.qc_core.specs.Ends.{MayGiveUpFill, EndsFill};
+ghost use Rattle.qc_model.specs.Cache.{cache, entry_of};
+ghost use Rattle.qc_model.specs.Licence.{MayGiveUp};
+ghost use Rattle.qc_dir.specs.Directory.{entry_at};
+ghost use Rattle.qc_turn.specs.Tasks.{listed_for};
+ghost use Rattle.qc_turn.specs.Seats.{MayRelease, SameHolder, holder};
+ghost use Rattle.qc_core.specs.Whole.{tasks_of};
+ghost use Rattle.qc_core.specs.Calls.{ListsFill, MayBeGone};
+ghost use Rattle.qc_core.specs.Strikes.{rested};
+ghost use Rattle.qc_core.specs.Overtaken.{WasOvertaken, IsOvertaken};
+ghost use Rattle.qc_core.specs.Ends.{MayGiveUpFill, EndsFill, EndsBy};
 
+use crate::overtakings::overtaken;
 use crate::parts::Parts;
+use crate::server::Server;
+use crate::strikes::strike_task;
 use qc_model::events::{Event, GoneWhy};
+use qc_turn::Held;
 
 impl Parts {
     /// Takes the entry out that the seat fills, and the fill, and pushes the event that it is gone.
-    pub(crate) fn give_up(&mut self, seat: u32, serial: u64, why: GoneWhy) -> u64
+    fn give_up(&mut self, seat: u32, serial: u64, why: GoneWhy) -> u64
         requires { MayGiveUpFill seat serial why self.old }
         ensures number { result ≡ length self.new.journal.events }
         ensures ends { (u : MayGiveUpFill seat serial why self.old) → EndsFill (event.Gone serial why) seat u.words self.old self.new }
@@ -18,4 +31,81 @@ impl Parts {
         self.rest(seat);
         self.push(Event::Gone { serial, why })
     }
+}
+
+impl Server {
+    /// Whether an entry is there.
+    pub(crate) fn has_entry(&self, serial: u64) -> bool
+        ensures { result ≡ is_some (entry_at serial self.now.dir.entries) }
+    {
+        self.entry(serial).is_some()
+    }
+
+    /// The same of what is in the box.
+    fn give_up(&mut self, seat: u32, serial: u64, why: GoneWhy) -> u64
+        requires { MayGiveUpFill seat serial why self.old }
+        ensures number { result ≡ length self.new.journal.events }
+        ensures ends { (u : MayGiveUpFill seat serial why self.old) → EndsFill (event.Gone serial why) seat u.words self.old self.new }
+    {
+        self.parts.give_up(seat, serial, why)
+    }
+
+    /// The number of the event that overtook the fill of an entry.
+    fn overtaken(&self, serial: u64) -> u64
+        requires { WasOvertaken self.now.journal.events serial }
+        ensures { IsOvertaken self.now.journal.events serial result }
+    {
+        overtaken(self.journal(), serial)
+    }
+}
+
+/// Gives up the fill of an entry, and answers the number of its event. Where the entry has left, it answers the number of the event that overtook the
+/// fill: the first commit on one of its tables, or reset, after its start. After either the seat has no task. It takes no memory.
+pub fn gone(held: &mut Held<'_, Server>, serial: u64, why: GoneWhy) -> Result<u64, u64>
+    requires stands { MayRelease held.old }
+    requires fills { ListsFill serial held.old }
+    requires licensed { MayBeGone serial why held.old.value }
+    ensures stands { MayRelease held.new × SameHolder held.old held.new }
+    ensures there { is_ok result ≡ is_some (entry_of serial (cache held.old.value.journal.events)) }
+    ensures ok { IfOk result (λ place. (place ≡ length held.new.value.journal.events) × EndsBy (event.Gone serial why) held.old.value held.new.value) }
+    ensures err { IfErr result (λ by. IsOvertaken held.old.value.journal.events serial by × (held.new.value ≡ rested (holder held.old).number held.old.value)) }
+    ensures rests { listed_for (holder held.old).number (tasks_of held.new.value) ≡ [] }
+    ensures ranges { held.new.ranges ≡ held.old.ranges }
+{
+    if held.value().has_entry(serial) {
+        return Ok(end_given_up(held, serial, why));
+    }
+    Err(end_overtaken(held, serial))
+}
+
+/// The same where the entry is there.
+fn end_given_up(held: &mut Held<'_, Server>, serial: u64, why: GoneWhy) -> u64
+    requires stands { MayRelease held.old }
+    requires fills { ListsFill serial held.old }
+    requires there { is_some (entry_at serial held.old.value.dir.entries) ≡ true }
+    requires licensed { MayGiveUp held.old.value.options held.old.value.journal.events serial why }
+    ensures stands { MayRelease held.new × SameHolder held.old held.new }
+    ensures number { result ≡ length held.new.value.journal.events }
+    ensures ends { EndsBy (event.Gone serial why) held.old.value held.new.value }
+    ensures rests { listed_for (holder held.old).number (tasks_of held.new.value) ≡ [] }
+    ensures ranges { held.new.ranges ≡ held.old.ranges }
+{
+    let seat = held.number();
+    held.value().give_up(seat, serial, why)
+}
+
+/// The fill ends whose entry has left.
+pub(crate) fn end_overtaken(held: &mut Held<'_, Server>, serial: u64) -> u64
+    requires stands { MayRelease held.old }
+    requires fills { ListsFill serial held.old }
+    requires left { entry_at serial held.old.value.dir.entries ≡ None }
+    ensures stands { MayRelease held.new × SameHolder held.old held.new }
+    ensures overtaken { IsOvertaken held.old.value.journal.events serial result }
+    ensures struck { held.new.value ≡ rested (holder held.old).number held.old.value }
+    ensures rests { listed_for (holder held.old).number (tasks_of held.new.value) ≡ [] }
+    ensures ranges { held.new.ranges ≡ held.old.ranges }
+{
+    let by = held.value().overtaken(serial);
+    strike_task(held);
+    by
 }

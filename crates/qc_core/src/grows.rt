@@ -11,7 +11,7 @@ ghost use Rattle.qc_core.specs.Whole.{tasks_of};
 ghost use Rattle.qc_core.specs.declared.grows.Short.TheVariants as short;
 ghost use Rattle.qc_core.specs.Grows.{MayAppend, appended, longer_by, MayGrowOn, FillsOn, Grows, IsShort, StaysFilling, TellsGrowth};
 
-use crate::overtaken::overtaken_by;
+use crate::overtakings::overtaken;
 use crate::parts::Parts;
 use crate::server::Server;
 use crate::sweeps::strike_ended;
@@ -65,7 +65,7 @@ impl Parts {
         ensures stays { (u : MayGrowOn serial self.old ranges.old) → StaysFilling serial self.old self.new ranges.new u.words u.seat }
     {
         let Some(entry) = self.dir.entry(serial) else {
-            let by = overtaken_by(self.journal.journal(), serial);
+            let by = overtaken(self.journal.journal(), serial);
             return Err(Short::Overtaken(by));
         };
         let chain = entry.chain;

@@ -12,6 +12,7 @@ mod keys;
 mod leaves;
 mod looks;
 mod notes;
+mod overtakings;
 mod parts;
 mod pins;
 mod plains;
@@ -25,6 +26,7 @@ mod strikes;
 mod sweeps;
 
 pub use counted::CountedJournal;
+pub use ends::gone;
 pub use flushes::flush;
 pub use grows::{Short, grow};
 pub use hits::Hit;

@@ -97,6 +97,20 @@ impl Server {
     }
 }
 
+/// Strikes the seat's own task off, where it has one that ends without an event.
+pub(crate) fn strike_task(held: &mut Held<'_, Server>)
+    requires stands { MayRelease held.old }
+    requires may { MayRest (holder held.old).number held.old.value }
+    ensures stands { MayRelease held.new × SameHolder held.old held.new }
+    ensures struck { held.new.value ≡ rested (holder held.old).number held.old.value }
+    ensures rests { listed_for (holder held.old).number (tasks_of held.new.value) ≡ [] }
+    ensures connected { held.new.value.connected ≡ held.old.value.connected }
+    ensures ranges { held.new.ranges ≡ held.old.ranges }
+{
+    let seat = held.number();
+    held.value().rest(seat);
+}
+
 /// Strikes the seat's own stream off, which has ended, where it is listed still.
 pub(crate) fn strike_own(held: &mut Held<'_, Server>)
     requires stands { MayRelease held.old }
@@ -107,8 +121,7 @@ pub(crate) fn strike_own(held: &mut Held<'_, Server>)
     ensures connected { held.new.value.connected ≡ held.old.value.connected }
     ensures ranges { held.new.ranges ≡ held.old.ranges }
 {
-    let seat = held.number();
-    held.value().rest(seat);
+    strike_task(held);
 }
 
 /// Where the task of a seat stands, if it has one.

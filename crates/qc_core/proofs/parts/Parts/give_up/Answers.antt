@@ -1,4 +1,4 @@
-use Rattle.std.proofs.Common.{◌≡◌, ◌≤◌, sym, ap, subst, ◌∙◌}
+use Rattle.std.proofs.Common.{◌≤◌, sym, ap, subst, ◌∙◌}
 use Rattle.qc_dir.specs.Directory.{IsDirectory}
 use Rattle.qc_model.specs.declared.events.Event.TheVariants as event
 use Rattle.qc_core.specs.declared.parts.Parts.{Parts}

@@ -3,13 +3,13 @@ use Rattle.qc_key.specs.Hash.{hash}
 use Rattle.qc_chain.specs.Chains.{Ranged}
 use Rattle.qc_sound.specs.Moment.{at_rest}
 use Rattle.qc_journal.specs.Room.{Recorded}
-use Rattle.qc_core.specs.Overtaken.{WasOvertaken, IsOvertakenBy}
+use Rattle.qc_core.specs.Overtaken.{WasOvertaken, IsOvertaken}
 use Rattle.qc_core.proofs.FillTasks.{fill_task, overtaken, entry_filling, entry_gone, may_allocate}
 use Rattle.qc_core.proofs.Growing.{err_short, is_filling, may_append_now, ranges_are, grows_so, stays_so, stays_short, stays_same}
 use Rattle.qc_core.proofs.parts.Parts.grow.Goals as goal
 
-pub overtaken_by-by-requires : goal.overtaken_by-by-requires
-overtaken_by-by-requires c =
+pub overtaken-by-requires : goal.overtaken-by-requires
+overtaken-by-requires c =
     let u = c.requires in
     let s = c.args.self.now in
     subst (λ (j : Recorded). WasOvertaken j.events c.args.serial) (sym c.journal.ensures)
@@ -36,7 +36,7 @@ returns-in_default-clause-err c =
     let t = fill_task u.seat c.args.serial c.args.ranges.now.blocks s.chains s.tasks.items u.fills.listed in (
       (
         entry_gone (at_rest hash) u.names u.words s u.seat c.args.serial c.args.ranges.now.blocks u.whole t (sym (c.in_default.ensures {u = tt}).entry),
-        subst (λ (j : Recorded). IsOvertakenBy j.events c.args.serial c.overtaken_by-by.result) c.journal.ensures c.overtaken_by-by.ensures,
+        subst (λ (j : Recorded). IsOvertaken j.events c.args.serial c.overtaken-by.result) c.journal.ensures c.overtaken-by.ensures,
         refl,
       ),
       refl,
