@@ -24,3 +24,5 @@ pub mod Cutting
 pub mod GivingUp
 pub mod Overtaking
 pub mod Filling
+pub mod Trimming
+pub mod Completing

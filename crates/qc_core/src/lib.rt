@@ -21,7 +21,7 @@ mod strikes;
 mod sweeps;
 
 pub use counted::CountedJournal;
-pub use ends::gone;
+pub use ends::{done, gone};
 pub use hits::Hit;
 pub use looks::look;
 pub use notes::note;
