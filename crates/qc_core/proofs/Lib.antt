@@ -36,4 +36,6 @@ pub mod Cutting
 pub mod GivingUp
 pub mod Overtaking
 pub mod Filling
+pub mod Trimming
+pub mod Completing
 mod examples

@@ -26,7 +26,7 @@ mod strikes;
 mod sweeps;
 
 pub use counted::CountedJournal;
-pub use ends::gone;
+pub use ends::{done, gone};
 pub use flushes::flush;
 pub use grows::{Short, grow};
 pub use hits::Hit;
