@@ -23,7 +23,9 @@ use Rattle.qc_sound.specs.Sound.{IsSound}
 use Rattle.qc_sound.specs.Moment.{at_rest}
 use Rattle.qc_sound.specs.PlainServer.{serial_of}
 use Rattle.qc_core.specs.declared.parts.RunningTask.{RunningTask}
-use Rattle.qc_core.specs.Whole.{plain, stored, table_pair, work_in, listed_in, IsNamedAs}
+use Rattle.qc_chain.specs.Chains.{no_chains}
+use Rattle.qc_core.proofs.ChainRooms.{fresh_room}
+use Rattle.qc_core.specs.Whole.{ChainsHaveRoom, plain, stored, table_pair, work_in, listed_in, IsNamedAs}
 
 no_hands : (words : ℕ) → handed_out (fresh words) ≡ []
 no_hands words = elim (eqb words 0) as (λ b. handed_out (cond b [] (free_tile 0 words ∷ [])) ≡ []) [ true ↦ refl | false ↦ refl ]
@@ -42,6 +44,7 @@ pub record IsNew (s : Parts) : Type 0 where
   pub entry_room : s.dir.room ≡ region_words s.options / 128
   pub table_room : s.dir.table_room ≡ region_words s.options / 64
   pub unpinner : s.unpinner ≡ region_words s.options / 64
+  pub chains : s.chains ≡ no_chains (region_words s.options / 64)
   pub tiles : s.tiles ≡ fresh (region_words s.options)
   pub tiling : IsTiling (region_words s.options) s.tiles
   pub connected : s.connected.items ≡ []
@@ -112,6 +115,7 @@ fresh_of s h = record {
       room = record {
         entries = omega (arith, ap (λ (l : List Entry). length l) h.entries, h.entry_room);
         tables = omega (arith, ap (λ (l : List TableBlock). length l) h.tables, h.table_room);
+        chains = subst (λ cs. ChainsHaveRoom [] cs (region_words s.options)) (sym h.chains) (fresh_room (region_words s.options));
         unpinner = h.unpinner;
       };
     },

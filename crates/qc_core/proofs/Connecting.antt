@@ -54,7 +54,7 @@ connect_sound words s n sound is none =
         sound = seat_step (at_rest hash) words (plain sound.0 s) (s.connected.items ++ n ∷ []) h.sound (all_push IsSeat s.connected.items n h.sound.tasks.connected is);
         directory = h.directory;
         seats = record { once = distinct_push n s.connected.items h.seats.once none; room = omega (arith, h.seats.room, more, room); task_room = h.seats.task_room };
-        room = record { entries = h.room.entries; tables = h.room.tables; unpinner = h.room.unpinner };
+        room = record { entries = h.room.entries; tables = h.room.tables; chains = h.room.chains; unpinner = h.room.unpinner };
       },
     )
 
@@ -69,7 +69,7 @@ disconnect_sound words s n i sound at =
         sound = seat_step (at_rest hash) words (plain sound.0 s) (filter (λ m. not (m == n)) s.connected.items) h.sound (all_less (λ m. m) IsSeat n s.connected.items h.sound.tasks.connected);
         directory = h.directory;
         seats = record { once = sym (ap are_distinct (map_same (filter (λ m. not (m == n)) s.connected.items))) ∙ distinct_less (λ m. m) n s.connected.items distinct; room = omega (arith, h.seats.room, less); task_room = h.seats.task_room };
-        room = record { entries = h.room.entries; tables = h.room.tables; unpinner = h.room.unpinner };
+        room = record { entries = h.room.entries; tables = h.room.tables; chains = h.room.chains; unpinner = h.room.unpinner };
       },
     )
 

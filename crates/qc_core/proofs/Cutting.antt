@@ -32,6 +32,7 @@ use Rattle.qc_core.proofs.Seating.{distinct_less as serials_less}
 use Rattle.qc_core.proofs.Uses.{serials_distinct, all_members, stored_at, stored_without, serial_at, find_all, all_without}
 use Rattle.qc_core.proofs.Striking.{any_in, all_pass, each_passes}
 use Rattle.qc_core.proofs.OwnBlocks.{part_out, not_both, chain_count, text_count, table_count, use_count, own_count}
+use Rattle.qc_core.proofs.ChainRooms.{room_left}
 use Rattle.qc_core.proofs.Remaining.{IsOther, differ, entries_else, stored_same, without_name, chains_left, same_staying, wanted_names, distinct_less, entries_named, works_named, begun_left, any_names, any_on, apart_once, words_left, tasks_in, chain_found, filter_names}
 
 -- ---- from the whole
@@ -230,18 +231,20 @@ module _ (m : Moment) (names : List Named) (s : Parts) (n : ℕ) (h : BlocksAreS
       tasks = works_named n names s.tasks.items (none_each (is_task_on n) p.tasks off) h.named.tasks;
     }
 
-    room_is : RoomIsSound (so true) × RoomIsSound (so false)
+    room_is : RoomIsSound names (so true) × RoomIsSound (without_name n names) (so false)
     room_is =
         let entries_less : length t.dir.entries + 1 ≡ length s.dir.entries = ap (λ (l : List Entry). length l + 1) l.removed.entries ∙ found_less (λ (e : Entry). e.serial) n s.dir.entries e h.serials there in
         let tables_less : length s.dir.tables ≡ length freed + length t.dir.tables = sym (length_permutation s.dir.tables (freed ++ t.dir.tables) l.removed.tables) ∙ length-append freed t.dir.tables in
         let entries : length t.dir.entries + t.dir.room ≡ region_words s.options / 128 = omega (arith, h.room.entries, entries_less, l.removed.room) in
-        let tables : length t.dir.tables + t.dir.table_room ≡ region_words s.options / 64 = omega (arith, h.room.tables, tables_less, l.removed.table_room) in
-        (record { entries = entries; tables = tables; unpinner = h.room.unpinner }, record { entries = entries; tables = tables; unpinner = h.room.unpinner })
+        let tables : length t.dir.tables + t.dir.table_room ≡ region_words s.options / 64 = omega (arith, h.room.tables, tables_less, l.removed.table_room) in (
+          record { entries = entries; tables = tables; chains = h.room.chains; unpinner = h.room.unpinner },
+          record { entries = entries; tables = tables; chains = room_left names s.chains n e.chain.number held (region_words s.options) h.apart named_n begun numbers h.room.chains; unpinner = h.room.unpinner },
+        )
 
     serials_is : are_distinct (map (λ e. e.serial) t.dir.entries) ≡ true
     serials_is = ap (λ (l : List Entry). are_distinct (map (λ e. e.serial) l)) l.removed.entries ∙ serials_less (λ (e : Entry). e.serial) n s.dir.entries h.serials
 
-    blocks_is : (on : Bool) → list_any (is_task_on n) p.tasks ≡ on → RoomIsSound (so on) → BlocksAreSound m (names_after on) (so on)
+    blocks_is : (on : Bool) → list_any (is_task_on n) p.tasks ≡ on → RoomIsSound (names_after on) (so on) → BlocksAreSound m (names_after on) (so on)
     blocks_is on is room =
         let same = sym (plain_is on is) in
         record {
@@ -264,7 +267,7 @@ module _ (m : Moment) (names : List Named) (s : Parts) (n : ℕ) (h : BlocksAreS
       pub pinned : pinned_blocks t.tiles ≡ pinned_blocks s.tiles
       pub others : t ≡ record s { dir = t.dir; chains = t.chains; tiles = t.tiles }
 
-    one : (on : Bool) → list_any (is_task_on n) p.tasks ≡ on → RoomIsSound (so on) → t ≡ so on → CutOne
+    one : (on : Bool) → list_any (is_task_on n) p.tasks ≡ on → RoomIsSound (names_after on) (so on) → t ≡ so on → CutOne
     one on is room server = record {
       under = names_after on;
       blocks = subst (BlocksAreSound m (names_after on)) (sym server) (blocks_is on is room);

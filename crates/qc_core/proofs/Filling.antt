@@ -63,7 +63,7 @@ pub none_of : {A : Type 0} (o : Option A) → is_some o ≡ false → o ≡ None
 none_of None h = refl
 none_of (Some x) h = absurd (true≢false h)
 
-some_of : {A : Type 0} (o : Option A) → is_some o ≡ true → (x : A) × (o ≡ Some x)
+pub some_of : {A : Type 0} (o : Option A) → is_some o ≡ true → (x : A) × (o ≡ Some x)
 some_of None h = absurd (true≢false (sym h))
 some_of (Some x) h = (x, refl)
 
@@ -86,7 +86,7 @@ module _ (m : Moment) (names : List Named) (words : List ℕ) (s : Parts) (seat 
   started = (find_all (ChainFits s.options s.journal.events) (λ c. c.serial == n) (plain names s).chains (chain_in s.chains (record { serial = n; number = f.work.chain.number })) h.sound.memory.chains.fitting (chain_found s.chains n _ names named_n)).start
 
   -- the entry is there: it isn't complete
-  partial : (y : Cached) → entry_of n (cache s.journal.events) ≡ Some y → y.complete ≡ false
+  pub partial : (y : Cached) → entry_of n (cache s.journal.events) ≡ Some y → y.complete ≡ false
   partial y at = by y.complete refl
     where
       by : (b : Bool) → y.complete ≡ b → y.complete ≡ false

@@ -101,9 +101,9 @@ given_is n seat ts us blocks p =
     ∙ filter_within (λ k. is_wanted es ws k) (λ k. is_wanted es p.tasks k) p.chains (λ k. or_more (list_any (is_stored k) es) (list_any (is_task_on k) ws) (list_any (is_task_on k) p.tasks) (any_filter (is_task_on k) (λ w. not (is_of_seat seat w)) p.tasks)) in
     λ i. record p { entries = same i; chains = chains i; table_blocks = blocks; tiles = us; tasks = ws }
 
-some_room : (ys : List Cached) (y : Cached) (n spare : ℕ) → entry_of n ys ≡ Some y → length ys + incomplete_count ys ≤ spare → 1 ≤ spare
-some_room [] y n spare f k = absurd (none-some y f)
-some_room (x ∷ ys) y n spare f k = omega (arith, k)
+pub room_of : (ys : List Cached) (y : Cached) (n spare : ℕ) → entry_of n ys ≡ Some y → length ys + incomplete_count ys ≤ spare → 1 ≤ spare
+room_of [] y n spare f k = absurd (none-some y f)
+room_of (x ∷ ys) y n spare f k = omega (arith, k)
 
 module _ (seat n : ℕ) (why : GoneWhy) (s : Parts) (u : MayGiveUpFill seat n why s) where
   abbrev m : Moment
@@ -173,7 +173,7 @@ module _ (seat n : ℕ) (why : GoneWhy) (s : Parts) (u : MayGiveUpFill seat n wh
       same_journal = ap (λ (y : Parts). y.journal) st.others ∙ ap (λ (y : Parts). y.journal) o.others
 
       pub room : 1 ≤ x.journal.spare
-      room = subst (λ j. 1 ≤ j.spare) (sym same_journal) (some_room (cache s.journal.events) here.entry n s.journal.spare here.cached u.whole.sound.journal.room)
+      room = subst (λ j. 1 ≤ j.spare) (sym same_journal) (room_of (cache s.journal.events) here.entry n s.journal.spare here.cached u.whole.sound.journal.room)
 
       abbrev ev : Event
       ev = event.Gone n why
@@ -203,7 +203,7 @@ module _ (seat n : ℕ) (why : GoneWhy) (s : Parts) (u : MayGiveUpFill seat n wh
             sound = subst (λ z. IsSound m u.words z) (sym plain_is) sound;
             directory = b.directory;
             seats = record { once = b.seats.once; room = b.seats.room; task_room = b.seats.task_room };
-            room = record { entries = b.room.entries; tables = b.room.tables; unpinner = b.room.unpinner };
+            room = record { entries = b.room.entries; tables = b.room.tables; chains = b.room.chains; unpinner = b.room.unpinner };
           } in
           let same = tasks_same st.under (with_event ev x) whole.named ∙ ap listed_tasks plain_is in
           record {

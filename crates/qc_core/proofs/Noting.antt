@@ -96,7 +96,7 @@ note_sound words s who h seat sound ps is number free q room =
         sound = quiet_step (at_rest hash) None words (plain sound.0 s) e w.sound quiet (may_note s who h q a.decides) (needs_push s.options s.journal.events e w.sound.journal.needs quiet.needs) a.none room;
         directory = w.directory;
         seats = record { once = w.seats.once; room = w.seats.room; task_room = w.seats.task_room };
-        room = record { entries = w.room.entries; tables = w.room.tables; unpinner = w.room.unpinner };
+        room = record { entries = w.room.entries; tables = w.room.tables; chains = w.room.chains; unpinner = w.room.unpinner };
       },
     )
 

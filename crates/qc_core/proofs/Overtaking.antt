@@ -59,11 +59,11 @@ any_map n (e ∷ es) = ap (λ b. (e.serial == n) || b) (any_map n es)
 -- ---- the entry stays until it is overtaken
 
 -- it is there, and isn't complete
-record IsThere (n : ℕ) (tables : List TableName) (es : List Entry) : Type 0 where
-  entry : Entry
-  at : entry_of n es ≡ Some entry
-  partial : entry.complete ≡ false
-  named : entry.tables ≡ tables
+pub record IsThere (n : ℕ) (tables : List TableName) (es : List Entry) : Type 0 where
+  pub entry : Entry
+  pub at : entry_of n es ≡ Some entry
+  pub partial : entry.complete ≡ false
+  pub named : entry.tables ≡ tables
 
 -- another entry moves to the end
 moved_else : (f : Entry → Entry) (n k : ℕ) (tables : List TableName) (es : List Entry) → k ≢ n → IsThere n tables es → IsThere n tables (moved f (entry_of k es) es)
@@ -116,7 +116,7 @@ stays o a n tables (event.Done k) l t f g = moved_else completed n k tables (cac
 stays o a n tables (event.Gone k why) l t f g = gone_else n k tables (cache a) (not_ended n k f) t
 stays o a n tables (event.Prune k need largest) l t f g = gone_else n k tables (cache a) (whole_else n k tables (cache a) t l.whole) t
 
-stays_all : (o : Options) (n : ℕ) (tables : List TableName) (a later : Journal) → IsLawfulAfter o a later → IsThere n tables (cache a) → list_any (ends_fill n) later ≡ false → list_any (overtakes tables) later ≡ false → IsThere n tables (cache (a ++ later))
+pub stays_all : (o : Options) (n : ℕ) (tables : List TableName) (a later : Journal) → IsLawfulAfter o a later → IsThere n tables (cache a) → list_any (ends_fill n) later ≡ false → list_any (overtakes tables) later ≡ false → IsThere n tables (cache (a ++ later))
 stays_all o n tables a [] l t f g = subst (λ j. IsThere n tables (cache j)) (sym (append-nil a)) t
 stays_all o n tables a (e ∷ later) l t f g =
     let fs = neither (ends_fill n e) (list_any (ends_fill n) later) f in

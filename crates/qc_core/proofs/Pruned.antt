@@ -90,7 +90,7 @@ module _ (m : Moment) (words : List ℕ) (names : List Named) (s : Parts) (n : �
           sound = subst (λ z. IsSound m words z) (sym after_plain) (prune_step m words (plain names s) n need largest t.tiles (map table_pair t.dir.tables) h.sound licensed needs gives);
           directory = valid;
           seats = record { once = b.seats.once; room = b.seats.room; task_room = b.seats.task_room };
-          room = record { entries = b.room.entries; tables = b.room.tables; unpinner = b.room.unpinner };
+          room = record { entries = b.room.entries; tables = b.room.tables; chains = b.room.chains; unpinner = b.room.unpinner };
         }
 
     pub pruned_tasks : IsLicensed s.options s.journal.events ev → NeedsOf s.options m.next (s.journal.events ++ ev ∷ []) → tasks_of (with_event ev t) ≡ tasks_of s

@@ -31,7 +31,7 @@ use Rattle.qc_core.proofs.Uses.{find_all}
 
 -- ---- the other chains
 
-get_else : {A : Type 0} (l : List A) (k j : ℕ) (v : A) → j ≢ k → slice_get (slice_set l k v) j ≡ slice_get l j
+pub get_else : {A : Type 0} (l : List A) (k j : ℕ) (v : A) → j ≢ k → slice_get (slice_set l k v) j ≡ slice_get l j
 get_else [] k j v ne = refl
 get_else (x ∷ l) zero zero v ne = absurd (ne refl)
 get_else (x ∷ l) zero (suc j) v ne = refl

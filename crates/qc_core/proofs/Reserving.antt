@@ -84,7 +84,7 @@ more_sound words s k sound more =
         };
         directory = w.directory;
         seats = record { once = w.seats.once; room = w.seats.room; task_room = w.seats.task_room };
-        room = record { entries = w.room.entries; tables = w.room.tables; unpinner = w.room.unpinner };
+        room = record { entries = w.room.entries; tables = w.room.tables; chains = w.room.chains; unpinner = w.room.unpinner };
       },
     )
 

@@ -246,7 +246,7 @@ candidate_small words s n h sound there = by (entry_at n s.dir.entries) refl the
 -- ---- the entry that answers
 
 module _ (key : List ℕ) (c v : Cached → Bool) where
-  narrow_none : (ys : List Cached) → find (has_key key) ys ≡ None → find (λ z. c z && has_key key z && v z) ys ≡ None
+  pub narrow_none : (ys : List Cached) → find (has_key key) ys ≡ None → find (λ z. c z && has_key key z && v z) ys ≡ None
   narrow_none [] h = refl
   narrow_none (z ∷ ys) h = elim (has_key key z) as (λ b. cond b (Some z) (find (has_key key) ys) ≡ None → cond (c z && b && v z) (Some z) (find (λ z. c z && has_key key z && v z) ys) ≡ None) [
     | true ↦ λ f. absurd (none-some z (sym f))
@@ -257,7 +257,7 @@ module _ (key : List ℕ) (c v : Cached → Bool) where
       off true b = refl
       off false b = refl
 
-  narrow_yes : (ys : List Cached) (y : Cached) → find (has_key key) ys ≡ Some y → (c y && v y) ≡ true → find (λ z. c z && has_key key z && v z) ys ≡ Some y
+  pub narrow_yes : (ys : List Cached) (y : Cached) → find (has_key key) ys ≡ Some y → (c y && v y) ≡ true → find (λ z. c z && has_key key z && v z) ys ≡ Some y
   narrow_yes [] y h k = absurd (none-some y h)
   narrow_yes (z ∷ ys) y h k = elim (has_key key z) as (λ b. cond b (Some z) (find (has_key key) ys) ≡ Some y → cond (c z && b && v z) (Some z) (find (λ z. c z && has_key key z && v z) ys) ≡ Some y) [
     | true ↦ λ f. let is : z ≡ y = same_Some z y f in ap (λ b. cond b (Some z) (find (λ z. c z && has_key key z && v z) ys)) (on (c z) (v z) (subst (λ (x : Cached). (c x && v x) ≡ true) (sym is) k)) ∙ ap Some is
@@ -276,7 +276,7 @@ module _ (key : List ℕ) (c v : Cached → Bool) where
   none_key [] h = refl
   none_key (z ∷ ys) h = let t = neither (has_key key z) (list_any (has_key key) ys) h in ap (λ b. cond b (Some z) (find (has_key key) ys)) t.0 ∙ none_key ys t.1
 
-  narrow_no : (ys : List Cached) (y : Cached) → are_apart ys ≡ true → find (has_key key) ys ≡ Some y → (c y && v y) ≡ false → find (λ z. c z && has_key key z && v z) ys ≡ None
+  pub narrow_no : (ys : List Cached) (y : Cached) → are_apart ys ≡ true → find (has_key key) ys ≡ Some y → (c y && v y) ≡ false → find (λ z. c z && has_key key z && v z) ys ≡ None
   narrow_no [] y a h k = absurd (none-some y h)
   narrow_no (z ∷ ys) y a h k =
       let parts = both_true (not (list_any (has_key z.key) ys)) (are_apart ys) a in

@@ -31,7 +31,7 @@ use Rattle.qc_core.specs.declared.parts.RunningTask.{RunningTask}
 use Rattle.qc_core.specs.declared.parts.Parts.{Parts}
 use Rattle.qc_core.specs.Whole.{Named, IsNamedAs, chain_blocks, chain_in, stored, work_in, plain}
 use Rattle.qc_core.specs.Pins.{after_unpins, IsUnpinnedSo}
-use Rattle.qc_core.specs.Strikes.{is_of, others, is_on, MayStrike}
+use Rattle.qc_core.specs.Strikes.{is_of, others, is_on, MayLetGo, MayStrike}
 use Rattle.qc_core.specs.Cuts.{BlocksAreSound}
 use Rattle.qc_core.specs.KeptLaws.{blocks_named}
 use Rattle.qc_core.proofs.Pinning.{unpinned_all}
@@ -184,7 +184,24 @@ each_passes q n (c ∷ cs) a h = (elim (eqb n c.serial) as (λ v. eqb n c.serial
 
 -- ---- the blocks
 
-module _ (m : Moment) (names : List Named) (s : Parts) (seat : ℕ) (h : BlocksAreSound m names s) (u : MayStrike seat s) where
+-- a task of a seat, and its chain
+pub record EndingTask (seat : ℕ) (s : Parts) : Type 0 where
+  pub work : RunningTask
+  pub serial : ℕ
+  pub at : find (is_of seat) s.tasks.items ≡ Some work
+  pub on : serial_of work.task ≡ Some serial
+  pub chain : MayLetGo work.chain.number s
+
+abbrev pub ending : (seat : ℕ) (s : Parts) → MayStrike seat s → EndingTask seat s
+ending seat s u = record {
+  work = u.work;
+  serial = u.serial;
+  at = u.at;
+  on = ⊎_elim (λ (e : u.work.task ≡ task.Stream u.serial). ap serial_of e) (λ (e : (u.work.task ≡ task.Fill u.serial) × (entry_at u.serial s.dir.entries ≡ None)). ap serial_of e.0) u.ends;
+  chain = u.chain;
+}
+
+module _ (m : Moment) (names : List Named) (s : Parts) (seat : ℕ) (h : BlocksAreSound m names s) (u : EndingTask seat s) where
   abbrev n : ℕ
   n = u.serial
 
@@ -197,24 +214,14 @@ module _ (m : Moment) (names : List Named) (s : Parts) (seat : ℕ) (h : BlocksA
   abbrev q : ℕ → Bool
   q k = is_wanted (left_by_user n p.entries) left_tasks k
 
-  pub on_n : serial_of u.work.task ≡ Some n
-  on_n = ⊎_elim (λ (e : u.work.task ≡ task.Stream n). ap serial_of e) (λ (e : (u.work.task ≡ task.Fill n) × (entry_at n s.dir.entries ≡ None)). ap serial_of e.0) u.ends
-
   pub named_n : IsNamedAs names n u.work.chain.number
-  named_n = subst (λ o. IfSome o (λ k. IsNamedAs names k u.work.chain.number)) on_n (find_all (λ w. IfSome (serial_of w.task) (λ k. IsNamedAs names k w.chain.number)) (is_of seat) s.tasks.items u.work h.named.tasks u.at)
+  named_n = subst (λ o. IfSome o (λ k. IsNamedAs names k u.work.chain.number)) u.on (find_all (λ w. IfSome (serial_of w.task) (λ k. IsNamedAs names k w.chain.number)) (is_of seat) s.tasks.items u.work h.named.tasks u.at)
 
   pub found : find (is_of_seat seat) p.tasks ≡ Some (record { seat = seat; task = u.work.task })
   found = found_in seat s.tasks.items u.work u.at ∙ (λ i. Some (record { seat = seat_found seat s.tasks.items u.work u.at i; task = u.work.task }))
 
-  -- as the plain server has it
-  pub may_end : MayEnd seat n p
-  may_end = ⊎_elim
-      (λ (e : u.work.task ≡ task.Stream n). inl (found ∙ (λ i. Some (record { seat = seat; task = e i }))))
-      (λ (e : (u.work.task ≡ task.Fill n) × (entry_at n s.dir.entries ≡ None)). inr (found ∙ (λ i. Some (record { seat = seat; task = e.0 i })), sym (there_in s.chains n s.dir.entries) ∙ ap is_some e.1))
-      u.ends
-
   chain_is : blocks_of p.chains u.work.task ≡ u.chain.held.blocks
-  chain_is = blocks_on p.chains u.work.task n on_n ∙ (blocks_named s.chains names n _ named_n ∙ ap chain_blocks u.chain.begun)
+  chain_is = blocks_on p.chains u.work.task n u.on ∙ (blocks_named s.chains names n _ named_n ∙ ap chain_blocks u.chain.begun)
 
   chain_at_n : blocks_at n p.chains ≡ u.chain.held.blocks
   chain_at_n = blocks_named s.chains names n _ named_n ∙ ap chain_blocks u.chain.begun
@@ -244,7 +251,7 @@ module _ (m : Moment) (names : List Named) (s : Parts) (seat : ℕ) (h : BlocksA
   tasks_after ts = pins_stay q p.chains left_tasks (tasks_wanted (left_by_user n p.entries) left_tasks)
 
   pub others_stay : AllByRecursion (λ c. eqb n c.serial ≡ false → q c.serial ≡ true) p.chains
-  others_stay = all_on (λ c. is_wanted p.entries p.tasks c.serial ≡ true) (λ c. eqb n c.serial ≡ false → q c.serial ≡ true) p.chains (λ c k ne. others_wanted seat n u.work.task p.entries p.tasks c.serial on_n found h.once k ne) h.wanted
+  others_stay = all_on (λ c. is_wanted p.entries p.tasks c.serial ≡ true) (λ c. eqb n c.serial ≡ false → q c.serial ≡ true) p.chains (λ c k ne. others_wanted seat n u.work.task p.entries p.tasks c.serial u.on found h.once k ne) h.wanted
 
   pub q_at : q n ≡ (list_any (is_stored n) p.entries || list_any (is_task_on n) left_tasks)
   q_at = ap (λ b. b || list_any (is_task_on n) left_tasks) (stored_left n n p.entries)
@@ -286,13 +293,13 @@ module _ (m : Moment) (names : List Named) (s : Parts) (seat : ℕ) (h : BlocksA
       (λ b. omega (arith, times_permuted b (handed_out s.tiles) (m.held ++ blocks_in_use p) h.tiles.in_use, times_append b m.held (blocks_in_use p), use_count b p, chain_count b n p.chains (chain_in s.chains (record { serial = n; number = u.work.chain.number })) h.apart (chain_found s.chains n _ names named_n), ap (λ o. times b (chain_blocks o)) u.chain.begun))
       c among
 
-  pins_after : (ts : List Tile) → list_any (is_task_on n) left_tasks ≡ false → IsUnpinnedSo (region_words s.options) s.tiles ts u.chain.held.blocks → (b : Block) → Contains (pinned_blocks ts) b ↔ Contains still b
+  pub pins_after : (ts : List Tile) → list_any (is_task_on n) left_tasks ≡ false → IsUnpinnedSo (region_words s.options) s.tiles ts u.chain.held.blocks → (b : Block) → Contains (pinned_blocks ts) b ↔ Contains still b
   pins_after ts off un b = (
     λ k. let r = (un.pins b).0 k in ⊎_elim (λ c. c) (λ c. absurd (r.1 c)) (parts_of b ((h.tiles.pinned b).0 r.0)),
     λ k. (un.pins b).1 ((h.tiles.pinned b).1 (left_in_all b k), λ c. apart off b k c),
   )
 
-  un : IsUnpinnedSo (region_words s.options) s.tiles (after_unpins u.chain.held.blocks s.tiles) u.chain.held.blocks
+  pub un : IsUnpinnedSo (region_words s.options) s.tiles (after_unpins u.chain.held.blocks s.tiles) u.chain.held.blocks
   un = unpinned_all (region_words s.options) s.tiles u.chain.held.blocks h.tiles.tiling u.chain.out.each
 
   pub tiles_unpinned : list_any (is_task_on n) left_tasks ≡ false → list_any (is_stored n) p.entries ≡ true → TilesAreSound m (after (after_unpins u.chain.held.blocks s.tiles))

@@ -1,5 +1,5 @@
 -- A server stays sound when a stream is struck off.
-use Rattle.std.proofs.Common.{◌≡◌, ◌≢◌, ℕ, ◌+◌, ◌-◌, Bool, true, false, cond, List, [], ◌∷◌, map, length, refl, sym, ap, subst, ◌∙◌, arith, ⊎_elim}
+use Rattle.std.proofs.Common.{◌≡◌, ◌≢◌, ℕ, ◌+◌, ◌-◌, Bool, true, false, cond, List, [], ◌∷◌, map, length, refl, sym, ap, subst, ◌∙◌, arith, ⊎_elim, inl, inr}
 use Rattle.std.specs.Prelude.{not, ◌||◌, ◌==◌, Some, None, IfSome, is_some, slice_set}
 use Rattle.std.specs.List.{list_any, AllByRecursion}
 use Rattle.qc_laws.specs.history.Runs.{are_distinct}
@@ -20,20 +20,22 @@ use Rattle.qc_turn.specs.declared.task.Task.TheVariants as task
 use Rattle.qc_core.specs.Cuts.{BlocksAreSound}
 use Rattle.qc_core.proofs.Cutting.{whole_blocks, filter_passes}
 use Rattle.qc_sound.specs.steps.Leaving.{without_seat}
-use Rattle.qc_sound.specs.steps.Ending.{used_less, left_by_user, struck_off}
+use Rattle.qc_sound.specs.steps.Ending.{used_less, left_by_user, struck_off, MayEnd}
 use Rattle.qc_sound.proofs.Ending.{strike_step, strike_lists, none_each}
 use Rattle.qc_laws.proofs.history.Serials.{neither}
 use Rattle.qc_core.specs.declared.parts.RunningTask.{RunningTask}
 use Rattle.qc_core.specs.declared.parts.Parts.{Parts}
-use Rattle.qc_core.specs.Whole.{Named, chain_blocks, is_named, IsNamedAs, stored, chain_in, work_in, plain, tasks_of, IsNamed, SeatsAreSound, RoomIsSound, IsWhole}
+use Rattle.qc_core.specs.Whole.{Named, chain_blocks, is_named, IsNamedAs, stored, chain_in, work_in, plain, tasks_of, IsNamed, SeatsAreSound, ChainsHaveRoom, RoomIsSound, IsWhole}
 use Rattle.qc_core.specs.Pins.{after_unpins}
 use Rattle.qc_core.specs.Leaves.{released}
 use Rattle.qc_core.specs.Strikes.{others, is_on, without_task_of, with_user_less, let_go, MayStrike, rested_from, rested_by, rested}
 use Rattle.qc_core.specs.KeptLaws.{tasks_same}
 use Rattle.qc_core.proofs.Seating.{all_less, found_less}
 use Rattle.qc_core.proofs.Uses.{find_all}
+use Rattle.qc_model.specs.Licence.{region_words}
+use Rattle.qc_core.proofs.ChainRooms.{room_left}
 use Rattle.qc_core.proofs.Remaining.{works_named, without_name, differ, IsOther, stored_same, chains_left, begun_left, distinct_less, named_else}
-use Rattle.qc_core.proofs.Striking.{others_in, any_in, left_in, all_left, left_length, there_in, named_n, may_end, chains_stay, q_at, tiles_kept, tiles_unpinned, tiles_released, wanted_else}
+use Rattle.qc_core.proofs.Striking.{ending, others_in, found_in, seat_found, any_in, left_in, all_left, left_length, there_in, named_n, chains_stay, q_at, tiles_kept, tiles_unpinned, tiles_released, wanted_else}
 
 -- ---- what is done with the chain, where it is known
 
@@ -127,8 +129,8 @@ module _ (m : Moment) (names : List Named) (s : Parts) (seat : ℕ) (h : BlocksA
   q k = is_wanted (left_by_user n p.entries) (without_seat seat p.tasks) k
 
   -- whichever way the chain went
-  blocks_so : (under : List Named) (ts : List Tile) (t : Parts) → plain under t ≡ struck_off seat n ts p → IsNamed under t → TilesAreSound m (struck_off seat n ts p) → t ≡ record first { chains = t.chains; tiles = ts } → BlocksAreSound m under t
-  blocks_so under ts t is named tiles same = record {
+  blocks_so : (under : List Named) (ts : List Tile) (t : Parts) → plain under t ≡ struck_off seat n ts p → IsNamed under t → TilesAreSound m (struck_off seat n ts p) → t ≡ record first { chains = t.chains; tiles = ts } → ChainsHaveRoom under t.chains (region_words s.options) → BlocksAreSound m under t
+  blocks_so under ts t is named tiles same chains = record {
     named = named;
     tiles = subst (TilesAreSound m) (sym is) tiles;
     tables = subst TablesAreSound (sym is) (record { named = λ t. names_left t n p.entries ∙ h.tables.named t; once = h.tables.once; words = h.tables.words });
@@ -138,7 +140,7 @@ module _ (m : Moment) (names : List Named) (s : Parts) (seat : ℕ) (h : BlocksA
     serials = subst (λ (x : Parts). are_distinct (map (λ e. e.serial) x.dir.entries) ≡ true) (sym same) (ap are_distinct (left_serials n s.dir.entries) ∙ h.serials);
     directory = subst (λ (x : Parts). IsDirectory x.dir) (sym same) valid;
     seats = subst SeatsAreSound (sym same) (record { once = h.seats.once; room = h.seats.room; task_room = omega (arith, h.seats.task_room, fewer) });
-    room = subst RoomIsSound (sym same) (record { entries = omega (arith, h.room.entries, left_length n s.dir.entries); tables = h.room.tables; unpinner = h.room.unpinner });
+    room = subst (RoomIsSound under) (sym same) (record { entries = omega (arith, h.room.entries, left_length n s.dir.entries); tables = h.room.tables; chains = chains; unpinner = h.room.unpinner });
   }
 
   -- the chain stays under its name
@@ -150,7 +152,7 @@ module _ (m : Moment) (names : List Named) (s : Parts) (seat : ℕ) (h : BlocksA
       spare = s.journal.spare;
       database = s.database;
       entries = left_in s.chains n s.dir.entries i;
-      chains = sym (chains_stay m names s seat h u e) i;
+      chains = sym (chains_stay m names s seat h (ending seat s u) e) i;
       table_blocks = p.table_blocks;
       tiles = ts;
       connected = s.connected.items;
@@ -160,7 +162,7 @@ module _ (m : Moment) (names : List Named) (s : Parts) (seat : ℕ) (h : BlocksA
     stay : TilesAreSound m (struck_off seat n ts p) → IsStruck m names seat s n (record first { tiles = ts })
     stay tiles = record {
       under = names;
-      blocks = blocks_so names ts (record first { tiles = ts }) stay_plain (record { begun = h.named.begun; numbers = h.named.numbers; entries = named_entries; tasks = named_tasks }) tiles refl;
+      blocks = blocks_so names ts (record first { tiles = ts }) stay_plain (record { begun = h.named.begun; numbers = h.named.numbers; entries = named_entries; tasks = named_tasks }) tiles refl h.room.chains;
       plain = stay_plain;
       others = refl;
     }
@@ -180,7 +182,7 @@ module _ (m : Moment) (names : List Named) (s : Parts) (seat : ℕ) (h : BlocksA
     goes = record first { chains = cs; tiles = ts }
 
     numbers : AllByRecursion (IsOther n number) names
-    numbers = differ n number names h.named.numbers (named_n m names s seat h u)
+    numbers = differ n number names h.named.numbers (named_n m names s seat h (ending seat s u))
 
     -- no entry is on that chain
     none_on : (es : List Entry) → list_any (is_stored n) (map (stored s.chains) es) ≡ false → AllByRecursion (λ e. IsNamedAs names e.serial e.chain.number) es → AllByRecursion (λ e. e.chain.number ≢ number) es
@@ -201,7 +203,7 @@ module _ (m : Moment) (names : List Named) (s : Parts) (seat : ℕ) (h : BlocksA
       spare = s.journal.spare;
       database = s.database;
       entries = (stored_same s.chains number u.chain.held (after_leave n s.dir.entries) left_on ∙ left_in s.chains n s.dir.entries) i;
-      chains = chains_left (λ k. is_wanted (left_by_user n p.entries) (without_seat seat p.tasks) k) s.chains n number u.chain.held names (of_names names (wanted_else m names s seat h u off gone)) numbers i;
+      chains = chains_left (λ k. is_wanted (left_by_user n p.entries) (without_seat seat p.tasks) k) s.chains n number u.chain.held names (of_names names (wanted_else m names s seat h (ending seat s u) off gone)) numbers i;
       table_blocks = p.table_blocks;
       tiles = ts;
       connected = s.connected.items;
@@ -223,18 +225,18 @@ module _ (m : Moment) (names : List Named) (s : Parts) (seat : ℕ) (h : BlocksA
     go : IsStruck m names seat s n goes
     go = record {
       under = without_name n names;
-      blocks = blocks_so (without_name n names) ts goes go_plain go_named (tiles_released m names s seat h u off gone) refl;
+      blocks = blocks_so (without_name n names) ts goes go_plain go_named (tiles_released m names s seat h (ending seat s u) off gone) refl (room_left names s.chains n number u.chain.held (region_words s.options) h.apart (named_n m names s seat h (ending seat s u)) u.chain.begun numbers h.room.chains);
       plain = go_plain;
       others = refl;
     }
 
   struck_so : (a b : Bool) → list_any (is_task_on n) (without_seat seat p.tasks) ≡ a → list_any (is_stored n) p.entries ≡ b → IsStruck m names seat s n (go_on a b u.work.chain.number u.chain.held first)
   struck_so true b x y =
-      let e = q_at m names s seat h u ∙ (ap (λ c. list_any (is_stored n) p.entries || c) x ∙ or_right (list_any (is_stored n) p.entries) true refl) in
-      stay s.tiles e (tiles_kept m names s seat h u x)
+      let e = q_at m names s seat h (ending seat s u) ∙ (ap (λ c. list_any (is_stored n) p.entries || c) x ∙ or_right (list_any (is_stored n) p.entries) true refl) in
+      stay s.tiles e (tiles_kept m names s seat h (ending seat s u) x)
   struck_so false true x y =
-      let e = q_at m names s seat h u ∙ ap (λ c. c || list_any (is_task_on n) (without_seat seat p.tasks)) y in
-      stay (after_unpins u.chain.held.blocks s.tiles) e (tiles_unpinned m names s seat h u x y)
+      let e = q_at m names s seat h (ending seat s u) ∙ ap (λ c. c || list_any (is_task_on n) (without_seat seat p.tasks)) y in
+      stay (after_unpins u.chain.held.blocks s.tiles) e (tiles_unpinned m names s seat h (ending seat s u) x y)
   struck_so false false x y = go x y
 
   pub struck_blocks : IsStruck m names seat s n (rested seat s)
@@ -252,6 +254,16 @@ pub record IsRested (m : Moment) (words : List ℕ) (seat : ℕ) (s t : Parts) :
   pub options : t.options ≡ s.options
   pub connected : t.connected ≡ s.connected
 
+-- as the plain server has it
+may_end : (names : List Named) (s : Parts) (seat : ℕ) (u : MayStrike seat s) → MayEnd seat u.serial (plain names s)
+may_end names s seat u =
+    let found = found_in seat s.tasks.items u.work u.at in
+    let same = seat_found seat s.tasks.items u.work u.at in
+    ⊎_elim
+    (λ (e : u.work.task ≡ task.Stream u.serial). inl (found ∙ (λ i. Some (record { seat = same i; task = e i }))))
+    (λ (e : (u.work.task ≡ task.Fill u.serial) × (entry_at u.serial s.dir.entries ≡ None)). inr (found ∙ (λ i. Some (record { seat = same i; task = e.0 i })), sym (there_in s.chains u.serial s.dir.entries) ∙ ap is_some e.1))
+    u.ends
+
 pub struck_whole : (m : Moment) (names : List Named) (words : List ℕ) (s : Parts) (seat : ℕ) → IsWhole m names words s → (u : MayStrike seat s) → IsDirectory (with_entries (after_leave u.serial s.dir.entries) s.dir) → IsRested m words seat s (rested seat s)
 struck_whole m names words s seat h u valid =
     let bs = whole_blocks m names words s h in
@@ -262,7 +274,7 @@ struck_whole m names words s seat h u valid =
     let b = r.blocks in
     let whole : IsWhole m r.under words t = record {
       named = b.named;
-      sound = subst (λ z. IsSound m words z) (sym r.plain) (strike_step m words p seat n t.tiles h.sound (may_end m names s seat bs u) (subst (TilesAreSound m) r.plain b.tiles));
+      sound = subst (λ z. IsSound m words z) (sym r.plain) (strike_step m words p seat n t.tiles h.sound (may_end names s seat u) (subst (TilesAreSound m) r.plain b.tiles));
       directory = b.directory;
       seats = b.seats;
       room = b.room;

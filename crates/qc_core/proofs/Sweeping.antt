@@ -183,7 +183,7 @@ swept_ended m words own seat s u ne r = record {
   stays = λ n h. find_rested seat n s u (neither (eqb seat n) false h).0;
 }
 
-one_listed : (cs : Chained) (n : ℕ) (ws : List RunningTask) (w : RunningTask) → are_distinct (map (λ w. w.seat) ws) ≡ true → find (is_of n) ws ≡ Some w → listed_for n (map (listed_in cs) ws) ≡ listed_in cs w ∷ []
+pub one_listed : (cs : Chained) (n : ℕ) (ws : List RunningTask) (w : RunningTask) → are_distinct (map (λ w. w.seat) ws) ≡ true → find (is_of n) ws ≡ Some w → listed_for n (map (listed_in cs) ws) ≡ listed_in cs w ∷ []
 one_listed cs n [] w d h = absurd (none-some w h)
 one_listed cs n (x ∷ ws) w d h =
     let parts = distinct_parts x.seat (map (λ (w : RunningTask). w.seat) ws) d in
@@ -196,7 +196,7 @@ one_listed cs n (x ∷ ws) w d h =
     none_with n [] k = refl
     none_with n (w ∷ ws) k = let t = neither (w.seat == n) (list_any (λ m. m == n) (map (λ (w : RunningTask). w.seat) ws)) k in ap (λ b. cond b (listed_in cs w ∷ listed_for n (map (listed_in cs) ws)) (listed_for n (map (listed_in cs) ws))) t.0 ∙ none_with n ws t.1
 
-seat_there : (seat : ℕ) (ws : List RunningTask) (w : RunningTask) → find (is_of seat) ws ≡ Some w → w.seat ≡ seat
+pub seat_there : (seat : ℕ) (ws : List RunningTask) (w : RunningTask) → find (is_of seat) ws ≡ Some w → w.seat ≡ seat
 seat_there seat [] w h = absurd (none-some w h)
 seat_there seat (x ∷ ws) w h = elim (eqb x.seat seat) as (λ b. eqb x.seat seat ≡ b → cond b (Some x) (find (is_of seat) ws) ≡ Some w → w.seat ≡ seat) [
   | true ↦ λ e f. ap (λ (y : RunningTask). y.seat) (sym (same_Some x w f)) ∙ eqb-true x.seat seat e

@@ -298,7 +298,7 @@ hit_whole m names words s who n seat room h low needs is number free spare compl
         room = h.seats.room;
         task_room = omega (arith, h.seats.task_room, u.tasks, length-append s.tasks.items (streams seat n e ∷ []));
       };
-      room = record { entries = omega (arith, h.room.entries, used_length n s.dir.entries e (serials_distinct m names words s h) u.there); tables = h.room.tables; unpinner = h.room.unpinner };
+      room = record { entries = omega (arith, h.room.entries, used_length n s.dir.entries e (serials_distinct m names words s h) u.there); tables = h.room.tables; chains = h.room.chains; unpinner = h.room.unpinner };
     }
 
 -- ---- what the others have listed

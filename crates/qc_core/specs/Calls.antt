@@ -13,7 +13,7 @@ use Rattle.qc_model.specs.Choice.{is_stale, wrote}
 use Rattle.qc_dir.specs.declared.entries.Entry.{Entry}
 use Rattle.qc_dir.specs.Directory.{entry_at}
 use Rattle.qc_model.specs.Licence.{IsCommitOn, MayGiveUp}
-use Rattle.qc_turn.specs.Seats.{Held, holder}
+use Rattle.qc_turn.specs.Seats.{Held, holder, words}
 use Rattle.qc_turn.specs.Tasks.{listed_for, own, IsListed}
 use Rattle.qc_tiles.specs.declared.blocks.Block.{Block}
 use Rattle.qc_model.specs.declared.events.GoneWhy.{GoneWhy}
@@ -23,6 +23,7 @@ use Rattle.qc_sound.specs.parts.Journal.{reserved}
 use Rattle.qc_core.specs.declared.parts.Parts.{Parts}
 use Rattle.qc_core.specs.Whole.{tasks_of}
 use Rattle.qc_core.specs.Connects.{is_connected}
+use Rattle.qc_core.specs.Ends.{HasWhole}
 
 -- it is the session of the seat, which is connected, with its next number, and nothing is listed for the seat
 pub record IsNext {K : Ghosts Parts Event} (h : Held Parts Event K) (who : Who) : Type 0 where
@@ -38,6 +39,10 @@ Rests h = IsListed (holder h).number task.Rest [] (listed_for (holder h).number 
 -- the seat's fill of an entry is listed, and nothing else of the seat
 abbrev pub ListsFill : {K : Ghosts Parts Event} → ℕ → Held Parts Event K → Type 0
 ListsFill n h = (bs : List Block) × (listed_for (holder h).number (tasks_of h.value) ≡ own (holder h).number (task.Fill n) bs)
+
+-- the first bytes of the fill's blocks are the whole answer
+abbrev pub StoresWhole : {K : Ghosts Parts Event} → ℕ → ℕ → Held Parts Event K → Type 0
+StoresWhole n bytes h = (bs : List Block) → listed_for (holder h).number (tasks_of h.value) ≡ own (holder h).number (task.Fill n) bs → HasWhole (words h) n bytes bs h.value
 
 -- where the entry is there still, it may be given up
 abbrev pub MayBeGone : ℕ → GoneWhy → Parts → Type 0

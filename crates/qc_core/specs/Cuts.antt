@@ -24,7 +24,7 @@ pub record BlocksAreSound (m : Moment) (names : List Named) (s : Parts) : Type 0
   pub serials : are_distinct (map (λ e. e.serial) s.dir.entries) ≡ true
   pub directory : IsDirectory s.dir
   pub seats : SeatsAreSound s
-  pub room : RoomIsSound s
+  pub room : RoomIsSound names s
 
 -- entries are out, and the chains that neither an entry nor a task is on
 abbrev pub cut : (StoredEntry → Bool) → List Tile → List (TableName × Block) → PlainServer → PlainServer

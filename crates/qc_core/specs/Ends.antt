@@ -1,18 +1,27 @@
 -- A fill ends: what is asked, and what becomes of the server.
-use Rattle.std.specs.Prelude.{◌≡◌, ◌≢◌, ℕ, List, [], ◌∷◌, ◌++◌, Some}
+use Rattle.std.specs.Prelude.{◌≡◌, ◌≢◌, ℕ, ◌*◌, ◌≤◌, true, Option, None, is_some, length, List, [], ◌∷◌, ◌++◌, Some}
 use Rattle.std.specs.List.{find}
 use Rattle.qc_key.specs.Hash.{hash}
 use Rattle.qc_model.specs.declared.events.Event.{Event}
 use Rattle.qc_model.specs.declared.events.Event.TheVariants as event
 use Rattle.qc_model.specs.declared.events.GoneWhy.{GoneWhy}
 use Rattle.qc_model.specs.Licence.{IsLicensed}
+use Rattle.qc_laws.specs.history.Runs.{IsStarted}
+use Rattle.qc_model.specs.Journal.{present}
+use Rattle.qc_model.specs.Session.{answer}
+use Rattle.qc_tiles.specs.declared.blocks.Block.{Block}
+use Rattle.qc_chain.specs.Words.{words_of}
+use Rattle.qc_chain.specs.Chains.{Chain, chain_at, with_chain, cut_chain, after_cut, used_words, EndsInLast}
+use Rattle.qc_dir.specs.Directory.{entry_at}
+use Rattle.qc_sound.specs.parts.Contents.{text_of}
+use Rattle.qc_core.specs.Pins.{after_unpins}
 use Rattle.qc_turn.specs.declared.task.Task.TheVariants as task
 use Rattle.qc_turn.specs.Tasks.{listed_for}
 use Rattle.qc_sound.specs.Moment.{at_rest}
 use Rattle.qc_core.specs.declared.parts.RunningTask.{RunningTask}
 use Rattle.qc_core.specs.declared.parts.Parts.{Parts}
 use Rattle.qc_core.specs.Whole.{Named, IsWhole, tasks_of}
-use Rattle.qc_core.specs.Strikes.{is_of}
+use Rattle.qc_core.specs.Strikes.{is_of, blocks_of_chain, MayLetGo}
 
 -- the event was added, and what it says nothing of stays
 pub record EndsBy (e : Event) (old new : Parts) : Type 0 where
@@ -45,3 +54,36 @@ pub record EndsFill (e : Event) (seat : ℕ) (words : List ℕ) (old new : Parts
   pub options : new.options ≡ old.options
   pub database : new.database ≡ old.database
   pub connected : new.connected ≡ old.connected
+
+-- the first bytes of the blocks' words are the whole answer of the entry at its start, which is within the limit
+pub record HasWhole (words : List ℕ) (n bytes : ℕ) (blocks : List Block) (s : Parts) : Type 0 where
+  pub start : IsStarted s.journal.events n
+  pub answered : answer start.key (present start.earlier) ≡ Some (text_of words blocks bytes)
+  pub long : length (text_of words blocks bytes) ≡ bytes
+  pub within : bytes ≤ 8 * words_of blocks
+  pub limit : bytes ≤ s.options.limit
+
+-- the chain may be cut to so many bytes, which end in its last block
+pub record MayCut (number bytes : ℕ) (s : Parts) : Type 0 where
+  pub chain : MayLetGo number s
+  pub ends : EndsInLast chain.held.blocks bytes
+
+-- the chain is unpinned, and cut to the words that so many bytes use
+abbrev pub cut_as : ℕ → ℕ → Option Chain → Parts → Parts
+cut_as number bytes None s = s
+cut_as number bytes (Some held) s = record s {
+  chains = with_chain number (Some (cut_chain bytes held)) s.chains;
+  tiles = after_cut (used_words held.blocks bytes) held.blocks (after_unpins held.blocks s.tiles);
+}
+
+abbrev pub cut_to : ℕ → ℕ → Parts → Parts
+cut_to number bytes s = cut_as number bytes (chain_at number s.chains) s
+
+-- the server is sound, the seat fills the entry, which is there, and has stored its whole answer
+pub record MayComplete (seat serial bytes : ℕ) (s : Parts) : Type 0 where
+  pub words : List ℕ
+  pub names : List Named
+  pub whole : IsWhole (at_rest hash) names words s
+  pub fills : Fills seat serial s
+  pub there : is_some (entry_at serial s.dir.entries) ≡ true
+  pub stored : HasWhole words serial bytes (blocks_of_chain fills.work.chain.number s.chains) s

@@ -10,8 +10,13 @@ pub mod Spelled
 pub mod Strikes
 pub mod Leaves
 pub mod Prunes
+pub mod Allocates
+pub mod Grows
 pub mod Sweeps
 pub mod Statuses
 pub mod Cuts
+pub mod Compacts
 pub mod Ends
+pub mod Starts
+pub mod Plains
 pub mod Overtaken

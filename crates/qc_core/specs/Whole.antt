@@ -1,6 +1,6 @@
 -- A server as the laws of plain servers see it, and when it is sound.
-use Rattle.std.specs.Prelude.{◌≡◌, ℕ, ◌+◌, ◌/◌, Bool, true, List, [], length, map, find, Option, Some, None, IfSome, is_some, ◌==◌}
-use Rattle.std.specs.List.{AllByRecursion}
+use Rattle.std.specs.Prelude.{◌≡◌, ℕ, ◌+◌, ◌/◌, Bool, true, List, [], length, map, find, Option, Some, None, IfSome, is_some, is_none, ◌==◌, filter}
+use Rattle.std.specs.List.{AllByRecursion, flat_map}
 use Rattle.qc_types.specs.declared.names.TableName.{TableName}
 use Rattle.qc_model.specs.declared.events.Event.{Event}
 use Rattle.qc_tiles.specs.declared.blocks.Block.{Block}
@@ -110,10 +110,21 @@ pub record SeatsAreSound (s : Parts) : Type 0 where
   pub room : length s.connected.items + s.connected.room ≡ word_seats
   pub task_room : length s.tasks.items + s.tasks.room ≡ word_seats
 
--- there is room for an entry for each 128 words of the region, and for a table, and for a block of the chain that is unpinned, for each 64
-pub record RoomIsSound (s : Parts) : Type 0 where
+-- how many names of chains are free
+abbrev pub free_names : Chained → ℕ
+free_names cs = length (filter (λ c. is_none c) cs.chains)
+
+-- the named chains and the room for more are a block and a name for each 64 words
+pub record ChainsHaveRoom (names : List Named) (cs : Chained) (words : ℕ) : Type 0 where
+  pub blocks : length (flat_map (λ c. c.blocks) (map (chain_in cs) names)) + cs.room ≡ words / 64
+  pub free : length names + free_names cs ≡ words / 64
+
+-- there is room for an entry for each 128 words of the region, and for a table, for a chain and a block of one, and for a block of the chain that is
+-- unpinned, for each 64
+pub record RoomIsSound (names : List Named) (s : Parts) : Type 0 where
   pub entries : length s.dir.entries + s.dir.room ≡ region_words s.options / 128
   pub tables : length s.dir.tables + s.dir.table_room ≡ region_words s.options / 64
+  pub chains : ChainsHaveRoom names s.chains (region_words s.options)
   pub unpinner : s.unpinner ≡ region_words s.options / 64
 
 pub record IsWhole (m : Moment) (names : List Named) (words : List ℕ) (s : Parts) : Type 0 where
@@ -121,7 +132,7 @@ pub record IsWhole (m : Moment) (names : List Named) (words : List ℕ) (s : Par
   pub sound : IsSound m words (plain names s)
   pub directory : IsDirectory s.dir
   pub seats : SeatsAreSound s
-  pub room : RoomIsSound s
+  pub room : RoomIsSound names s
 
 -- the server may stand free over these words
 abbrev pub Sound : List ℕ → Parts → Type 0

@@ -8,15 +8,16 @@ ghost use Rattle.qc_dir.specs.Directory.{entry_at};
 ghost use Rattle.qc_turn.specs.Tasks.{listed_for};
 ghost use Rattle.qc_turn.specs.Seats.{MayRelease, SameHolder, holder};
 ghost use Rattle.qc_core.specs.Whole.{tasks_of};
-ghost use Rattle.qc_core.specs.Calls.{ListsFill, MayBeGone};
+ghost use Rattle.qc_core.specs.Calls.{ListsFill, StoresWhole, MayBeGone};
 ghost use Rattle.qc_core.specs.Strikes.{rested};
 ghost use Rattle.qc_core.specs.Overtaken.{WasOvertaken, IsOvertaken};
-ghost use Rattle.qc_core.specs.Ends.{MayGiveUpFill, EndsFill, EndsBy};
+ghost use Rattle.qc_core.specs.Ends.{MayGiveUpFill, MayComplete, MayCut, cut_to, EndsFill, EndsBy};
 
 use crate::overtakings::overtaken;
 use crate::parts::Parts;
 use crate::server::Server;
 use crate::strikes::strike_task;
+use qc_chain::ChainName;
 use qc_model::events::{Event, GoneWhy};
 use qc_turn::Held;
 
@@ -30,6 +31,29 @@ impl Parts {
         self.drop_entry(serial);
         self.rest(seat);
         self.push(Event::Gone { serial, why })
+    }
+
+    /// Completes the entry that the seat fills, with so many bytes, and takes the fill out. Its chain is unpinned, and cut to the words that the bytes use.
+    fn complete(&mut self, seat: u32, serial: u64, bytes: u32) -> u64
+        requires { MayComplete seat serial bytes self.old }
+        ensures number { result ≡ length self.new.journal.events }
+        ensures ends { (u : MayComplete seat serial bytes self.old) → EndsFill (event.Done serial) seat u.words self.old self.new }
+    {
+        let Some(ended) = self.take_task(seat) else {
+            unreachable!()
+        };
+        self.cut_chain(ended.chain, bytes);
+        self.dir.complete(serial);
+        self.push(Event::Done { serial })
+    }
+
+    /// Unpins a chain, and cuts it to so many bytes.
+    fn cut_chain(&mut self, chain: ChainName, bytes: u32)
+        requires { MayCut chain.number bytes self.old }
+        ensures { self.new ≡ cut_to chain.number bytes self.old }
+    {
+        self.unpinner.unpin(&self.chains, chain, &mut self.tiles);
+        self.chains.trim_last(chain, bytes, &mut self.tiles);
     }
 }
 
@@ -50,6 +74,15 @@ impl Server {
         self.parts.give_up(seat, serial, why)
     }
 
+    /// The same of what is in the box.
+    fn complete(&mut self, seat: u32, serial: u64, bytes: u32) -> u64
+        requires { MayComplete seat serial bytes self.old }
+        ensures number { result ≡ length self.new.journal.events }
+        ensures ends { (u : MayComplete seat serial bytes self.old) → EndsFill (event.Done serial) seat u.words self.old self.new }
+    {
+        self.parts.complete(seat, serial, bytes)
+    }
+
     /// The number of the event that overtook the fill of an entry.
     fn overtaken(&self, serial: u64) -> u64
         requires { WasOvertaken self.now.journal.events serial }
@@ -57,6 +90,41 @@ impl Server {
     {
         overtaken(self.journal(), serial)
     }
+}
+
+/// Completes the entry that the seat fills, and answers the number of its event. Where the entry has left, it answers the number of the event that
+/// overtook the fill: the first commit on one of its tables, or reset, after its start. After either the seat has no task. It takes no memory.
+pub fn done(held: &mut Held<'_, Server>, serial: u64, bytes: u32) -> Result<u64, u64>
+    requires stands { MayRelease held.old }
+    requires fills { ListsFill serial held.old }
+    requires stored { StoresWhole serial bytes held.old }
+    ensures stands { MayRelease held.new × SameHolder held.old held.new }
+    ensures there { is_ok result ≡ is_some (entry_of serial (cache held.old.value.journal.events)) }
+    ensures ok { IfOk result (λ place. (place ≡ length held.new.value.journal.events) × EndsBy (event.Done serial) held.old.value held.new.value) }
+    ensures err { IfErr result (λ by. IsOvertaken held.old.value.journal.events serial by × (held.new.value ≡ rested (holder held.old).number held.old.value)) }
+    ensures rests { listed_for (holder held.old).number (tasks_of held.new.value) ≡ [] }
+    ensures ranges { held.new.ranges ≡ held.old.ranges }
+{
+    if held.value().has_entry(serial) {
+        return Ok(end_done(held, serial, bytes));
+    }
+    Err(end_overtaken(held, serial))
+}
+
+/// The same where the entry is there.
+fn end_done(held: &mut Held<'_, Server>, serial: u64, bytes: u32) -> u64
+    requires stands { MayRelease held.old }
+    requires fills { ListsFill serial held.old }
+    requires there { is_some (entry_at serial held.old.value.dir.entries) ≡ true }
+    requires stored { StoresWhole serial bytes held.old }
+    ensures stands { MayRelease held.new × SameHolder held.old held.new }
+    ensures number { result ≡ length held.new.value.journal.events }
+    ensures ends { EndsBy (event.Done serial) held.old.value held.new.value }
+    ensures rests { listed_for (holder held.old).number (tasks_of held.new.value) ≡ [] }
+    ensures ranges { held.new.ranges ≡ held.old.ranges }
+{
+    let seat = held.number();
+    held.value().complete(seat, serial, bytes)
 }
 
 /// Gives up the fill of an entry, and answers the number of its event. Where the entry has left, it answers the number of the event that overtook the

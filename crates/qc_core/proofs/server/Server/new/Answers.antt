@@ -19,6 +19,7 @@ returns-clause-fresh c =
       entry_room = ap (λ (d : Directory). d.room) memory.dir;
       table_room = ap (λ (d : Directory). d.table_room) memory.dir;
       unpinner = memory.unpinner;
+      chains = memory.chains;
       tiles = memory.tiles.0;
       tiling = memory.tiles.1;
       connected = ap (λ r. r.items) c.in_ok-connected.ensures;
