@@ -1,5 +1,5 @@
 -- Tables with changes, and databases of them.
-use Rattle.std.proofs.Common.{◌≡◌, ℕ, ◌+◌, ◌<◌, ◌≤◌, ℤ, true, false, List, [], ◌∷◌, length, get_or, take, zero, suc, refl, sym, ap, ◌∙◌, arith, subst, add-one, cond, Option, Some, None}
+use Rattle.std.proofs.Common.{◌≡◌, ℤ, true, false, List, [], ◌∷◌, ◌++◌, length, refl, ap, ◌∙◌, arith, subst, cond, Option, Some, None}
 use Rattle.std.specs.Prelude.{Err, nat_lt}
 use Rattle.std.specs.Ordering.{int_cmp, match_ordering}
 use Rattle.std.specs.declared.cmp.Ordering.TheVariants.{Less, Equal, Greater}
@@ -52,21 +52,16 @@ module _ {X : Type 0} where
   insert_after : (k : Name) (v : X) (e : Name × X) (m : MapOf Name X) → name_cmp e.0 k ≡ Less → insert_entry name_cmp (e ∷ m) k v ≡ e ∷ insert_entry name_cmp m k v
   insert_after k v e m p = rw (nat_list_cmp_total.antisymm k e.0 ∙ ap ordering_reverse p) refl
 
-  above_get : (k : Name) (es : MapOf Name X) (i : ℕ) (d : Name × X) → AllByRecursion (λ y. name_cmp k y ≡ Less) (keys_of es) → i < length es → name_cmp k (get_or es i d).0 ≡ Less
-  above_get k [] i d a within = absurd (omega arith)
-  above_get k (e ∷ es) zero d a within = a.0
-  above_get k (e ∷ es) (suc i) d a within = above_get k es i d a.1 (omega arith)
+  below_entry : (j : Name) (es : MapOf Name X) (k : Name) (v : X) (rest : MapOf Name X) → AllByRecursion (λ y. name_cmp j y ≡ Less) (keys_of (es ++ (k, v) ∷ rest)) → name_cmp j k ≡ Less
+  below_entry j [] k v rest a = a.0
+  below_entry j (e ∷ es) k v rest a = below_entry j es k v rest a.1
 
-  next : (es : MapOf Name X) (i : ℕ) (e : Name × X) → IsStrictlySortedBy name_cmp (keys_of es) → i < length es → e ≡ get_or es i e → insert_entry name_cmp (take i es) e.0 e.1 ≡ take (suc i) es
-  next [] i e s within is = absurd (omega arith)
-  next (d ∷ es) zero e s within is = ap (λ f. f ∷ []) is
-  next (d ∷ es) (suc i) e s within is =
-      insert_after e.0 e.1 d (take i es) (rw is (above_get d.0 es i e (sorted_head name_cmp d.0 (keys_of es) s) (omega arith)))
-      ∙ ap (λ rest. d ∷ rest) (next es i e (sorted_tail name_cmp d.0 (keys_of es) s) (omega arith) is)
-
-  -- the next entry comes behind those in front of it
-  pub insert_next : (es : MapOf Name X) (i : ℕ) (e : Name × X) → IsStrictlySortedBy name_cmp (keys_of es) → i < length es → e ≡ get_or es i e → insert_entry name_cmp (take i es) e.0 e.1 ≡ take (i + 1) es
-  insert_next es i e s within is = rw add-one (next es i e s within is)
+  -- an entry comes behind those in front of it
+  pub insert_behind : (es : MapOf Name X) (k : Name) (v : X) (rest : MapOf Name X) → IsStrictlySortedBy name_cmp (keys_of (es ++ (k, v) ∷ rest)) → insert_entry name_cmp es k v ++ rest ≡ es ++ (k, v) ∷ rest
+  insert_behind [] k v rest s = refl
+  insert_behind (e ∷ es) k v rest s =
+      ap (λ m. m ++ rest) (insert_after k v e es (below_entry e.0 es k v rest (sorted_head name_cmp e.0 (keys_of (es ++ (k, v) ∷ rest)) s)))
+      ∙ ap (λ m. e ∷ m) (insert_behind es k v rest (sorted_tail name_cmp e.0 (keys_of (es ++ (k, v) ∷ rest)) s))
 
 pub refused : {X : Type 0} (r : Or TableFull) (t : TableName) (full : Option TableName) (x : X) → IsRefusal t r → full ≡ Some t → Gives (λ y. y) (λ f. f.table) (Err r) (unless full x)
 refused or.Memory t full x is f = tt
@@ -77,6 +72,14 @@ too_many t is =
     elim (nat_lt most_rows (length t.rows)) as (λ b. None ≡ cond b None (Some t) → b ≡ true) [
       | true ↦ λ p. refl
       | false ↦ λ p. absurd cc
+    ] is
+
+-- a table that has no more rows than may be stored
+pub not_full : (t v : Table) → Some v ≡ fitting_table t → (nat_lt most_rows (length t.rows) ≡ false) × (v ≡ t)
+not_full t v is =
+    elim (nat_lt most_rows (length t.rows)) as (λ b. Some v ≡ cond b None (Some t) → (b ≡ false) × (v ≡ t)) [
+      | true ↦ λ p. absurd cc
+      | false ↦ λ p. (refl, cc)
     ] is
 
 -- a table that has too many rows is the first such table of those that it leads

@@ -1,5 +1,5 @@
 -- A database that fits is within rows.
-use Rattle.std.proofs.Common.{◌≡◌, true, false, [], ◌∷◌, length, refl, arith, Some, None}
+use Rattle.std.proofs.Common.{◌≡◌, true, false, [], ◌∷◌, length, refl, arith, Option, Some, None}
 use Rattle.std.specs.Prelude.{◌&&◌, Ok, nat_le, nat_lt}
 use Rattle.std.proofs.lemmas.Bool.Decides.{nat_tests}
 use Rattle.std.specs.List.{list_all}
@@ -9,6 +9,7 @@ use Rattle.qc_sql.specs.Words.{◌or_else◌, when}
 use Rattle.qc_model.specs.Licence.{is_within_rows}
 use Rattle.qc_model.specs.Machine.{full_in, full_table}
 use Rattle.qc_table.specs.Fitting.{fitting, unless}
+use Rattle.qc_table.proofs.Rows.{both}
 
 not_more : (n m : _) → nat_lt m n ≡ false → nat_le n m ≡ true
 not_more n m h = grind (arith, nat_tests)
@@ -25,6 +26,18 @@ tables_within db (t ∷ ts) none =
       | false ↦ λ p q. rw (not_more _ _ p) (tables_within db ts q)
     ] refl none
 
+none_more : (n m : _) → nat_le n m ≡ true → nat_lt m n ≡ false
+none_more n m h = grind (arith, nat_tests)
+
+none_full_in : (db : Name) (ts : Tables) → list_all (λ entry. nat_le (length entry.1.rows) most_rows) ts ≡ true → full_in db ts ≡ None
+none_full_in db [] all = refl
+none_full_in db (t ∷ ts) all = let here = both _ _ all in rw (none_more _ _ here.0) (none_full_in db ts here.1)
+
+-- no table of a database within rows is too full
+pub none_full : (d : Database) → is_within_rows d ≡ true → full_table d ≡ None
+none_full [] all = refl
+none_full (t ∷ ts) all = let here = both _ _ all in rw (none_full_in t.0 t.1 here.0) (none_full ts here.1)
+
 pub within_rows : (d : Database) → full_table d ≡ None → is_within_rows d ≡ true
 within_rows [] none = refl
 within_rows (t ∷ ts) none =
@@ -33,9 +46,9 @@ within_rows (t ∷ ts) none =
       | Some name ↦ λ p q. absurd cc
     ] refl none
 
+pub unless_ok : {X : Type 0} (full : Option TableName) (d x : X) → unless full d ≡ Ok x → (full ≡ None) × (x ≡ d)
+unless_ok None d x is = (refl, cc)
+unless_ok (Some t) d x is = absurd cc
+
 pub fitted : (d x : Database) → fitting d ≡ Ok x → (full_table d ≡ None) × (x ≡ d)
-fitted d x is =
-    elim (full_table d) as (λ o. unless o d ≡ Ok x → (o ≡ None) × (x ≡ d)) [
-      | None ↦ λ p. (refl, cc)
-      | Some t ↦ λ p. absurd cc
-    ] is
+fitted d x is = unless_ok (full_table d) d x is

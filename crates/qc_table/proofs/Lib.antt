@@ -1,8 +1,10 @@
+pub mod Appending
 pub mod BitSteps
 pub mod Cutting
 pub mod Drafts
 pub mod Fits
 pub mod Found
+pub mod InPlace
 pub mod IntSteps
 pub mod Maps
 pub mod Merges

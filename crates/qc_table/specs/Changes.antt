@@ -1,9 +1,19 @@
 -- What changes by key make of entries by rising key.
-use Rattle.std.specs.Prelude.{ℤ, [], ◌∷◌, ◌++◌, Option, Some, None}
+use Rattle.std.specs.Prelude.{ℤ, Bool, true, int_lt, List, [], ◌∷◌, ◌++◌, Option, Some, None}
 use Rattle.std.specs.Ordering.{int_cmp, match_ordering}
 use Rattle.std.specs.BTreeMap.{insert_entry, is_at}
 use Rattle.std.specs.Map.{remove_entry}
 use Rattle.qc_sql.specs.Database.{MapOf}
+
+-- the last of keys that begin with one
+abbrev pub last_of : ℤ → List ℤ → ℤ
+last_of k [] = k
+last_of k (j ∷ js) = last_of j js
+
+-- a key stands above the last of the others
+abbrev pub is_above : ℤ → List ℤ → Bool
+is_above k [] = true
+is_above k (j ∷ js) = int_lt (last_of j js) k
 
 module _ {X : Type 0} where
   -- a value is put under the key, or what the key has goes

@@ -1,10 +1,13 @@
 -- A database whose tables have no more rows than may be stored, or the first table that has more.
-use Rattle.std.specs.Prelude.{◌≡◌, Option, Some, None, Result, Ok, Err, nat_lt, length, if◌then◌else◌}
+use Rattle.std.specs.Prelude.{◌≡◌, Bool, true, false, Option, Some, None, Result, Ok, Err, nat_le, nat_lt, length, if◌then◌else◌}
 use Rattle.qc_types.specs.declared.names.TableName.{TableName}
+use Rattle.qc_types.specs.declared.memory.NoMemory.{NoMemory}
 use Rattle.qc_types.specs.declared.memory.Or.{Or}
 use Rattle.qc_types.specs.declared.memory.Or.TheVariants as or
 use Rattle.qc_table.specs.declared.database.TableFull.{TableFull}
-use Rattle.qc_sql.specs.Database.{Name, Database, Table, Tables, most_rows}
+use Rattle.qc_sql.specs.declared.tables.RowOp.{RowOp}
+use Rattle.qc_sql.specs.Database.{Name, Database, Table, Tables, apply_one, most_rows}
+use Rattle.qc_model.specs.Licence.{is_within_rows}
 use Rattle.qc_model.specs.Machine.{full_in, full_table}
 
 abbrev pub unless : {X : Type 0} → Option TableName → X → Result X TableName
@@ -24,3 +27,18 @@ fitting_table t = if nat_lt most_rows (length t.rows) then None else Some t
 abbrev pub IsRefusal : TableName → Or TableFull → Type 0
 IsRefusal t or.Memory = Unit {0}
 IsRefusal t (or.Other full) = full.table ≡ t
+
+-- at `Ok true` the operation was carried out and no table has too many rows, and else all is as before
+abbrev pub IsCarriedOut : RowOp → Database → Result Bool NoMemory → Database → Type 0
+IsCarriedOut op before (Ok true) after = (after ≡ apply_one op before) × (is_within_rows after ≡ true)
+IsCarriedOut op before (Ok false) after = after ≡ before
+IsCarriedOut op before (Err e) after = after ≡ before
+
+abbrev pub is_within : Table → Bool
+is_within t = nat_le (length t.rows) most_rows
+
+-- at `Ok true` the table is the one that is wanted and hasn't too many rows, and else it is as before
+abbrev pub IsChanged : Table → Table → Result Bool NoMemory → Table → Type 0
+IsChanged wanted before (Ok true) after = (after ≡ wanted) × (is_within after ≡ true)
+IsChanged wanted before (Ok false) after = after ≡ before
+IsChanged wanted before (Err e) after = after ≡ before

@@ -1,5 +1,5 @@
 -- A table as it is stored: its keys, and its columns.
-use Rattle.std.specs.Prelude.{◌≡◌, ℕ, ℤ, Bool, true, false, List, [], map, length, Option, Some, None, slice_index_or}
+use Rattle.std.specs.Prelude.{◌≡◌, ℕ, ℤ, Bool, true, false, List, [], ◌∷◌, ◌++◌, ◌≤◌, map, length, Option, Some, None, slice_index_or}
 use Rattle.std.specs.List.{slice_get, range_with_len}
 use Rattle.std.specs.Prelude.{zip}
 use Rattle.qc_types.specs.declared.names.Value.{Value}
@@ -10,7 +10,7 @@ use Rattle.qc_sql.specs.declared.tables.Kind.TheVariants as kind
 use Rattle.qc_sql.specs.Database.{MapOf, is_int}
 use Rattle.qc_table.specs.declared.cells.Cells.{Cells}
 use Rattle.qc_table.specs.declared.cells.Cells.TheVariants as cells
-use Rattle.qc_table.specs.Columns.{ints_of, texts_of, IsInts, IsTexts}
+use Rattle.qc_table.specs.Columns.{ints_of, text_length, texts_of, HasIntRoom, HasTextRoom, IsInts, IsTexts}
 use Rattle.qc_table.specs.Views.{kind_at, value_at}
 
 abbrev pub values_of : Cells → List Value
@@ -64,3 +64,29 @@ IsFilled (Some k) vs c = IsCells c × (values_of c ≡ vs) × (is_ints c ≡ is_
 -- so many columns, each with its values of the rows
 abbrev pub AreFilled : List Column → MapOf ℤ (List Value) → ℕ → List Cells → Type 0
 AreFilled columns rows n cs = (length cs ≡ n) × ((j : ℕ) (c : Cells) → slice_get cs j ≡ Some c → IsFilled (kind_at columns j) (column_of j rows) c)
+
+-- room for one more value
+abbrev pub HasRoom : Value → Cells → Type 0
+HasRoom v (cells.Ints c) = HasIntRoom c
+HasRoom v (cells.Texts c) = HasTextRoom (text_length v) c
+
+-- columns that take the values of a row
+abbrev pub TakeRow : List Value → List Cells → Type 0
+TakeRow row cs = (length cs ≡ length row) × ((j : ℕ) (c : Cells) → slice_get cs j ≡ Some c → IsCells c × (takes (is_ints c) (value_at row j) ≡ true))
+
+-- columns that have room for the values of a row from an index on
+abbrev pub HaveRoom : ℕ → List Value → List Cells → Type 0
+HaveRoom from row cs = (j : ℕ) (c : Cells) → from ≤ j → slice_get cs j ≡ Some c → HasRoom (value_at row j) c
+
+-- a column of the same kind whose values are made of its own
+abbrev pub IsMade : (List Value → List Value) → Option Cells → Cells → Type 0
+IsMade make None c = ⊥
+IsMade make (Some b) c = IsCells c × (values_of c ≡ make (values_of b)) × (is_ints c ≡ is_ints b)
+
+-- columns of the same kinds whose values are made of theirs, by the index of each
+abbrev pub AreMade : (ℕ → List Value → List Value) → List Cells → List Cells → Type 0
+AreMade make bs cs = (length cs ≡ length bs) × ((j : ℕ) (c : Cells) → slice_get cs j ≡ Some c → IsMade (make j) (slice_get bs j) c)
+
+-- one more value
+abbrev pub and_one : Value → List Value → List Value
+and_one v vs = vs ++ v ∷ []

@@ -1,7 +1,8 @@
 //! Columns as they are stored.
 
-ghost use Rattle.std.specs.Prelude.{◌≡◌, ◌-◌, ◌<◌, ◌≤◌, [], ◌∷◌, ◌++◌, length, take, drop, true, false, option_copied, OnOk};
-ghost use Rattle.qc_table.specs.Stored.{is_ints, takes, values_of, IsCells};
+ghost use Rattle.std.specs.Prelude.{◌≡◌, ◌-◌, ◌<◌, ◌≤◌, [], ◌∷◌, ◌++◌, length, take, drop, true, false, option_copied, IsOk, OnOk};
+ghost use Rattle.qc_table.specs.Columns.{text_length};
+ghost use Rattle.qc_table.specs.Stored.{is_ints, takes, values_of, HasRoom, IsCells};
 ghost use Rattle.qc_sql.specs.Database.{is_int};
 ghost use Rattle.qc_table.specs.Views.{int_value, text_value, value_at, IsNulls};
 
@@ -31,13 +32,28 @@ impl Cells {
         }
     }
 
-    /// Puts a value of the column's kind at the end. Linear in its length over many calls.
+    /// Makes room for a value. Linear in its length over many calls.
+    pub(crate) fn reserve(&mut self, value: &Value) -> Result<(), NoMemory>
+        requires ready { IsCells self.old }
+        ensures ready { IsCells self.new }
+        ensures kind { is_ints self.new ≡ is_ints self.old }
+        ensures values { values_of self.new ≡ values_of self.old }
+        ensures room { OnOk result (HasRoom value.now self.new) }
+    {
+        match self {
+            Cells::Ints(ints) => ints.reserve(),
+            Cells::Texts(texts) => texts.reserve(byte_count(value)),
+        }
+    }
+
+    /// Puts a value of the column's kind at the end. Linear in its length over many calls. Can't fail where there is room.
     pub(crate) fn push(&mut self, value: &Value) -> Result<(), NoMemory>
         requires ready { IsCells self.old }
         requires takes { takes (is_ints self.old) value.now ≡ true }
         ensures ready { OnOk result (IsCells self.new) }
         ensures kind { OnOk result (is_ints self.new ≡ is_ints self.old) }
         ensures values { OnOk result (values_of self.new ≡ values_of self.old ++ value.now ∷ []) }
+        ensures succeeds { HasRoom value.now self.old → IsOk result }
     {
         match self {
             Cells::Ints(ints) => ints.push(number(value)),
@@ -110,5 +126,15 @@ fn bytes(value: &Value) -> Option<&[u8]>
         Value::Null => None,
         Value::Str(text) => Some(text.bytes()),
         Value::Int(_) => unreachable!(),
+    }
+}
+
+/// How many bytes a value has, where it is a text.
+fn byte_count(value: &Value) -> usize
+    ensures { result ≡ text_length value.now }
+{
+    match value {
+        Value::Str(text) => text.bytes().len(),
+        Value::Null | Value::Int(_) => 0,
     }
 }

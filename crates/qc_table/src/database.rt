@@ -1,17 +1,18 @@
 //! The database.
 
-ghost use Rattle.std.specs.Prelude.{◌≡◌, true, is_some, option_copied, IfOk};
+ghost use Rattle.std.specs.Prelude.{◌≡◌, true, is_some, option_copied, IfOk, OnErr};
 ghost use Rattle.qc_types.specs.Answers.{Gives};
 ghost use Rattle.qc_sql.specs.Database.{apply, empty_database, table_of, tables_of};
 ghost use Rattle.qc_sql.specs.Order.{IsOrdered};
-ghost use Rattle.qc_model.specs.Licence.{is_within_rows, ops_fit};
-ghost use Rattle.qc_table.specs.Fitting.{fitting};
+ghost use Rattle.qc_model.specs.Licence.{is_within_rows, op_fits, ops_fit};
+ghost use Rattle.qc_table.specs.Fitting.{fitting, IsCarriedOut};
 ghost use Rattle.qc_table.specs.Views.{table_name_at};
 
 use crate::draft::Draft;
-use crate::name_list::NameList;
+use crate::in_place::{Databases, carry_out};
+use crate::name_map::NameMap;
 use crate::table_version::TableVersion;
-use qc_sql::tables::Ops;
+use qc_sql::tables::{Ops, RowOp};
 use qc_types::{NoMemory, Or, TableName};
 use std::alloc::Global;
 use std::marker::Model;
@@ -24,10 +25,10 @@ pub struct TableFull {
     pub table: TableName,
 }
 
-/// The tables of each database, in memory. It never changes: what operations make of it is another one, which shares the tables that they don't touch.
+/// The tables of each database, in memory. Those that share it, and what operations make of it, share the tables that aren't touched.
 #[derive(Drop)]
 pub struct Database {
-    databases: Arc<NameList<NameList<TableVersion>>>,
+    databases: Arc<Databases>,
 }
 
 impl Model for Database {
@@ -47,7 +48,7 @@ impl Database {
         ensures { IfOk result (λ d. d ≡ empty_database) }
     {
         Ok(Database {
-            databases: Arc::new(alloc, NameList::new(alloc))?,
+            databases: Arc::new(alloc, NameMap::new(alloc))?,
         })
     }
 
@@ -85,7 +86,7 @@ impl Database {
     }
 
     /// The name of the table with this index in the database, by rising name, from 0. `None` where there is no such database, or no more tables.
-    /// Costs the logarithm of how many databases there are.
+    /// Linear in the index, beside the logarithm of how many databases there are.
     pub fn table_at(&self, db: &[u8], index: u64) -> Option<&[u8]>
         ensures { option_copied result ≡ table_name_at db.now index self.now }
     {
@@ -104,12 +105,39 @@ impl Database {
         })
     }
 
+    /// Makes of it what the operations make, the first of them first, or names the first table that would have too many rows; it is as before then, and also
+    /// where memory runs out. One operation alone is carried out in place where no other one shares the database: it costs the logarithm of how many databases
+    /// and tables there are, and what the table holds that it touches; but only what the row holds, over many calls, where a row is put whose key stands above
+    /// all others of a version of the table that is shared with no one. Else it costs as much as `apply`, which copies each table that is touched. The copy
+    /// is shared with no one, so what comes next changes it in place.
+    pub fn change(&mut self, alloc: Global, ops: &Ops) -> Result<(), Or<TableFull>>
+        requires { ops_fit ops.now self.old ≡ true }
+        ensures made { Gives (λ _. self.new) (λ full. full.table) result (fitting (apply ops.now self.old)) }
+        ensures kept { OnErr result (self.new ≡ self.old) }
+    {
+        if let [op] = ops.items() {
+            if self.change_alone(alloc, op)? {
+                return Ok(());
+            }
+        }
+        *self = self.apply(alloc, ops)?;
+        Ok(())
+    }
+
+    /// Carries out one operation in place, or leaves all as it was where another one shares the database, where a table would have too many rows, and
+    /// where memory runs out.
+    fn change_alone(&mut self, alloc: Global, op: &RowOp) -> Result<bool, NoMemory>
+        requires { op_fits op.now self.old ≡ true }
+        ensures { IsCarriedOut op.now self.old result self.new }
+    {
+        match Arc::get_mut(&mut self.databases) {
+            Some(databases) => carry_out(databases, alloc, op),
+            None => Ok(false),
+        }
+    }
+
     /// The tables of each database after the operations, or the first table that has too many rows then.
-    fn tables_after(
-        &self,
-        alloc: Global,
-        ops: &Ops,
-    ) -> Result<NameList<NameList<TableVersion>>, Or<TableFull>>
+    fn tables_after(&self, alloc: Global, ops: &Ops) -> Result<Databases, Or<TableFull>>
         requires { ops_fit ops.now self.now ≡ true }
         ensures made { Gives (λ d. d) (λ full. full.table) result (fitting (apply ops.now self.now)) }
         ensures ordered { IsOrdered self.now }

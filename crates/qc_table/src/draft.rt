@@ -9,7 +9,7 @@ ghost use Rattle.qc_table.specs.Fitting.{fitting, fitting_tables, IsRefusal};
 
 use crate::database::TableFull;
 use crate::draft_table::DraftTable;
-use crate::name_list::NameList;
+use crate::in_place::Databases;
 use crate::name_map::NameMap;
 use crate::table_version::TableVersion;
 use qc_sql::tables::{Columns, RowOp, StoredRow};
@@ -33,15 +33,13 @@ impl Model for Draft {
 
 impl Draft {
     /// What is stored, without changes. Costs n log n for n tables.
-    pub(crate) fn of(
-        alloc: Global,
-        stored: &NameList<NameList<TableVersion>>,
-    ) -> Result<Draft, NoMemory>
+    pub(crate) fn of(alloc: Global, stored: &Databases) -> Result<Draft, NoMemory>
         ensures { IfOk result (λ d. d ≡ stored.now) }
     {
+        stored.is_in_order();
         let mut databases = NameMap::new(alloc);
-        for entry in stored.entries() {
-            databases.insert(alloc, entry.0.bytes(), drafts_of(alloc, &entry.1)?)?;
+        for (db, tables) in &stored.held {
+            databases.insert(alloc, db.as_slice(), drafts_of(alloc, tables)?)?;
         }
         Ok(Draft { databases })
     }
@@ -133,32 +131,27 @@ impl Draft {
         self.databases.remove(name.bytes());
     }
 
-    /// Versions of all tables, or the first table that has too many rows. Linear in what the tables hold that have changes, and in the number of tables.
-    pub(crate) fn versions(
-        &self,
-        alloc: Global,
-    ) -> Result<NameList<NameList<TableVersion>>, Or<TableFull>>
+    /// Versions of all tables, or the first table that has too many rows. Linear in what the tables hold that have changes, and n log n for n tables.
+    pub(crate) fn versions(&self, alloc: Global) -> Result<Databases, Or<TableFull>>
         ensures { Gives (λ d. d) (λ f. f.table) result (fitting self.now) }
     {
-        let databases = &self.databases;
-        let mut made = Vec::with_capacity(alloc, databases.held.len())?;
-        for (db, tables) in &databases.held {
+        self.databases.is_in_order();
+        let mut made = NameMap::new(alloc);
+        for (db, tables) in &self.databases.held {
             let versions = versions_of(alloc, db.as_slice(), tables)?;
-            made.push((Text::of(alloc, db.as_slice())?, versions))?;
+            made.insert(alloc, db.as_slice(), versions)?;
         }
-        Ok(NameList::of(made))
+        Ok(made)
     }
 }
 
-fn drafts_of(
-    alloc: Global,
-    stored: &NameList<TableVersion>,
-) -> Result<NameMap<DraftTable>, NoMemory>
+fn drafts_of(alloc: Global, stored: &NameMap<TableVersion>) -> Result<NameMap<DraftTable>, NoMemory>
     ensures { IfOk result (λ d. d ≡ stored.now) }
 {
+    stored.is_in_order();
     let mut drafts = NameMap::new(alloc);
-    for entry in stored.entries() {
-        drafts.insert(alloc, entry.0.bytes(), DraftTable::of(alloc, &entry.1)?)?;
+    for (name, version) in &stored.held {
+        drafts.insert(alloc, name.as_slice(), DraftTable::of(alloc, version)?)?;
     }
     Ok(drafts)
 }
@@ -167,17 +160,18 @@ fn versions_of(
     alloc: Global,
     db: &[u8],
     tables: &NameMap<DraftTable>,
-) -> Result<NameList<TableVersion>, Or<TableFull>>
+) -> Result<NameMap<TableVersion>, Or<TableFull>>
     ensures { Gives (λ d. d) (λ f. f.table) result (fitting_tables db.now tables.now) }
 {
-    let mut made = Vec::with_capacity(alloc, tables.held.len())?;
+    tables.is_in_order();
+    let mut made = NameMap::new(alloc);
     for (name, draft) in &tables.held {
         let Some(version) = draft.version(alloc)? else {
             return Err(full(alloc, db, name.as_slice()));
         };
-        made.push((Text::of(alloc, name.as_slice())?, version))?;
+        made.insert(alloc, name.as_slice(), version)?;
     }
-    Ok(NameList::of(made))
+    Ok(made)
 }
 
 /// The refusal that names the table, or want of memory.

@@ -7,15 +7,13 @@ ghost use Rattle.qc_table.specs.Fitting.{fitting_table};
 
 use crate::keys::key_of_row;
 use crate::merge::{empty, merge};
+use crate::table_rows::MOST_ROWS;
 use crate::table_version::TableVersion;
 use qc_sql::tables::{Columns, StoredRow};
 use qc_types::NoMemory;
 use std::alloc::Global;
 use std::collections::BTreeMap;
 use std::marker::Model;
-
-/// The most rows of a table.
-const MOST_ROWS: usize = 1_048_576;
 
 /// A version of a table, and the rows to be put or, where there is none, taken out, by key. Contracts see the table with the changes.
 #[derive(Drop)]

@@ -1,7 +1,7 @@
 //! BIGINT columns as they are stored.
 
-ghost use Rattle.std.specs.Prelude.{◌≡◌, ◌<◌, [], ◌∷◌, ◌++◌, length, OnOk};
-ghost use Rattle.qc_table.specs.Columns.{ints_of, IsInts};
+ghost use Rattle.std.specs.Prelude.{◌≡◌, ◌<◌, [], ◌∷◌, ◌++◌, length, IsOk, OnOk};
+ghost use Rattle.qc_table.specs.Columns.{ints_of, HasIntRoom, IsInts};
 ghost use Rattle.qc_table.specs.Views.{int_value, value_at};
 
 use crate::nulls::{has_bit, push_bit};
@@ -26,11 +26,24 @@ impl Ints {
         }
     }
 
-    /// Puts a number or NULL at the end. Constant time over many calls.
+    /// Makes room for one more. Constant time over many calls.
+    pub(crate) fn reserve(&mut self) -> Result<(), NoMemory>
+        requires { IsInts self.old }
+        ensures same { ints_of self.new ≡ ints_of self.old }
+        ensures ready { IsInts self.new }
+        ensures room { OnOk result (HasIntRoom self.new) }
+    {
+        self.values.reserve(1)?;
+        self.nulls.reserve(1)?;
+        Ok(())
+    }
+
+    /// Puts a number or NULL at the end. Constant time over many calls. Can't fail where there is room.
     pub(crate) fn push(&mut self, value: Option<i64>) -> Result<(), NoMemory>
         requires { IsInts self.old }
         ensures ready { OnOk result (IsInts self.new) }
         ensures values { OnOk result (ints_of self.new ≡ ints_of self.old ++ int_value value ∷ []) }
+        ensures succeeds { HasIntRoom self.old → IsOk result }
     {
         push_bit(&mut self.nulls, self.values.len(), value.is_none())?;
         self.values.push(value.unwrap_or(0))?;

@@ -4,7 +4,9 @@ ghost use Rattle.std.specs.Prelude.{◌≡◌, [], OnOk, OnErr, option_copied};
 ghost use Rattle.std.specs.Option.{option_copied_mut};
 ghost use Rattle.std.specs.Borrow.{sem};
 ghost use Rattle.std.specs.BTreeMap.{insert_entry, is_at};
-ghost use Rattle.std.specs.Map.{remove_entry};
+ghost use Rattle.std.specs.List.{slice_get};
+ghost use Rattle.std.specs.List.Sorted.{IsStrictlySortedBy};
+ghost use Rattle.std.specs.Map.{keys_of, remove_entry};
 ghost use Rattle.qc_sql.specs.Database.{at_name, name_cmp};
 ghost use Rattle.qc_table.specs.Borrowed.{borrows_value};
 
@@ -38,6 +40,27 @@ impl<V: Drop> NameMap<V> {
         NameMap {
             held: BTreeMap::new(alloc),
         }
+    }
+
+    /// A law, with no code: its names rise, each once.
+    pub(crate) fn is_in_order(&self)
+        ensures { IsStrictlySortedBy name_cmp (keys_of self.now) }
+    {
+        let _ = self.held.len();
+    }
+
+    /// The name at an index, by rising name. Linear in the index.
+    pub(crate) fn name_at(&self, index: u64) -> Option<&[u8]>
+        ensures { option_copied result ≡ slice_get (keys_of self.now) index }
+    {
+        let mut before = index;
+        for (name, _) in &self.held {
+            if before == 0 {
+                return Some(name.as_slice());
+            }
+            before -= 1;
+        }
+        None
     }
 
     /// What the name has, where it has something.

@@ -1,6 +1,7 @@
 //! Bits that tell which values are NULL.
 
-ghost use Rattle.std.specs.Prelude.{◌≡◌, ◌+◌, ◌/◌, ◌<◌, ◌^◌, ◌==◌, ℕ, false, true, length, OnOk, if◌then◌else◌};
+ghost use Rattle.std.specs.Prelude.{◌≡◌, ◌+◌, ◌/◌, ◌<◌, ◌^◌, ◌==◌, ℕ, false, true, length, IsOk, OnOk, if◌then◌else◌};
+ghost use Rattle.std.specs.Vec.{vec_capacity, vec_len};
 ghost use Rattle.qc_table.specs.Bits.{bit_at, IsPacked};
 
 use qc_types::NoMemory;
@@ -11,6 +12,7 @@ pub(crate) fn push_bit(words: &mut Vec<u64>, at: usize, bit: bool) -> Result<(),
     requires small { at < 2 ^ 63 }
     ensures packed { OnOk result (IsPacked words.new.items (at + 1)) }
     ensures bits { OnOk result ((i : ℕ) → bit_at words.new.items i ≡ (if i == at then bit else bit_at words.old.items i)) }
+    ensures succeeds { vec_len words.old < vec_capacity words.old → IsOk result }
 {
     make_room(words, at)?;
     if bit {
@@ -24,6 +26,7 @@ fn make_room(words: &mut Vec<u64>, at: usize) -> Result<(), NoMemory>
     requires { IsPacked words.old.items at }
     ensures enough { OnOk result (length words.new.items ≡ at / 64 + 1) }
     ensures same { OnOk result ((i : ℕ) → bit_at words.new.items i ≡ bit_at words.old.items i) }
+    ensures succeeds { vec_len words.old < vec_capacity words.old → IsOk result }
 {
     if at % 64 == 0 {
         words.push(0)?;

@@ -2,19 +2,26 @@
 
 ghost use Rattle.std.specs.Prelude.{◌≡◌, ◌-◌, ◌<◌, ◌≤◌, [], ◌∷◌, ◌++◌, length, take, drop, map, option_copied, IfOk, IfSome, OnOk, Some, true};
 ghost use Rattle.std.specs.Map.{keys_of};
+ghost use Rattle.std.specs.Vec.{vec_capacity, vec_len};
 ghost use Rattle.qc_sql.specs.declared.tables.Kind.TheVariants as kind;
-ghost use Rattle.qc_sql.specs.Database.{key_value, is_int};
-ghost use Rattle.qc_model.specs.Licence.{columns_fit};
+ghost use Rattle.qc_sql.specs.Database.{key_value, is_int, with_row};
+ghost use Rattle.qc_model.specs.Licence.{columns_fit, row_fits};
 ghost use Rattle.qc_model.specs.Sound.{IsSoundTable};
-ghost use Rattle.qc_table.specs.Changes.{above, below};
+ghost use Rattle.qc_table.specs.Changes.{above, below, is_above};
+ghost use Rattle.qc_table.specs.Fitting.{IsChanged};
 ghost use Rattle.qc_table.specs.Stored.{column_of, is_ints, rows_of, values_of, IsCells, IsStore};
 ghost use Rattle.qc_table.specs.Views.{int_value, text_value, kind_at, row_at, value_at, IsNulls, IsTextAt, IsWithin};
 
 use crate::cells::Cells;
-use qc_sql::tables::Columns;
+use crate::keys::key_of_row;
+use crate::row_ends::{push_row, reserve_row};
+use qc_sql::tables::{Columns, StoredRow};
 use qc_types::NoMemory;
 use std::cmp::Ordering;
 use std::marker::Model;
+
+/// The most rows of a table.
+pub(crate) const MOST_ROWS: usize = 1_048_576;
 
 /// The columns of a table, and its rows: their keys, and the values of each column.
 #[derive(Drop)]
@@ -126,6 +133,23 @@ impl TableRows {
         Cut { end, next: end }
     }
 
+    /// Puts a copy of the row behind the others, where it stands. Answers `false`, and leaves all as it was, where its key doesn't stand above theirs or there
+    /// would be too many rows. Costs what the row holds over many calls.
+    pub(crate) fn append(&mut self, row: &StoredRow) -> Result<bool, NoMemory>
+        requires { row_fits self.old.columns row.now ≡ true }
+        ensures { IsChanged (with_row row.now self.old) self.old result self.new }
+    {
+        let key = key_of_row(&self.columns, row);
+        if !stands_above(&self.keys, key) || self.keys.len() >= MOST_ROWS {
+            return Ok(false);
+        }
+        self.keys.reserve(1)?;
+        reserve_row(&mut self.cells, row.items())?;
+        push_row(&mut self.cells, row.items());
+        push_key(&mut self.keys, key);
+        Ok(true)
+    }
+
     /// The number in a BIGINT column, `None` where it is NULL.
     pub(crate) fn int(&self, row: u32, column: u8) -> Option<i64>
         requires row { row < length self.now.rows }
@@ -168,5 +192,22 @@ impl TableRows {
         ensures { IsNulls result.now (column_of column self.now.rows) }
     {
         self.cells(column as usize).nulls()
+    }
+}
+
+/// Whether a key stands above all of those that rise.
+fn stands_above(keys: &[i64], key: i64) -> bool
+    ensures { result ≡ is_above key keys.now }
+{
+    keys.is_empty() || keys[keys.len() - 1] < key
+}
+
+/// Puts a key behind the others, for which there is room.
+fn push_key(keys: &mut Vec<i64>, key: i64)
+    requires { vec_len keys.old < vec_capacity keys.old }
+    ensures { keys.new.items ≡ keys.old.items ++ key ∷ [] }
+{
+    if keys.push(key).is_err() {
+        unreachable!()
     }
 }

@@ -1,26 +1,29 @@
 //! Versions of tables.
 
-ghost use Rattle.std.specs.Prelude.{◌≡◌, ◌+◌, ◌<◌, ◌≤◌, length, None, Some, IfOk, MatchOption};
+ghost use Rattle.std.specs.Prelude.{◌≡◌, true, ◌+◌, ◌<◌, ◌≤◌, length, None, Some, IfOk, MatchOption};
 ghost use Rattle.std.specs.List.{slice_get};
 ghost use Rattle.std.specs.Ordering.{int_cmp};
 ghost use Rattle.std.specs.BTreeMap.{is_at};
 ghost use Rattle.std.specs.Map.{keys_of, lookup};
+ghost use Rattle.qc_sql.specs.Database.{with_row};
 ghost use Rattle.qc_sql.specs.Order.{RowsRise};
+ghost use Rattle.qc_model.specs.Licence.{row_fits};
 ghost use Rattle.qc_model.specs.Sound.{IsSoundTable};
+ghost use Rattle.qc_table.specs.Fitting.{IsChanged};
 ghost use Rattle.qc_table.specs.Tables.{IsStored};
 ghost use Rattle.qc_table.specs.Views.{kind_at, column_values, row_values};
 
 use crate::table_rows::TableRows;
 use crate::views::{ColumnView, RowView};
-use qc_sql::tables::Columns;
+use qc_sql::tables::{Columns, StoredRow};
 use qc_types::{NoMemory, Steps};
 use std::alloc::Global;
 use std::marker::Model;
 use std::sync::Arc;
 use std::sync::ledger::Ledger;
 
-/// A version of a table, which never changes and may be shared. Contracts see its columns and its rows, by rising key. Its rows are read through views,
-/// each of which counts a step.
+/// A version of a table. It may be shared, and changes only in a database that is alone in having it. Contracts see its columns and its rows, by rising
+/// key. Its rows are read through views, each of which counts a step.
 #[derive(Drop)]
 pub struct TableVersion {
     stored: Arc<TableRows>,
@@ -75,6 +78,18 @@ impl TableVersion {
         Ok(TableVersion {
             stored: Arc::try_clone(&self.stored)?,
         })
+    }
+
+    /// Puts a copy of the row behind the others, where it stands. Answers `false`, and leaves all as it was, where another one shares the version, where the
+    /// row's key doesn't stand above theirs, and where there would be too many rows. Costs what the row holds over many calls.
+    pub(crate) fn append(&mut self, row: &StoredRow) -> Result<bool, NoMemory>
+        requires { row_fits self.old.columns row.now ≡ true }
+        ensures { IsChanged (with_row row.now self.old) self.old result self.new }
+    {
+        match Arc::get_mut(&mut self.stored) {
+            Some(rows) => rows.append(row),
+            None => Ok(false),
+        }
     }
 
     /// How many rows it has. Constant time.

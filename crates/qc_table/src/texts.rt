@@ -1,7 +1,7 @@
 //! VARCHAR columns as they are stored.
 
-ghost use Rattle.std.specs.Prelude.{◌≡◌, ◌<◌, ◌≤◌, [], ◌∷◌, ◌++◌, length, option_copied, slice_index, OnOk};
-ghost use Rattle.qc_table.specs.Columns.{part_at, texts_of, IsTexts};
+ghost use Rattle.std.specs.Prelude.{◌≡◌, ◌<◌, ◌≤◌, [], ◌∷◌, ◌++◌, length, option_copied, slice_index, IsOk, OnOk};
+ghost use Rattle.qc_table.specs.Columns.{part_at, text_length, texts_of, HasTextRoom, IsTexts};
 ghost use Rattle.qc_table.specs.Views.{text_value, value_at};
 
 use crate::nulls::{has_bit, push_bit};
@@ -35,11 +35,25 @@ impl Texts {
         }
     }
 
-    /// Puts a text or NULL at the end. Linear in its length over many calls.
+    /// Makes room for one more of this length. Linear in it over many calls.
+    pub(crate) fn reserve(&mut self, len: usize) -> Result<(), NoMemory>
+        requires { IsTexts self.old }
+        ensures same { texts_of self.new ≡ texts_of self.old }
+        ensures ready { IsTexts self.new }
+        ensures room { OnOk result (HasTextRoom len self.new) }
+    {
+        self.bytes.reserve(len)?;
+        self.ends.reserve(1)?;
+        self.nulls.reserve(1)?;
+        Ok(())
+    }
+
+    /// Puts a text or NULL at the end. Linear in its length over many calls. Can't fail where there is room.
     pub(crate) fn push(&mut self, text: Option<&[u8]>) -> Result<(), NoMemory>
         requires { IsTexts self.old }
         ensures ready { OnOk result (IsTexts self.new) }
         ensures values { OnOk result (texts_of self.new ≡ texts_of self.old ++ text_value (option_copied text.entry) ∷ []) }
+        ensures succeeds { HasTextRoom (text_length (text_value (option_copied text.entry))) self.old → IsOk result }
     {
         push_bit(&mut self.nulls, self.ends.len(), text.is_none())?;
         self.bytes.extend_from_slice(text.unwrap_or(&[]))?;

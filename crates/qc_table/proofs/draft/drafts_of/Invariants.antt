@@ -1,5 +1,6 @@
-use Rattle.std.proofs.Common.{◌≡◌, take}
+use Rattle.std.proofs.Common.{◌≡◌, ◌++◌}
+use Rattle.qc_table.proofs.Maps.{named}
 use Rattle.qc_table.proofs.draft.drafts_of.Given as goal
 
-abbrev pub invariant-loop-entry : goal.invariant-loop-entry
-invariant-loop-entry l = l.drafts ≡ take l.entry-index l.entry-items
+abbrev pub invariant-loop-name : goal.invariant-loop-name
+invariant-loop-name l = l.drafts ++ named (λ k. k.items) l.name-iterator ≡ l.stored

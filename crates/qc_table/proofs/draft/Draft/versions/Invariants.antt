@@ -5,6 +5,6 @@ use Rattle.qc_table.proofs.draft.Draft.versions.Given as goal
 
 abbrev pub invariant-loop-db : goal.invariant-loop-db
 invariant-loop-db l = record {
-  made : l.made.items ++ named (λ k. k.items) l.db-iterator ≡ l.self;
+  made : l.made ++ named (λ k. k.items) l.db-iterator ≡ l.self;
   full : full_table l.self ≡ full_table (named (λ k. k.items) l.db-iterator);
 }

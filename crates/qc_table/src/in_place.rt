@@ -1,0 +1,171 @@
+//! Databases that one operation changes where they stand.
+
+ghost use Rattle.std.specs.Prelude.{◌≡◌, [], true, IfOk};
+ghost use Rattle.qc_sql.specs.declared.tables.RowOp.TheVariants as op;
+ghost use Rattle.qc_sql.specs.Database.{with_row, without_row};
+ghost use Rattle.qc_model.specs.Licence.{columns_fit, is_within_rows, op_fits, row_fits};
+ghost use Rattle.qc_table.specs.Fitting.{IsCarriedOut, IsChanged};
+
+use crate::draft_table::DraftTable;
+use crate::merge::empty;
+use crate::name_map::NameMap;
+use crate::table_version::TableVersion;
+use qc_sql::tables::{Columns, RowOp, StoredRow};
+use qc_types::{NoMemory, TableName, Text};
+use std::alloc::Global;
+
+/// The tables of each database.
+pub(crate) type Databases = NameMap<NameMap<TableVersion>>;
+
+/// Carries out one operation. Answers `false`, and leaves all as it was, where a table would have too many rows. Costs the logarithm of how many databases
+/// and tables there are, and what the table holds that is touched.
+pub(crate) fn carry_out(
+    databases: &mut Databases,
+    alloc: Global,
+    op: &RowOp,
+) -> Result<bool, NoMemory>
+    requires fits { op_fits op.now databases.old ≡ true }
+    requires within { is_within_rows databases.old ≡ true }
+    ensures { IsCarriedOut op.now databases.old result databases.new }
+{
+    match op {
+        RowOp::Put(table, row) => put(databases, alloc, table, row),
+        RowOp::Del(table, key) => del(databases, alloc, table, *key),
+        RowOp::CreateTable(table, columns) => create_table(databases, alloc, table, columns),
+        RowOp::DropTable(table) => Ok(drop_table(databases, table)),
+        RowOp::CreateDb(name) => create_db(databases, alloc, name),
+        RowOp::DropDb(name) => Ok(drop_db(databases, name)),
+    }
+}
+
+fn put(
+    databases: &mut Databases,
+    alloc: Global,
+    table: &TableName,
+    row: &StoredRow,
+) -> Result<bool, NoMemory>
+    requires fits { op_fits (op.Put table.now row.now) databases.old ≡ true }
+    requires within { is_within_rows databases.old ≡ true }
+    ensures { IsCarriedOut (op.Put table.now row.now) databases.old result databases.new }
+{
+    let Some(tables) = databases.get_mut(table.db.bytes()) else {
+        unreachable!()
+    };
+    let Some(version) = tables.get_mut(table.name.bytes()) else {
+        unreachable!()
+    };
+    version.put(alloc, row)
+}
+
+fn del(
+    databases: &mut Databases,
+    alloc: Global,
+    table: &TableName,
+    key: i64,
+) -> Result<bool, NoMemory>
+    requires fits { op_fits (op.Del table.now key) databases.old ≡ true }
+    requires within { is_within_rows databases.old ≡ true }
+    ensures { IsCarriedOut (op.Del table.now key) databases.old result databases.new }
+{
+    let Some(tables) = databases.get_mut(table.db.bytes()) else {
+        unreachable!()
+    };
+    let Some(version) = tables.get_mut(table.name.bytes()) else {
+        unreachable!()
+    };
+    version.del(alloc, key)
+}
+
+fn create_table(
+    databases: &mut Databases,
+    alloc: Global,
+    table: &TableName,
+    columns: &Columns,
+) -> Result<bool, NoMemory>
+    requires fits { op_fits (op.CreateTable table.now columns.now) databases.old ≡ true }
+    requires within { is_within_rows databases.old ≡ true }
+    ensures { IsCarriedOut (op.CreateTable table.now columns.now) databases.old result databases.new }
+{
+    let version = TableVersion::empty(alloc, columns)?;
+    let Some(tables) = databases.get_mut(table.db.bytes()) else {
+        unreachable!()
+    };
+    tables.insert(alloc, table.name.bytes(), version)?;
+    Ok(true)
+}
+
+fn drop_table(databases: &mut Databases, table: &TableName) -> bool
+    requires fits { op_fits (op.DropTable table.now) databases.old ≡ true }
+    requires within { is_within_rows databases.old ≡ true }
+    ensures { IsCarriedOut (op.DropTable table.now) databases.old (Ok result) databases.new }
+{
+    let Some(tables) = databases.get_mut(table.db.bytes()) else {
+        unreachable!()
+    };
+    tables.remove(table.name.bytes());
+    true
+}
+
+fn create_db(databases: &mut Databases, alloc: Global, name: &Text) -> Result<bool, NoMemory>
+    requires fits { op_fits (op.CreateDb name.now) databases.old ≡ true }
+    requires within { is_within_rows databases.old ≡ true }
+    ensures { IsCarriedOut (op.CreateDb name.now) databases.old result databases.new }
+{
+    let tables = NameMap::new(alloc);
+    databases.insert(alloc, name.bytes(), tables)?;
+    Ok(true)
+}
+
+fn drop_db(databases: &mut Databases, name: &Text) -> bool
+    requires within { is_within_rows databases.old ≡ true }
+    ensures { IsCarriedOut (op.DropDb name.now) databases.old (Ok result) databases.new }
+{
+    databases.remove(name.bytes());
+    true
+}
+
+impl TableVersion {
+    /// A table without rows. Linear in what the columns hold.
+    fn empty(alloc: Global, columns: &Columns) -> Result<TableVersion, NoMemory>
+        requires { columns_fit columns.now ≡ true }
+        ensures { IfOk result (λ t. t ≡ record { columns = columns.now; rows = [] }) }
+    {
+        TableVersion::new(alloc, empty(alloc, columns)?)
+    }
+
+    /// Puts a copy of the row, in the place of the one that its key may have. Answers `false`, and leaves all as it was, where there would be too many rows.
+    /// Costs what the row holds over many calls where it comes behind the others and no other one shares the version, and else what all rows hold.
+    fn put(&mut self, alloc: Global, row: &StoredRow) -> Result<bool, NoMemory>
+        requires { row_fits self.old.columns row.now ≡ true }
+        ensures { IsChanged (with_row row.now self.old) self.old result self.new }
+    {
+        if self.append(row)? {
+            return Ok(true);
+        }
+        let mut draft = DraftTable::of(alloc, self)?;
+        draft.put(alloc, row)?;
+        self.become_draft(alloc, &draft)
+    }
+
+    /// Takes out the row that the key may have. Linear in what the rows hold.
+    fn del(&mut self, alloc: Global, key: i64) -> Result<bool, NoMemory>
+        ensures { IsChanged (without_row key self.old) self.old result self.new }
+    {
+        let mut draft = DraftTable::of(alloc, self)?;
+        draft.del(key)?;
+        self.become_draft(alloc, &draft)
+    }
+
+    /// Takes the changes of a draft, or leaves all as it was where there would be too many rows.
+    fn become_draft(&mut self, alloc: Global, draft: &DraftTable) -> Result<bool, NoMemory>
+        ensures { IsChanged draft.now self.old result self.new }
+    {
+        match draft.version(alloc)? {
+            None => Ok(false),
+            Some(version) => {
+                *self = version;
+                Ok(true)
+            }
+        }
+    }
+}
