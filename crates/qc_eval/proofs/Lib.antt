@@ -5,6 +5,8 @@ pub mod Joins
 pub mod Truths
 pub mod Walks
 pub mod Scans
+pub mod Keys
+pub mod Ranges
 pub mod Levels
 pub mod Folds
 pub mod SortKeys

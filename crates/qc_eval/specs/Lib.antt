@@ -17,3 +17,4 @@ pub mod Stages
 pub mod Buffers
 pub mod Plans
 pub mod Truths
+pub mod Ranges

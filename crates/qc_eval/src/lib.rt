@@ -11,6 +11,7 @@ mod joined;
 mod matching;
 mod operand;
 mod plan;
+mod range;
 mod row;
 mod scan;
 mod scene;
