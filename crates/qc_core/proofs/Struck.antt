@@ -258,9 +258,9 @@ may_end names s seat u =
     let found = found_in seat s.tasks.items u.work u.at in
     let same = seat_found seat s.tasks.items u.work u.at in
     ⊎_elim
-        (λ (e : u.work.task ≡ task.Stream u.serial). inl (found ∙ (λ i. Some (record { seat = same i; task = e i }))))
-        (λ (e : (u.work.task ≡ task.Fill u.serial) × (entry_at u.serial s.dir.entries ≡ None)). inr (found ∙ (λ i. Some (record { seat = same i; task = e.0 i })), sym (there_in s.chains u.serial s.dir.entries) ∙ ap is_some e.1))
-        u.ends
+    (λ (e : u.work.task ≡ task.Stream u.serial). inl (found ∙ (λ i. Some (record { seat = same i; task = e i }))))
+    (λ (e : (u.work.task ≡ task.Fill u.serial) × (entry_at u.serial s.dir.entries ≡ None)). inr (found ∙ (λ i. Some (record { seat = same i; task = e.0 i })), sym (there_in s.chains u.serial s.dir.entries) ∙ ap is_some e.1))
+    u.ends
 
 pub struck_whole : (m : Moment) (names : List Named) (words : List ℕ) (s : Parts) (seat : ℕ) → IsWhole m names words s → (u : MayStrike seat s) → IsDirectory (with_entries (after_leave u.serial s.dir.entries) s.dir) → IsRested m words seat s (rested seat s)
 struck_whole m names words s seat h u valid =
