@@ -26,3 +26,4 @@ pub mod Overtaking
 pub mod Filling
 pub mod Trimming
 pub mod Completing
+pub mod Emptying
