@@ -1,8 +1,14 @@
 -- Entries are taken out one after another, before the event that says so.
-use Rattle.std.proofs.Common.{◌≡◌, ℕ, Bool, true, false, cond, List, [], ◌∷◌, map, refl, sym, ap, ◌∙◌}
+use Rattle.std.proofs.Common.{◌≡◌, ℕ, ◌-◌, Bool, true, false, cond, List, [], ◌∷◌, ◌++◌, map, refl, sym, ap, subst, ◌∙◌}
 use Rattle.std.specs.Prelude.{not, ◌||◌, Some}
 use Rattle.std.specs.List.{list_any, filter, AllByRecursion}
 use Rattle.qc_types.specs.declared.names.TableName.{TableName}
+use Rattle.qc_sql.specs.Database.{apply}
+use Rattle.qc_model.specs.declared.events.Who.{Who}
+use Rattle.qc_model.specs.declared.events.Event.{Event}
+use Rattle.qc_model.specs.declared.events.Event.TheVariants as event
+use Rattle.qc_model.specs.Journal.{operations}
+use Rattle.qc_model.specs.Licence.{IsLicensed}
 use Rattle.qc_tiles.specs.declared.blocks.Tile.{Tile}
 use Rattle.qc_tiles.specs.declared.blocks.Block.{Block}
 use Rattle.qc_chain.specs.Chains.{Begun}
@@ -12,9 +18,14 @@ use Rattle.qc_dir.specs.declared.tables.TableBlock.{TableBlock}
 use Rattle.qc_dir.specs.Directory.{IsDirectory, entry_at, has_serial}
 use Rattle.qc_sound.specs.PlainServer.{PlainServer, StoredEntry, EntryChain, is_task_on, is_stored, is_wanted}
 use Rattle.qc_sound.specs.Moment.{Moment}
-use Rattle.qc_sound.specs.steps.Leaving.{staying}
+use Rattle.qc_sound.specs.Sound.{IsSound}
+use Rattle.qc_sound.specs.Pending.{NeedsOf}
+use Rattle.qc_sound.specs.parts.Memory.{TilesAreSound, TablesAreSound}
+use Rattle.qc_sound.specs.steps.Events.{OfNone, HasRoom}
+use Rattle.qc_sound.specs.steps.Leaving.{staying, left, GivesBack}
+use Rattle.qc_sound.proofs.Leaves.{reset_step}
 use Rattle.qc_core.specs.declared.parts.Parts.{Parts}
-use Rattle.qc_core.specs.Whole.{Named, IsNamedAs, table_pair, plain}
+use Rattle.qc_core.specs.Whole.{Named, IsNamedAs, table_pair, plain, IsWhole, with_event}
 use Rattle.qc_core.specs.Leaves.{MayLeave, Leaves}
 use Rattle.qc_core.specs.Cuts.{BlocksAreSound, cut, is_removed, IsCut}
 use Rattle.qc_core.proofs.Uses.{find_all, begun_at}
@@ -87,3 +98,53 @@ module _ (m : Moment) (before : List Named) (serials : List ℕ) (old s : Parts)
       pinned = o.pinned ∙ k.pinned;
       others = o.others ∙ ap (λ (x : Parts). record x { dir = t.dir; chains = t.chains; tiles = t.tiles }) k.others;
     }
+
+-- ---- with the event
+
+none_stay : (es : List StoredEntry) → [] ≡ staying (λ e. true) es
+none_stay [] = refl
+none_stay (e ∷ es) = none_stay es
+
+-- The entries are out that an event takes out, which changes no data.
+module _ (m : Moment) (before : List Named) (serials words : List ℕ) (old t : Parts) (k : IsCut m before serials old t) (e : Event) (gone : StoredEntry → Bool) (same : staying (is_removed serials) (plain before old).entries ≡ staying gone (plain before old).entries) (quiet : operations e ≡ []) where
+  abbrev p : PlainServer
+  p = plain before old
+
+  abbrev tables : List (TableName × Block)
+  tables = map table_pair t.dir.tables
+
+  abbrev now : PlainServer
+  now = left e gone t.tiles tables p
+
+  cut_gone : plain k.names t ≡ cut gone t.tiles tables p
+  cut_gone = k.plain ∙ (λ i. record p { entries = same i; chains = filter (λ (c : EntryChain). is_wanted (same i) p.tasks c.serial) p.chains; table_blocks = tables; tiles = t.tiles })
+
+  plain_is : plain k.names (with_event e t) ≡ now
+  plain_is = (λ i. record (cut_gone i) { journal = (cut_gone i).journal ++ e ∷ []; spare = (cut_gone i).spare - 1 })
+      ∙ (λ i. record (cut gone t.tiles tables p) { journal = p.journal ++ e ∷ []; spare = p.spare - 1; database = ap (λ l. apply l p.database) (sym quiet) i })
+
+  -- the blocks are given back that nobody wants
+  pub gives : GivesBack m p now
+  gives =
+      let tiles = subst (TilesAreSound m) cut_gone k.blocks.tiles in
+      let blocks = subst TablesAreSound cut_gone k.blocks.tables in
+      record { tiling = tiles.tiling; in_use = tiles.in_use; pinned = k.pinned; tables = record { named = blocks.named; once = blocks.once; words = blocks.words } }
+
+  -- and the server is sound with the event where the plain one is
+  pub cut_whole : IsSound m words now → IsWhole m k.names words (with_event e t)
+  cut_whole sound =
+      let b = k.blocks in
+      record {
+        named = record { begun = b.named.begun; numbers = b.named.numbers; entries = b.named.entries; tasks = b.named.tasks };
+        sound = subst (λ z. IsSound m words z) (sym plain_is) sound;
+        directory = b.directory;
+        seats = record { once = b.seats.once; room = b.seats.room; task_room = b.seats.task_room };
+        room = record { entries = b.room.entries; tables = b.room.tables; unpinner = b.room.unpinner };
+      }
+
+-- a reset, where all entries are out
+pub reset_whole : (m : Moment) (before : List Named) (serials words : List ℕ) (old t : Parts) (k : IsCut m before serials old t) (who : Who) → IsWhole m before words old → staying (is_removed serials) (plain before old).entries ≡ [] → IsLicensed old.options old.journal.events (event.Reset who) → NeedsOf old.options m.next (old.journal.events ++ event.Reset who ∷ []) → OfNone (event.Reset who) (plain before old).tasks → HasRoom (plain before old) → IsWhole m k.names words (with_event (event.Reset who) t)
+reset_whole m before serials words old t k who h all licensed needs none room =
+    let p = plain before old in
+    let same = all ∙ none_stay p.entries in
+    cut_whole m before serials words old t k (event.Reset who) (λ e. true) same refl (reset_step m words p who t.tiles (map table_pair t.dir.tables) h.sound licensed needs none room (gives m before serials words old t k (event.Reset who) (λ e. true) same refl))
