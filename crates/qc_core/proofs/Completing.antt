@@ -1,6 +1,6 @@
 -- A fill is done: its chain is unpinned and cut, its entry is complete, and the event says so.
-use Rattle.std.proofs.Common.{◌≡◌, ◌≢◌, ℕ, zero, suc, ◌+◌, ◌-◌, ◌*◌, ◌<◌, ◌≤◌, eqb, eq-eqb, eqb-true, ne_eqb, Bool, true, false, cond, List, [], ◌∷◌, ◌++◌, map, length, refl, sym, ap, subst, ◌∙◌, arith, true≢false, ⊎_elim, inl, inr, length-append}
-use Rattle.std.specs.Prelude.{not, ◌||◌, ◌==◌, ◌↔◌, Option, Some, None, IfSome, IsSomeAnd, Contains, IsPermutation, is_some, is_none, find, unwrap_or, option_map, slice_get, slice_set, option_and_then}
+use Rattle.std.proofs.Common.{◌≡◌, ◌≢◌, ℕ, zero, suc, ◌+◌, ◌-◌, ◌*◌, ◌<◌, ◌≤◌, eqb, eq-eqb, eqb-true, ne_eqb, Bool, true, false, cond, List, [], ◌∷◌, ◌++◌, map, length, refl, sym, ap, subst, ◌∙◌, arith, true≢false, length-append}
+use Rattle.std.specs.Prelude.{not, ◌||◌, ◌==◌, Option, Some, None, IsSomeAnd, Contains, is_some, is_none, find, unwrap_or, option_map, slice_get, slice_set, option_and_then}
 use Rattle.std.specs.List.{list_any, filter, flat_map, AllByRecursion}
 use Rattle.std.proofs.lemmas.Option.{none-some, same_Some}
 use Rattle.std.proofs.lemmas.List.{map-append}
@@ -21,9 +21,9 @@ use Rattle.qc_model.specs.Licence.{IsLicensed, IsLawful, region_words}
 use Rattle.qc_types.specs.declared.options.Options.{Options}
 use Rattle.qc_tiles.specs.declared.blocks.Tile.{Tile}
 use Rattle.qc_tiles.specs.declared.blocks.Block.{Block}
-use Rattle.qc_tiles.specs.Tiles.{IsTiling, handed_out}
+use Rattle.qc_tiles.specs.Tiles.{handed_out}
 use Rattle.qc_chain.specs.Words.{words_of}
-use Rattle.qc_chain.specs.Chains.{Chained, chain_at, Begun, with_chain, but_last, cut_blocks, cut_chain, after_cut, used_words, EndsInLast}
+use Rattle.qc_chain.specs.Chains.{Chained, chain_at, with_chain, but_last, cut_blocks, cut_chain, after_cut, used_words, EndsInLast}
 use Rattle.qc_chain.specs.Chains.{Chain as Kept}
 use Rattle.qc_dir.specs.declared.entries.Entry.{Entry}
 use Rattle.qc_dir.specs.Directory.{IsDirectory, entry_at, has_serial, without, after_complete, moved_to_end, with_entries}
@@ -34,7 +34,7 @@ use Rattle.qc_sound.specs.PlainServer.{PlainServer, StoredEntry, EntryChain, Sea
 use Rattle.qc_sound.specs.Moment.{Moment, at_rest}
 use Rattle.qc_sound.specs.Sound.{IsSound}
 use Rattle.qc_sound.specs.parts.Contents.{text_of}
-use Rattle.qc_sound.specs.parts.Memory.{TilesAreSound, ChainFits, blocks_in_use, blocks_of_tasks, pinned_blocks}
+use Rattle.qc_sound.specs.parts.Memory.{TilesAreSound, ChainFits, blocks_in_use}
 use Rattle.qc_sound.specs.parts.Tasks.{TaskIsSound, SeatTaskIsSound}
 use Rattle.qc_sound.specs.steps.Leaving.{is_of_seat, without_seat, filling}
 use Rattle.qc_sound.specs.steps.Growing.{with_blocks}
@@ -48,15 +48,15 @@ use Rattle.qc_sound.proofs.Laws.{fills_alone, streams_apart}
 use Rattle.qc_sound.proofs.Needs.{needs_push}
 use Rattle.qc_core.specs.declared.parts.RunningTask.{RunningTask}
 use Rattle.qc_core.specs.declared.parts.Parts.{Parts}
-use Rattle.qc_core.specs.Whole.{Named, is_named, IsNamedAs, chain_blocks, chain_bytes, chain_in, stored, table_pair, work_in, task_blocks, plain, tasks_of, IsNamed, ChainsHaveRoom, IsWhole, with_event}
+use Rattle.qc_core.specs.Whole.{Named, IsNamedAs, chain_blocks, chain_bytes, chain_in, stored, table_pair, work_in, task_blocks, plain, tasks_of, IsNamed, ChainsHaveRoom, IsWhole, with_event}
 use Rattle.qc_core.specs.KeptLaws.{blocks_named, tasks_same}
 use Rattle.qc_core.specs.Pins.{after_unpins, IsUnpinnedSo}
-use Rattle.qc_core.specs.Strikes.{is_of, others, without_task_of, MayLetGo}
+use Rattle.qc_core.specs.Strikes.{others, without_task_of, MayLetGo}
 use Rattle.qc_core.specs.Cuts.{BlocksAreSound}
 use Rattle.qc_core.specs.Ends.{Fills, HasWhole, MayCut, cut_to, cut_as, MayComplete, EndsFill}
 use Rattle.qc_core.proofs.Seating.{all_less, all_push, found_less, distinct_parts}
 use Rattle.qc_core.proofs.GivingUp.{room_of}
-use Rattle.qc_core.proofs.Uses.{stored_at, stored_without, serial_at, find_all, begun_at, all_without, serials_distinct}
+use Rattle.qc_core.proofs.Uses.{stored_at, stored_without, serial_at, find_all, all_without}
 use Rattle.qc_core.proofs.OwnBlocks.{use_count, text_count}
 use Rattle.qc_core.proofs.Remaining.{IsOther, differ, get_else, chain_found, entries_else}
 use Rattle.qc_core.proofs.Striking.{EndingTask, others_in, found_in, seat_found, pins_after, un}
@@ -65,7 +65,7 @@ use Rattle.qc_core.proofs.Cutting.{whole_blocks}
 use Rattle.qc_core.proofs.Struck.{once_each}
 use Rattle.qc_core.proofs.Trimming.{IsCutTo, cuts_chain}
 use Rattle.qc_core.proofs.Sweeping.{one_listed, seat_there}
-use Rattle.qc_core.proofs.Filling.{there_same, some_of, named_n, unended, partial}
+use Rattle.qc_core.proofs.Filling.{there_same, some_of, named_n, partial}
 
 -- ---- what a cut leaves
 

@@ -38,4 +38,5 @@ pub mod Overtaking
 pub mod Filling
 pub mod Trimming
 pub mod Completing
+pub mod Emptying
 mod examples

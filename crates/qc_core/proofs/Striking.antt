@@ -22,7 +22,7 @@ use Rattle.qc_sound.specs.PlainServer.{PlainServer, StoredEntry, EntryChain, Sea
 use Rattle.qc_sound.specs.Moment.{Moment}
 use Rattle.qc_sound.specs.parts.Memory.{TilesAreSound, pinned_blocks, blocks_in_use, blocks_of_tasks}
 use Rattle.qc_sound.specs.steps.Leaving.{is_of_seat, without_seat}
-use Rattle.qc_sound.specs.steps.Ending.{used_less, left_by_user, struck_off, MayEnd}
+use Rattle.qc_sound.specs.steps.Ending.{used_less, left_by_user, struck_off}
 use Rattle.qc_sound.proofs.Handed.{times, times_append, times_permuted, permuted, gives_all}
 use Rattle.qc_sound.proofs.Filters.{pins_stay, tasks_wanted}
 use Rattle.qc_sound.proofs.Moved.{moved_permutes}

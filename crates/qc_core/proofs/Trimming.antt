@@ -1,13 +1,13 @@
 -- What is handed out and pinned after a block was trimmed, or the last block of a chain.
-use Rattle.std.proofs.Common.{◌≡◌, ℕ, zero, suc, ◌+◌, ◌-◌, ◌<◌, ◌≤◌, Bool, true, false, cond, List, [], ◌∷◌, ◌++◌, map, length, take, drop, refl, sym, ap, subst, ◌∙◌, arith, true≢false}
-use Rattle.std.specs.Prelude.{not, Contains, IsPermutation, nat_le}
-use Rattle.std.specs.List.{filter, AllByRecursion}
+use Rattle.std.proofs.Common.{◌≡◌, ℕ, ◌+◌, ◌-◌, ◌<◌, Bool, true, false, cond, List, [], ◌∷◌, ◌++◌, map, length, take, drop, refl, sym, ap, subst, ◌∙◌, arith, true≢false}
+use Rattle.std.specs.Prelude.{not, Contains, nat_le}
+use Rattle.std.specs.List.{filter}
 use Rattle.std.proofs.lemmas.List.Elements.{Contains-append_right}
 use Rattle.qc_types.specs.Blocks.{raised, least_block}
 use Rattle.qc_tiles.specs.declared.blocks.Tile.{Tile}
 use Rattle.qc_tiles.specs.declared.blocks.Block.{Block}
 use Rattle.qc_tiles.specs.Tiles.{IsTiling, tile, free_tile, block_of, handed_out, replaced, cut, cut_words, trimmed, after_trim}
-use Rattle.qc_tiles.specs.Kept.{tile_at, InHand}
+use Rattle.qc_tiles.specs.Kept.{tile_at}
 use Rattle.qc_tiles.proofs.Tilings.{AreUnpinned}
 use Rattle.qc_tiles.proofs.Walks.{split_at}
 use Rattle.qc_tiles.proofs.Standing.{in_hand}
@@ -16,8 +16,7 @@ use Rattle.qc_tiles.proofs.Keeps.{after_trim-tiling, replaced-each}
 use Rattle.qc_chain.specs.Chains.{cut_blocks, after_cut}
 use Rattle.qc_chain.proofs.Releases.{joined-used, in_first}
 use Rattle.qc_sound.specs.parts.Memory.{pinned_blocks}
-use Rattle.qc_sound.proofs.Handed.{times, times_append, times_permuted, times_cut, joined-pins, unpinned-cons}
-use Rattle.qc_core.proofs.OwnBlocks.{times_there}
+use Rattle.qc_sound.proofs.Handed.{times, times_append, joined-pins, unpinned-cons}
 
 hands_append : (xs ys : List Tile) → handed_out (xs ++ ys) ≡ handed_out xs ++ handed_out ys
 hands_append [] ys = refl

@@ -1,7 +1,6 @@
-use Rattle.std.proofs.Common.{◌≡◌, sym, ap, ◌∙◌}
+use Rattle.std.proofs.Common.{sym, ap, ◌∙◌}
 use Rattle.std.specs.Prelude.{is_some}
 use Rattle.qc_key.specs.Hash.{hash}
-use Rattle.qc_model.specs.Cache.{cache, entry_of}
 use Rattle.qc_dir.specs.Directory.{entry_at}
 use Rattle.qc_turn.specs.Seats.{words}
 use Rattle.qc_sound.specs.Moment.{at_rest}

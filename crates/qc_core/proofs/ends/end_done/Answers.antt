@@ -1,9 +1,7 @@
 use Rattle.std.proofs.Common.{ℕ, refl, sym, subst}
-use Rattle.qc_key.specs.Hash.{hash}
 use Rattle.qc_model.specs.declared.events.Event.TheVariants as event
 use Rattle.qc_turn.specs.Views.{idle_of}
 use Rattle.qc_turn.specs.Seats.{words, holder}
-use Rattle.qc_sound.specs.Moment.{at_rest}
 use Rattle.qc_core.specs.declared.parts.Parts.{Parts}
 use Rattle.qc_core.specs.Ends.{MayComplete, EndsFill}
 use Rattle.qc_core.proofs.Standing.{value_stands}

@@ -10,7 +10,7 @@ use Rattle.qc_core.specs.Whole.{with_event}
 use Rattle.qc_core.specs.Strikes.{without_task_of}
 use Rattle.qc_core.specs.Ends.{MayCut, cut_to, EndsFill}
 use Rattle.qc_core.proofs.Struck.{once_each}
-use Rattle.qc_core.proofs.Completing.{may_cut, some_room, completed, cut_dir, cut_journal}
+use Rattle.qc_core.proofs.Completing.{may_cut, some_room, completed, cut_journal}
 use Rattle.qc_core.proofs.parts.Parts.complete.Goals as goal
 
 pub take_task-requires : goal.take_task-requires
