@@ -1,12 +1,12 @@
 -- Databases that one operation changes where they stand.
-use Rattle.std.proofs.Common.{◌≡◌, ℕ, ◌-◌, ◌<◌, ◌≤◌, Bool, true, false, cond, List, [], ◌∷◌, length, get_or, refl, ap, sym, ◌∙◌, subst, zero, suc, arith, Some}
+use Rattle.std.proofs.Common.{◌≡◌, ◌<◌, ◌≤◌, Bool, true, false, cond, List, [], ◌∷◌, length, get_or, refl, ap, sym, ◌∙◌, subst, arith, Some}
 use Rattle.std.specs.Prelude.{◌&&◌, not, Result, Ok, Err}
 use Rattle.std.specs.Result.{IsErrAnd}
 use Rattle.std.specs.Ordering.{match_ordering}
 use Rattle.std.specs.declared.cmp.Ordering.TheVariants.{Less, Equal, Greater}
 use Rattle.std.specs.BTreeMap.{insert_entry, is_at}
 use Rattle.std.specs.Map.{remove_entry}
-use Rattle.std.specs.List.{list_all, slice_get}
+use Rattle.std.specs.List.{list_all}
 use Rattle.qc_types.specs.declared.memory.NoMemory.{NoMemory}
 use Rattle.qc_types.specs.declared.names.TableName.{TableName}
 use Rattle.qc_sql.specs.declared.tables.RowOp.{RowOp}
@@ -20,13 +20,6 @@ use Rattle.qc_sql.proofs.Order.{stays_ordered}
 use Rattle.qc_table.proofs.Fits.{none_full}
 use Rattle.qc_table.proofs.Maps.{changed, none_in_order}
 use Rattle.qc_table.proofs.Rows.{both}
-
--- ---- by index
-
--- a list behind its first member
-pub passed : {X : Type 0} (x : X) (xs : List X) (i : ℕ) → 0 < i → slice_get (x ∷ xs) i ≡ slice_get xs (i - 1)
-passed x xs zero more = absurd (omega arith)
-passed x xs (suc i) more = let same : suc i - 1 ≡ i = omega arith in rw same refl
 
 -- ---- values that hold throughout
 

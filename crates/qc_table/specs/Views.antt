@@ -1,7 +1,8 @@
 -- What is seen of a stored table: a column of it, or a row of it.
-use Rattle.std.specs.Prelude.{◌≡◌, ℕ, ◌+◌, ◌/◌, ◌≤◌, ℤ, pos, Bool, List, [], map, length, Option, Some, None, IfSome, IsSomeAnd, option_map, option_and_then, unwrap_or}
+use Rattle.std.specs.Prelude.{◌≡◌, ℕ, ◌+◌, ◌/◌, ◌≤◌, ℤ, pos, Bool, List, [], map, length, Option, Some, None, IfSome, IsSomeAnd, option_map, unwrap_or}
 use Rattle.std.specs.List.{slice_get}
 use Rattle.std.specs.Prelude.{slice_index_or}
+use Rattle.qc_types.specs.declared.names.TableName.{TableName}
 use Rattle.qc_types.specs.declared.names.Value.{Value}
 use Rattle.qc_types.specs.declared.names.Value.TheVariants as value
 use Rattle.qc_sql.specs.declared.tables.Column.{Column}
@@ -63,9 +64,12 @@ row_values t row = record { columns = t.columns; values = row_at t.rows row }
 abbrev pub IsWithin : List Column → ℕ → Option (List ℕ) → Type 0
 IsWithin columns column text = (n : ℕ) → kind_at columns column ≡ Some (kind.Str n) → IfSome text (λ t. length t ≤ n)
 
--- the name of the table at an index in a database, by rising name
-abbrev pub table_name_at : Name → ℕ → Database → Option Name
-table_name_at db index d = option_and_then (λ tables. slice_get (keys_of tables) index) (tables_of db d)
+abbrev pub table_in : Name → Name → TableName
+table_in db name = record { db = db; name = name }
+
+-- the tables of a database, by rising name
+abbrev pub tables_in : Name → Database → List TableName
+tables_in db d = map (table_in db) (keys_of (unwrap_or (tables_of db d) []))
 
 -- whether the value at an index is NULL; behind the end there is none
 abbrev pub is_null_at : List Value → ℕ → Bool

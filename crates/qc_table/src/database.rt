@@ -6,14 +6,14 @@ ghost use Rattle.qc_sql.specs.Database.{apply, empty_database, table_of, tables_
 ghost use Rattle.qc_sql.specs.Order.{IsOrdered};
 ghost use Rattle.qc_model.specs.Licence.{is_within_rows, op_fits, ops_fit};
 ghost use Rattle.qc_table.specs.Fitting.{fitting, IsCarriedOut};
-ghost use Rattle.qc_table.specs.Views.{table_name_at};
+ghost use Rattle.qc_table.specs.Views.{tables_in};
 
 use crate::draft::Draft;
 use crate::in_place::{Databases, carry_out};
 use crate::name_map::NameMap;
 use crate::table_version::TableVersion;
 use qc_sql::tables::{Ops, RowOp};
-use qc_types::{NoMemory, Or, TableName};
+use qc_types::{NoMemory, Or, TableName, Tables};
 use std::alloc::Global;
 use std::marker::Model;
 use std::sync::Arc;
@@ -93,12 +93,15 @@ impl Database {
         Some(tables.len())
     }
 
-    /// The name of the table with this index in the database, by rising name, from 0. `None` where there is no such database, or no more tables.
-    /// Linear in the index, beside the logarithm of how many databases there are.
-    pub fn table_at(&self, db: &[u8], index: u64) -> Option<&[u8]>
-        ensures { option_copied result ≡ table_name_at db.now index self.now }
+    /// The names of the tables of a database, by rising name; none where there is no such database. Costs what the names hold, beside the logarithm of how
+    /// many databases there are.
+    pub fn tables_in(&self, alloc: Global, db: &[u8]) -> Result<Tables, NoMemory>
+        ensures { IfOk result (λ tables. tables ≡ tables_in db.now self.now) }
     {
-        self.databases.get(db)?.name_at(index)
+        match self.databases.get(db) {
+            Some(tables) => tables.as_tables(alloc, db),
+            None => Ok(Tables::new(alloc)),
+        }
     }
 
     /// What the operations make of it, the first of them first, or the first table that has too many rows then. Either way this database stays as it is.

@@ -10,7 +10,7 @@ ghost use Rattle.qc_table.specs.Fitting.{fitting, fitting_tables, IsRefusal};
 use crate::database::TableFull;
 use crate::draft_table::DraftTable;
 use crate::in_place::Databases;
-use crate::name_map::NameMap;
+use crate::name_map::{NameMap, table_name};
 use crate::table_version::TableVersion;
 use qc_sql::tables::{Columns, RowOp, StoredRow};
 use qc_types::{NoMemory, Or, TableName, Text};
@@ -182,13 +182,4 @@ fn full(alloc: Global, db: &[u8], name: &[u8]) -> Or<TableFull>
         Ok(table) => Or::Other(TableFull { table }),
         Err(_) => Or::Memory,
     }
-}
-
-fn table_name(alloc: Global, db: &[u8], name: &[u8]) -> Result<TableName, NoMemory>
-    ensures { IfOk result (λ t. t ≡ record { db = db.now; name = name.now }) }
-{
-    Ok(TableName {
-        db: Text::of(alloc, db)?,
-        name: Text::of(alloc, name)?,
-    })
 }

@@ -1,16 +1,16 @@
 //! Maps from names.
 
-ghost use Rattle.std.specs.Prelude.{◌≡◌, [], length, OnOk, OnErr, option_copied};
+ghost use Rattle.std.specs.Prelude.{◌≡◌, [], length, map, IfOk, OnOk, OnErr, option_copied};
 ghost use Rattle.std.specs.Option.{option_copied_mut};
 ghost use Rattle.std.specs.Borrow.{sem};
 ghost use Rattle.std.specs.BTreeMap.{insert_entry, is_at};
-ghost use Rattle.std.specs.List.{slice_get};
 ghost use Rattle.std.specs.List.Sorted.{IsStrictlySortedBy};
 ghost use Rattle.std.specs.Map.{keys_of, remove_entry};
 ghost use Rattle.qc_sql.specs.Database.{at_name, name_cmp};
 ghost use Rattle.qc_table.specs.Borrowed.{borrows_value};
+ghost use Rattle.qc_table.specs.Views.{table_in};
 
-use qc_types::NoMemory;
+use qc_types::{NoMemory, TableName, Tables, Text};
 use std::alloc::Global;
 use std::collections::BTreeMap;
 use std::marker::Model;
@@ -56,18 +56,15 @@ impl<V: Drop> NameMap<V> {
         self.held.len() as u64
     }
 
-    /// The name at an index, by rising name. Linear in the index.
-    pub(crate) fn name_at(&self, index: u64) -> Option<&[u8]>
-        ensures { option_copied result ≡ slice_get (keys_of self.now) index }
+    /// Its names as those of tables in a database, by rising name. Linear in what they hold.
+    pub(crate) fn as_tables(&self, alloc: Global, db: &[u8]) -> Result<Tables, NoMemory>
+        ensures { IfOk result (λ tables. tables ≡ map (table_in db.now) (keys_of self.now)) }
     {
-        let mut before = index;
+        let mut tables = Tables::new(alloc);
         for (name, _) in &self.held {
-            if before == 0 {
-                return Some(name.as_slice());
-            }
-            before -= 1;
+            tables.push(table_name(alloc, db, name)?)?;
         }
-        None
+        Ok(tables)
     }
 
     /// What the name has, where it has something.
@@ -101,4 +98,14 @@ impl<V: Drop> NameMap<V> {
     {
         let _ = self.held.remove(name);
     }
+}
+
+/// The whole name of a table.
+pub(crate) fn table_name(alloc: Global, db: &[u8], name: &[u8]) -> Result<TableName, NoMemory>
+    ensures { IfOk result (λ table. table ≡ table_in db.now name.now) }
+{
+    Ok(TableName {
+        db: Text::of(alloc, db)?,
+        name: Text::of(alloc, name)?,
+    })
 }

@@ -27,17 +27,22 @@ fn a_shared_database_stays(rt: HostRuntime) {
 
 #[test]
 fn names_of_tables(rt: HostRuntime) {
-    let database = small(&rt, rt.alloc());
-    let rows: [(&[u8], u64, Option<&[u8]>); 6] = [
-        (b"d", 0, Some(b"e")),
-        (b"d", 1, Some(b"s")),
-        (b"d", 2, Some(b"t")),
-        (b"d", 3, None),
-        (b"o", 0, Some(b"t")),
-        (b"none", 0, None),
-    ];
-    for (db, index, name) in rows {
-        assert_eq!(rt; database.table_at(db, index), name);
+    let alloc = rt.alloc();
+    let database = small(&rt, alloc);
+    let rows: [(&[u8], &str); 3] = [(b"d", "e s t"), (b"o", "t"), (b"none", "")];
+    for (db, names) in rows {
+        let tables = must(&rt, database.tables_in(alloc, db));
+        let mut told = String::new(alloc);
+        for table in tables.items() {
+            assert_eq!(rt; table.db.bytes(), db);
+            if !told.is_empty() {
+                must(&rt, told.push(' '));
+            }
+            for byte in table.name.bytes() {
+                must(&rt, told.push(char::from(*byte)));
+            }
+        }
+        assert_eq!(rt; told.as_str(), names);
     }
 }
 
