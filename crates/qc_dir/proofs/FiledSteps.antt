@@ -241,16 +241,16 @@ pub contents-free : {X : Type 0} (n : ℕ) → contents (replicate {A = Option X
 contents-free zero = refl
 contents-free (suc n) = contents-free n
 
--- the first free slot is empty
-pub first-free : {X : Type 0} (home : Option X → ℕ) (many : ℕ) (slots : List (Option X)) (filed : Linked) (x : ℕ) → IsFiled home many slots filed → x < length slots → slice_get (nodes_of 0 filed.lists) 0 ≡ Some x → home (in_slot x slots) ≡ 0
-first-free home many slots filed x h low is = by (home (in_slot x slots) == 0) refl (h.placed 0 x (omega (arith, h.homes (in_slot x slots))) low) (stands (nodes_of 0 filed.lists) is)
+-- the content of a list's first slot belongs to the list
+pub first-home : {X : Type 0} (home : Option X → ℕ) (many list : ℕ) (slots : List (Option X)) (filed : Linked) (x : ℕ) → IsFiled home many slots filed → list < many → x < length slots → slice_get (nodes_of list filed.lists) 0 ≡ Some x → home (in_slot x slots) ≡ list
+first-home home many list slots filed x h few low is = by (home (in_slot x slots) == list) refl (h.placed list x few low) (stands (nodes_of list filed.lists) is)
   where
     stands : (ns : List ℕ) → slice_get ns 0 ≡ Some x → 0 < count x ns
     stands [] e = absurd (none-some x e)
     stands (n ∷ ns) e = let one : bit (n == x) ≡ 1 = rw (eq-eqb n x (same_Some n x e)) refl in omega (arith, one)
 
-    by : (b : Bool) → (home (in_slot x slots) == 0) ≡ b → count x (nodes_of 0 filed.lists) ≡ bit b → 0 < count x (nodes_of 0 filed.lists) → home (in_slot x slots) ≡ 0
-    by true e q p = eqb-true (home (in_slot x slots)) 0 e
+    by : (b : Bool) → (home (in_slot x slots) == list) ≡ b → count x (nodes_of list filed.lists) ≡ bit b → 0 < count x (nodes_of list filed.lists) → home (in_slot x slots) ≡ list
+    by true e q p = eqb-true (home (in_slot x slots)) list e
     by false e q p = absurd (omega (arith, q, p))
 
 -- how many are free where a slot goes to another list

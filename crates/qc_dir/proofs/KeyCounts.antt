@@ -11,7 +11,7 @@ use Rattle.qc_index.specs.Linked.{Linked, nodes_of}
 use Rattle.qc_index.proofs.Counting.{total-append, total-set}
 use Rattle.qc_dir.specs.Filed.{in_slot, contents, IsFiled}
 use Rattle.qc_dir.specs.Keys.{total, bit, times, same_key, bucket_of, pair_of, major_home, pair_home, is_key, minor_under, minors_under, IsKeySet, IsAnyUnder}
-use Rattle.qc_dir.proofs.FiledSteps.{moved, listed-all, none-counts, filed-moved, first-free, room-moved}
+use Rattle.qc_dir.proofs.FiledSteps.{moved, listed-all, none-counts, filed-moved, first-home, room-moved}
 
 pub same_both : (a b : Key) → same_key a b ≡ true → a ≡ b
 same_both a b h =
@@ -135,7 +135,7 @@ inserted slots by_major by_key by_major' by_key' mask x k h low first one two = 
 }
   where
     none : in_slot x slots ≡ None
-    none = major-none mask (in_slot x slots) (first-free (major_home mask) (mask + 2) slots by_major x h.by_major low first)
+    none = major-none mask (in_slot x slots) (first-home (major_home mask) (mask + 2) 0 slots by_major x h.by_major (omega arith) low first)
 
 pub record IsRemoved (slots slots' : List (Option Key)) (by_major by_major' by_key' : Linked) (mask : ℕ) (k : Key) : Type 0 where
   pub kept : IsKeySet slots' by_major' by_key' mask

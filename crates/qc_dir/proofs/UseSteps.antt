@@ -3,7 +3,7 @@ use Rattle.std.proofs.Common.{◌≡◌, ◌≢◌, ℕ, zero, suc, ◌+◌, ◌
 use Rattle.std.specs.List.{AllByRecursion, filter, find, slice_get}
 use Rattle.std.specs.Option.{is_some, option_to_list, option_map, IsSome, IsSomeAnd}
 use Rattle.std.proofs.lemmas.List.{length-set, set-get_or, get_or_read, append-nil}
-use Rattle.std.proofs.lemmas.Option.{none-some}
+use Rattle.std.proofs.lemmas.Option.{none-some, same_Some}
 use Rattle.std.proofs.lemmas.Bool.{eq-eqb, ne_eqb, eqb-true, cases_eq}
 use Rattle.qc_index.specs.Counts.{count}
 use Rattle.qc_index.specs.Linked.{Linked, nodes_of, without as without_node}
@@ -13,7 +13,7 @@ use Rattle.qc_dir.specs.Directory.{has_serial, entry_at, is_idle, oldest_idle, i
 use Rattle.qc_dir.specs.Keys.{total, bit, bucket_of}
 use Rattle.qc_dir.specs.Filed.{in_slot, in_slots, IsFiled, AreFree}
 use Rattle.qc_dir.specs.Uses.{Used, use_home, serial_home, is_entry, is_missing, IsUses}
-use Rattle.qc_dir.proofs.FiledSteps.{weight, total-in_slots, listed, listed-all, none-counts, slot-counts, in-set, in-set_other, moved, filed-moved, room-moved, first-free, filed-still, free-filed, total-alike}
+use Rattle.qc_dir.proofs.FiledSteps.{weight, total-in_slots, listed, listed-all, none-counts, slot-counts, in-set, in-set_other, moved, filed-moved, room-moved, first-home, filed-still, free-filed, total-alike}
 use Rattle.qc_dir.proofs.KeyCounts.{bucket-low}
 use Rattle.qc_dir.proofs.EntryTotals.{with, none-counts as none-counted}
 
@@ -334,6 +334,24 @@ pub nodes-none : (slots : List (Option Entry)) (ns : List ℕ) → ((n : ℕ) �
 nodes-none slots [] h = refl
 nodes-none slots (n ∷ ns) h = let one : bit (n == n) ≡ 1 = rw (eq-eqb n n refl) refl in absurd (omega (arith, h n, one))
 
+-- ---- the oldest entry
+
+-- the first slot of the list has the first entry
+pub first-used : (i : ℕ) (slots : List (Option Entry)) (order : Linked) (now : Option Entry) → IsFiled use_home 2 slots order → i < length slots → slice_get (nodes_of 1 order.lists) 0 ≡ Some i → now ≡ in_slot i slots → now ≡ slice_get (used slots order) 0
+first-used i slots order now h low first read = by (nodes_of 1 order.lists) first now read (ap use_home read ∙ first-home use_home 2 1 slots order i h (omega arith) low first)
+  where
+    by : (ns : List ℕ) → slice_get ns 0 ≡ Some i → (s : Option Entry) → s ≡ in_slot i slots → use_home s ≡ 1 → s ≡ slice_get (in_slots slots ns) 0
+    by [] e s is one = absurd (none-some i e)
+    by (n ∷ ns) e None is one = absurd (omega (arith, one))
+    by (n ∷ ns) e (Some x) is one = let there : in_slot n slots ≡ Some x = ap (λ k. in_slot k slots) (same_Some n i e) ∙ sym is in rw there refl
+
+pub none-used : (slots : List (Option Entry)) (order : Linked) → slice_get (nodes_of 1 order.lists) 0 ≡ None → slice_get (used slots order) 0 ≡ None
+none-used slots order first = by (nodes_of 1 order.lists) first
+  where
+    by : (ns : List ℕ) → slice_get ns 0 ≡ None → slice_get (in_slots slots ns) 0 ≡ None
+    by [] e = refl
+    by (n ∷ ns) e = absurd (cc e)
+
 -- ---- the oldest idle entry
 
 pub idle-first : (s : Option Entry) (es : List Entry) (n : ℕ) → Some n ≡ oldest_idle (option_to_list s) → Some n ≡ oldest_idle (option_to_list s ++ es)
@@ -426,7 +444,7 @@ put-in i slots order order' by_serial by_serial' mask all missing d e h low firs
 })
   where
     empty : in_slot i slots ≡ None
-    empty = by (in_slot i slots) (first-free use_home 2 slots order i h.kept.ordered low first)
+    empty = by (in_slot i slots) (first-home use_home 2 0 slots order i h.kept.ordered (omega arith) low first)
       where
         by : (s : Option Entry) → use_home s ≡ 0 → s ≡ None
         by None q = refl

@@ -1,8 +1,8 @@
 //! The directory, with lists that spare it walks.
 
-ghost use Rattle.std.specs.Prelude.{◌≡◌, ◌≢◌, ℕ, ◌+◌, ◌-◌, ◌*◌, ◌/◌, ◌<◌, ◌≤◌, ◌^◌, [], ◌∷◌, true, false, length, map, Some, None, IfOk, IsSome, IfSome, IsSomeAnd, MatchOption, IsPermutation};
+ghost use Rattle.std.specs.Prelude.{◌≡◌, ◌≢◌, ℕ, ◌+◌, ◌-◌, ◌*◌, ◌/◌, ◌<◌, ◌≤◌, ◌^◌, [], ◌∷◌, true, false, length, map, slice_get, Some, None, IfOk, IsSome, IfSome, IsSomeAnd, MatchOption, IsPermutation};
 ghost use Rattle.std.specs.List.{list_any, AllByRecursion};
-ghost use Rattle.std.specs.Option.{option_copied};
+ghost use Rattle.std.specs.Option.{option_copied, option_map};
 ghost use Rattle.qc_index.specs.declared.keys.Key.{Key};
 ghost use Rattle.qc_dir.specs.Directory.{IsDirectory, entry_at, serials_under, block_of, names_table, oldest_idle, incomplete, AreFresh, AddsEntry, after_touch, after_complete, after_enter, after_leave, with_entries, RemovesEntry, after_shift, moved_entry};
 ghost use Rattle.qc_types.specs.declared.names.TableName.{TableName};
@@ -231,6 +231,14 @@ impl Dir {
             return None;
         };
         self.named.any_under(u64::from(number))
+    }
+
+    /// The serial of the least recently used entry, whatever its state. None exactly where there is none. Constant time.
+    pub fn oldest(&self) -> Option<u64>
+        ensures serial { result ≡ option_map (λ e. e.serial) (slice_get self.now.entries 0) }
+        ensures valid { IsDirectory self.now }
+    {
+        self.entries.oldest()
     }
 
     /// The serial of the least recently used entry that is complete and without users. None exactly where there is none. It passes the entries that were

@@ -1,6 +1,6 @@
 //! The entries in the order of their use.
 
-ghost use Rattle.std.specs.Prelude.{◌≡◌, ℕ, ◌+◌, ◌-◌, ◌<◌, ◌≤◌, ◌^◌, [], ◌∷◌, ◌++◌, true, length, Option, IfOk, IsSome, IsSomeAnd, MatchOption, option_to_list, Some, None, false};
+ghost use Rattle.std.specs.Prelude.{◌≡◌, ℕ, ◌+◌, ◌-◌, ◌<◌, ◌≤◌, ◌^◌, [], ◌∷◌, ◌++◌, true, length, slice_get, Option, IfOk, IsSome, IsSomeAnd, MatchOption, option_to_list, Some, None, false};
 ghost use Rattle.std.specs.Option.{option_copied, option_map};
 ghost use Rattle.qc_dir.specs.declared.entries.Entry.{Entry};
 ghost use Rattle.qc_dir.specs.Filed.{in_slot, IsFiled};
@@ -186,6 +186,16 @@ impl Uses {
         self.slots[slot as usize].as_ref()
     }
 
+    /// The serial of the least recently used entry, if any. Constant time.
+    pub(crate) fn oldest(&self) -> Option<u64>
+        ensures { result ≡ option_map (λ e. e.serial) (slice_get (entries_of self.now) 0) }
+    {
+        let Some(slot) = self.order.first(USED) else {
+            return None;
+        };
+        serial_in(&self.slots[slot as usize])
+    }
+
     /// The serial of the least recently used entry that is complete and without users, if any. It passes the entries before it that are in use or not
     /// complete.
     pub(crate) fn oldest_idle(&self) -> Option<u64>
@@ -249,6 +259,16 @@ fn missing_in(slot: &Option<Entry>) -> u32
     match slot {
         Some(entry) => entry.missing(),
         None => 0,
+    }
+}
+
+/// The serial of a slot's entry.
+fn serial_in(slot: &Option<Entry>) -> Option<u64>
+    ensures { result ≡ option_map (λ e. e.serial) slot.now }
+{
+    match slot {
+        Some(entry) => Some(entry.serial),
+        None => None,
     }
 }
 
