@@ -6,3 +6,5 @@ pub mod Seen
 pub mod Keys
 pub mod Answers
 pub mod Apart
+pub mod Fillings
+pub mod Few

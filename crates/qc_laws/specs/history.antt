@@ -1,3 +1,5 @@
 pub mod Runs
 pub mod Seen
 pub mod Answers
+pub mod Fillings
+pub mod Few

@@ -1,6 +1,8 @@
 //! Laws of lawful journals: functions with no code, of which the contract is the law.
 
 ghost use Rattle.qc_laws.specs.history.Answers.{HitsAnswer, StartsAnswer};
+ghost use Rattle.qc_laws.specs.history.Few.{TablesAreApart, TablesAreFew};
+ghost use Rattle.qc_laws.specs.history.Fillings.{FillsAreLast};
 ghost use Rattle.qc_laws.specs.history.Runs.{AnswersStay, EntriesAreApart, HitsAreWhole, KeysAreApart, StartsOnce};
 ghost use Rattle.qc_laws.specs.history.Seen.{SeesPresent};
 
@@ -42,4 +44,15 @@ pub fn starts_answer()
 /// No two entries of the cache have one key.
 pub fn keys_are_apart()
     ensures { KeysAreApart }
+{}
+
+/// Where an entry of the cache isn't complete, its start is the last event of a session.
+pub fn fills_are_last()
+    ensures { FillsAreLast }
+{}
+
+/// A text's select names at most eight tables, each once.
+pub fn tables_are_few()
+    ensures few { TablesAreFew }
+    ensures apart { TablesAreApart }
 {}
