@@ -8,3 +8,4 @@ pub mod Answers
 pub mod Apart
 pub mod Fillings
 pub mod Few
+pub mod Named

@@ -3,3 +3,4 @@ pub mod Seen
 pub mod Answers
 pub mod Fillings
 pub mod Few
+pub mod Named

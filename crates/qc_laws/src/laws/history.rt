@@ -3,6 +3,7 @@
 ghost use Rattle.qc_laws.specs.history.Answers.{HitsAnswer, StartsAnswer};
 ghost use Rattle.qc_laws.specs.history.Few.{TablesAreApart, TablesAreFew};
 ghost use Rattle.qc_laws.specs.history.Fillings.{FillsAreLast};
+ghost use Rattle.qc_laws.specs.history.Named.{TablesAreThere};
 ghost use Rattle.qc_laws.specs.history.Runs.{AnswersStay, EntriesAreApart, HitsAreWhole, KeysAreApart, StartsOnce};
 ghost use Rattle.qc_laws.specs.history.Seen.{SeesPresent};
 
@@ -55,4 +56,9 @@ pub fn fills_are_last()
 pub fn tables_are_few()
     ensures few { TablesAreFew }
     ensures apart { TablesAreApart }
+{}
+
+/// An entry of the cache names only tables that are there.
+pub fn tables_are_there()
+    ensures { TablesAreThere }
 {}
