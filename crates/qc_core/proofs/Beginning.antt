@@ -57,7 +57,7 @@ nothing s = record { options = s.options; journal = []; spare = s.journal.spare;
 
 nothing_sound : (s : Parts) → IsNew s → IsSound (at_rest hash) (replicate (region_words s.options) 0) (nothing s)
 nothing_sound s h = record {
-  rounded = record { unit = omega (arith, h.unit.0); least = omega (arith, h.unit.0, h.unit.1) };
+  rounded = record { size = omega (arith, h.size); unit = omega (arith, h.unit.0); least = omega (arith, h.unit.0, h.unit.1) };
   region = length-replicate {A = ℕ} (region_words s.options) 0;
   journal = record { lawful = tt; small = refl; needs = tt; database = refl; room = omega arith };
   directory = tt;

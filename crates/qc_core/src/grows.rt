@@ -2,7 +2,7 @@
 
 ghost use Rattle.std.specs.Prelude.{◌≡◌, List, IfOk};
 ghost use Rattle.std.specs.Result.{IfErr};
-ghost use Rattle.qc_turn.specs.Seats.{MayRelease, SameHolder, holder, with_ranges};
+ghost use Rattle.qc_turn.specs.Seats.{MayRelease, SameHolder, holder, words, with_ranges};
 ghost use Rattle.qc_turn.specs.declared.view.FoundWord.{FoundWord};
 ghost use Rattle.qc_core.specs.Sweeps.{swept, ReadsStreams, Finds};
 ghost use Rattle.qc_turn.specs.Tasks.{listed_for, own};
@@ -94,6 +94,7 @@ pub fn grow(held: &mut Held<'_, Server>, serial: u64) -> Result<Block, Short>
     requires stands { MayRelease held.old }
     requires fills { FillsOn (holder held.old).number serial held.old.value held.old.ranges }
     ensures stands { MayRelease held.new }
+    ensures words { words held.new ≡ words held.old }
     ensures listed { listed_for (holder held.old).number (tasks_of held.new.value) ≡ own (holder held.old).number (task.Fill serial) held.new.ranges.blocks }
     ensures found { (found : List FoundWord) × ReadsStreams (holder held.old).number held.old.value found
         × Finds held.old (with_ranges held.new held.old.ranges) found
@@ -108,6 +109,7 @@ fn grow_chain(held: &mut Held<'_, Server>, serial: u64) -> Result<Block, Short>
     requires stands { MayRelease held.old }
     requires fills { FillsOn (holder held.old).number serial held.old.value held.old.ranges }
     ensures stands { MayRelease held.new × SameHolder held.old held.new }
+    ensures words { words held.new ≡ words held.old }
     ensures listed { listed_for (holder held.old).number (tasks_of held.new.value) ≡ own (holder held.old).number (task.Fill serial) held.new.ranges.blocks }
     ensures told { TellsGrowth serial held.old.value held.old.ranges held.new.value held.new.ranges result }
 {

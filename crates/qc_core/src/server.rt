@@ -13,6 +13,7 @@ use qc_journal::Journal;
 use qc_model::events::{Counters, Event};
 use qc_table::Database;
 use qc_turn::Kept;
+use qc_types::Options;
 use std::alloc::Global;
 use std::marker::Model;
 
@@ -77,6 +78,13 @@ impl Server {
         ensures { result.now ≡ self.now.journal }
     {
         self.parts.journal.journal()
+    }
+
+    /// The options.
+    pub fn options(&self) -> Options
+        ensures { result ≡ self.now.options }
+    {
+        self.parts.options
     }
 
     /// The database that the journal makes.

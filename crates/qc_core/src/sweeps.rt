@@ -4,7 +4,7 @@ ghost use Rattle.std.specs.Prelude.{◌≡◌, ◌<◌, ◌≤◌, List, find};
 ghost use Rattle.qc_dir.specs.Directory.{IsDirectory};
 ghost use Rattle.qc_turn.specs.Words.{word_seats};
 ghost use Rattle.qc_turn.specs.declared.view.FoundWord.{FoundWord};
-ghost use Rattle.qc_turn.specs.Seats.{MayRelease, holder};
+ghost use Rattle.qc_turn.specs.Seats.{MayRelease, holder, words};
 ghost use Rattle.qc_core.specs.Strikes.{is_of};
 ghost use Rattle.qc_core.specs.Sweeps.{has_stream, streams, ReadsStreams, ReadsOne, Finds, IsSwept};
 
@@ -38,6 +38,7 @@ fn lists_stream(tasks: &[RunningTask], seat: u32) -> bool
 pub(crate) fn strike_ended(held: &mut Held<'_, Server>)
     requires stands { MayRelease held.old }
     ensures stands { MayRelease held.new }
+    ensures words { words held.new ≡ words held.old }
     ensures swept { (found : List FoundWord) × Finds held.old held.new found × IsSwept (holder held.old).number held.old.value held.new.value found × ReadsStreams (holder held.old).number held.old.value found }
 {
     for seat in 1..=LAST_SEAT {
@@ -50,6 +51,7 @@ fn check_seat(held: &mut Held<'_, Server>, seat: u32)
     requires stands { MayRelease held.old }
     requires few { (0 < seat) × (seat ≤ word_seats) }
     ensures stands { MayRelease held.new }
+    ensures words { words held.new ≡ words held.old }
     ensures swept { (found : List FoundWord) × Finds held.old held.new found × IsSwept (holder held.old).number held.old.value held.new.value found × ReadsOne (holder held.old).number seat held.old.value found }
 {
     if seat == held.number() {

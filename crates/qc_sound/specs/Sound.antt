@@ -15,8 +15,9 @@ use Rattle.qc_sound.specs.parts.Memory.{MemoryIsSound}
 use Rattle.qc_sound.specs.parts.Contents.{ContentsAreSound}
 use Rattle.qc_sound.specs.parts.Tasks.{TasksAreSound}
 
--- options as they are taken: a unit is whole words, and at least a least block
+-- options as they are taken: the region is whole words, and a unit too, which is at least a least block
 pub record AreRounded (options : Options) : Type 0 where
+  pub size : options.size ≡ 8 * region_words options
   pub unit : options.unit ≡ 8 * unit_words options
   pub least : 64 ≤ unit_words options
 

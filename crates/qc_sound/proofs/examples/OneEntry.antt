@@ -86,7 +86,7 @@ or_none false = refl
 sound : IsSound (at_rest (λ _. 9)) words server
 unfolding words server options journal who t id key
 sound = record {
-  rounded = record { unit = refl; least = omega arith };
+  rounded = record { size = refl; unit = refl; least = omega arith };
   region = refl;
   journal = recorded;
   directory = (record { serial = refl; hashed = refl; text_bytes = refl; tables = refl; complete = refl }, tt);

@@ -35,3 +35,6 @@ returns-clause-found c =
       subst (λ (r : Ranged). Finds h (with_ranges m r) w.0) w.1.ranges (finds_same h k (with_ranges m k.ranges) w.0 w.1 (record { seat = p.seat; turn = p.turn; holder = p.holder }) refl),
       subst (λ (p : Parts × Ranged). TellsGrowth c.args.serial p.0 p.1 m.value m.ranges c.grow_chain.result) (λ i. (w.2.value i, w.1.ranges i)) c.grow_chain.ensures.told,
     )
+
+pub returns-clause-words : goal.returns-clause-words
+returns-clause-words c = c.grow_chain.ensures.words ∙ c.strike_ended.ensures.words

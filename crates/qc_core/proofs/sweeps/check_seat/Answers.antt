@@ -1,6 +1,6 @@
 use Rattle.std.proofs.Common.{◌≡◌, ◌≢◌, true, false, ◌∷◌, sym, ap, subst, ◌∙◌}
 use Rattle.qc_key.specs.Hash.{hash}
-use Rattle.qc_turn.specs.Views.{found_word, with_found}
+use Rattle.qc_turn.specs.Views.{found_word, with_found, words_of}
 use Rattle.qc_turn.specs.Seats.{words, holder}
 use Rattle.qc_sound.specs.Moment.{at_rest}
 use Rattle.qc_core.specs.Strikes.{MayRest, rested}
@@ -47,3 +47,9 @@ returns-clause-swept c =
     let e = c.streams.ensures in
     let r : Reads h k c.args.seat false = record { held = e.held.0; same_seat = e.held.1; turn = e.held.2; value = e.same.0 ∙ c.value.ensures.value; ranges = e.same.1; found = e.found ∙ (λ i. with_found (holder h) (found_word c.args.seat (c.if-streams.false i) ∷ (holder h).found)) } in
     (has_ended h k c.args.seat c.rest.new.self c.requires.stands ne is r (c.rest.ensures.rested ∙ ap (rested c.args.seat) c.value-2.ensures.value) c.rest.ensures.valid).swept
+
+pub returns-then-streams-clause-words : goal.returns-then-streams-clause-words
+returns-then-streams-clause-words c = ap (λ v. words_of v.holding) c.streams.ensures.found
+
+pub returns-clause-words : goal.returns-clause-words
+returns-clause-words c = ap (λ v. words_of v.holding) c.streams.ensures.found

@@ -1,4 +1,4 @@
-use Rattle.std.proofs.Common.{◌++◌, subst, arith}
+use Rattle.std.proofs.Common.{◌++◌, ◌∙◌, subst, arith}
 use Rattle.qc_key.specs.Hash.{hash}
 use Rattle.qc_turn.specs.Seats.{words, holder}
 use Rattle.qc_sound.specs.Moment.{at_rest}
@@ -18,7 +18,7 @@ loop-seat-preserved c =
     let g = new.0 in
     let same = finds_number h k f old.1 in
     let one = subst (λ j. IsSwept j k.value m.value g × ReadsOne j c.loop-seat.seat k.value g) same (new.2, new.3) in
-    (c.check_seat.ensures.stands, (g ++ f, finds_on h k m f g old.1 new.1, swept_on n h.value k.value m.value f g old.2 one.0, reads_more n c.loop-seat.seat h.value k.value f g old.2 old.3 one.1))
+    ((c.check_seat.ensures.stands, c.check_seat.ensures.words ∙ c.loop-seat.invariant.0.1), (g ++ f, finds_on h k m f g old.1 new.1, swept_on n h.value k.value m.value f g old.2 one.0, reads_more n c.loop-seat.seat h.value k.value f g old.2 old.3 one.1))
 
 pub returns-clause-swept : goal.returns-clause-swept
 returns-clause-swept c =
