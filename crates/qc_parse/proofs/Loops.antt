@@ -1,8 +1,12 @@
 -- Reading one after another, as a loop does.
-use Rattle.std.proofs.Common.{◌≡◌, ℕ, zero, suc, ◌≤◌, Bool, true, false, cond, List, [], ◌∷◌, ◌++◌, length, Result, Ok, Err, ◌<◌, arith, refl, sym, subst, ap, append_assoc, append-nil}
+use Rattle.std.proofs.Common.{◌≡◌, ℕ, zero, suc, ◌≤◌, Bool, true, false, cond, List, [], ◌∷◌, ◌++◌, length, Result, Ok, Err, ◌<◌, arith, refl, sym, subst, ap, ◌∙◌, append_assoc, append-nil}
 use Rattle.std.specs.Prelude.{codes}
 use Rattle.qc_sql.specs.Tokens.{Lexeme, Token}
-use Rattle.qc_sql.specs.Reading.{Unread, Stop, Reader, pure, then_read, ◌>>=◌, token_is, next_is, next, is_sign, at_most, many}
+use Rattle.qc_sql.specs.Words.{when}
+use Rattle.qc_sql.specs.Reading.{Unread, Stop, Reader, pure, then_read, ◌>>=◌, token_is, next_is, next, is_sign, at_most, many, read_first}
+use Rattle.qc_types.specs.declared.memory.Or.{Or}
+use Rattle.qc_parse.specs.declared.halt.Halt.{Halt}
+use Rattle.qc_parse.specs.Cursors.{beyond, beyond_first, Reads, beside}
 use Rattle.qc_parse.specs.Shorter.{Shortens, Takes, reads_take, takes_then}
 
 -- nothing passes where nothing is next
@@ -76,3 +80,39 @@ further_takes f p h u = takes_then u.tokens (next f u) (λ _. p) (reads_take _ u
 
 pub further_less : {A : Type 0} (f : Lexeme → Bool) (p : Reader A) → Shortens p → (u : Unread) (x : A) (v : Unread) → further f p u ≡ Ok (x, v) → length v.tokens < length u.tokens
 further_less f p h u x v e = omega (arith, subst (Takes u.tokens) e (further_takes f p h u))
+
+-- ---- where a test holds, one token is passed
+
+passes : (f : Lexeme → Bool) (u : Unread) → next_is f u ≡ true → next f u ≡ Ok (tt, beyond u)
+passes f u h = by u.tokens h
+  where
+    by : (ts : List Token) → token_is f ts ≡ true → read_first (λ l. when (f l) (tt {0})) u ts ≡ Ok (tt, beyond_first u ts)
+    by [] is = absurd cc
+    by (t ∷ ts) is = rw is refl
+
+-- what was read before stays, and what is read beside it is what the reader gives
+beside_reads : {A B : Type 0} (x : A) (r : Result B (Or Halt)) (y : A × B) (u : Unread) (read : Result (B × Unread) Stop) → Ok y ≡ beside x r → Reads (λ z. z) r u read → (y.0 ≡ x) × (read ≡ Ok (y.1, u))
+beside_reads x (Ok z) y u read e h = let both : y ≡ (x, z) = cc e in (ap (λ p. p.0) both, h ∙ ap (λ p. Ok (p.1, u)) (sym both))
+beside_reads x (Err why) y u read e h = absurd (cc e)
+
+module _ {A : Type 0} (f : Lexeme → Bool) (p : Reader A) (shortens : Shortens p) where
+  -- what is read so far, and what is read on from there
+  abbrev pub and_further : List A → Unread → Result (List A × Unread) Stop
+  and_further xs u = all_of f (further f p) (further_takes f p shortens) xs u
+
+  one_more : (x : A) (u v w : Unread) → next_is f u ≡ true → v ≡ beyond u → p v ≡ Ok (x, w) → further f p u ≡ Ok (x, w)
+  one_more x u v w h e g = ap (λ r. then_read r (λ _. p)) (passes f u h) ∙ (ap p (sym e) ∙ g)
+
+  -- one more is read, beside those before
+  pub goes_on : (xs : List A) (r : Result A (Or Halt)) (so_far : List A) (x : A) (ys : List A) (u v w : Unread) (all : Result (List A × Unread) Stop)
+      → next_is f u ≡ true → v ≡ beyond u → Reads (λ z. z) r w (p v) → Ok (so_far, x) ≡ beside xs r → ys ≡ so_far ++ x ∷ [] → and_further xs u ≡ all → and_further ys w ≡ all
+  goes_on xs r so_far x ys u v w all h e g both more so =
+      let read = beside_reads xs r (so_far, x) w (p v) both g in
+      ap (λ zs. and_further zs w) (more ∙ ap (λ zs. zs ++ x ∷ []) read.0)
+      ∙ (sym (read_on f (further f p) (further_takes f p shortens) xs x u w h (one_more x u v w h e read.1)) ∙ so)
+
+  -- fewer tokens are left then
+  pub leaves_fewer : (xs : List A) (r : Result A (Or Halt)) (so_far : List A) (x : A) (u v w : Unread)
+      → next_is f u ≡ true → v ≡ beyond u → Reads (λ z. z) r w (p v) → Ok (so_far, x) ≡ beside xs r → length w.tokens < length u.tokens
+  leaves_fewer xs r so_far x u v w h e g both =
+      further_less f p shortens u x w (one_more x u v w h e (beside_reads xs r (so_far, x) w (p v) both g).1)

@@ -9,7 +9,7 @@ ghost use Rattle.qc_parse.specs.Rests.{compared, listed_or_ranged};
 
 use crate::cursor::Cursor;
 use crate::halt::{Halt, unsupported};
-use crate::lists::{beside, closed, followed, open_bracket, too_deep};
+use crate::lists::{beside, closed, followed, open_bracket, too_deep, with_member};
 use crate::literals::tuple;
 use crate::values::value;
 use qc_lex::{Ahead, Lexeme};
@@ -226,11 +226,11 @@ fn any_of(alloc: Global, cursor: &mut Cursor<'_>, depth: u8) -> Result<Cond, Or<
     if !cursor.at_word(b"OR") {
         return Ok(first);
     }
-    let mut members = Conds::new(alloc);
-    members.push(first)?;
+    let mut members = with_member(Conds::new(alloc), first)?;
     'ors: while cursor.at_word(b"OR") {
-        cursor.word(b"OR")?;
-        members.push(all_of(alloc, cursor, depth)?)?;
+        cursor.pass();
+        let (so_far, next) = beside(members, all_of(alloc, cursor, depth))?;
+        members = with_member(so_far, next)?;
     }
     Ok(Cond::Or(members))
 }
@@ -244,11 +244,11 @@ fn all_of(alloc: Global, cursor: &mut Cursor<'_>, depth: u8) -> Result<Cond, Or<
     if !cursor.at_word(b"AND") {
         return Ok(first);
     }
-    let mut members = Conds::new(alloc);
-    members.push(first)?;
+    let mut members = with_member(Conds::new(alloc), first)?;
     'ands: while cursor.at_word(b"AND") {
-        cursor.word(b"AND")?;
-        members.push(member(alloc, cursor, depth)?)?;
+        cursor.pass();
+        let (so_far, next) = beside(members, member(alloc, cursor, depth))?;
+        members = with_member(so_far, next)?;
     }
     Ok(Cond::And(members))
 }

@@ -1,6 +1,6 @@
 //! Lists with commas.
 
-ghost use Rattle.std.specs.Prelude.{◌≡◌, Result};
+ghost use Rattle.std.specs.Prelude.{◌≡◌, [], ◌∷◌, ◌++◌, IfOk, Result};
 ghost use Rattle.qc_sql.specs.Reading as meant;
 ghost use Rattle.qc_sql.specs.Reading.{Unread, Stop};
 ghost use Rattle.qc_sql.specs.Grammar as rule;
@@ -10,7 +10,7 @@ ghost use Rattle.qc_parse.specs.Shorter.{Shortens};
 
 use crate::cursor::Cursor;
 use crate::halt::{Halt, unsupported};
-use qc_types::{Or, OwnedList};
+use qc_types::{NoMemory, Or, OwnedList};
 use std::alloc::Global;
 
 /// What stands in a list with a comma between each two.
@@ -30,11 +30,12 @@ pub trait Member: Drop {
 pub fn listed<T: Member>(alloc: Global, cursor: &mut Cursor<'_>) -> Result<OwnedList<T>, Or<Halt>>
     ensures { Reads (λ x. x) result (unread cursor.new) (meant.listed T.rule (unread cursor.old)) }
 {
-    let mut members = OwnedList::new(alloc);
-    members.push(T::read(alloc, cursor)?)?;
+    let first = T::read(alloc, cursor)?;
+    let mut members = with_member(OwnedList::new(alloc), first)?;
     'commas: while cursor.at_sign(b",") {
-        cursor.sign(b",")?;
-        members.push(T::read(alloc, cursor)?)?;
+        cursor.pass();
+        let (so_far, next) = beside(members, T::read(alloc, cursor))?;
+        members = with_member(so_far, next)?;
     }
     Ok(members)
 }
@@ -96,4 +97,13 @@ pub fn followed<T: Drop, E>(before: T, now: Result<(), E>) -> Result<T, E>
         Ok(()) => Ok(before),
         Err(why) => Err(why),
     }
+}
+
+/// A list with one member more.
+pub fn with_member<T: Drop>(members: OwnedList<T>, member: T) -> Result<OwnedList<T>, NoMemory>
+    ensures { IfOk result (λ ms. ms ≡ members ++ member ∷ []) }
+{
+    let mut members = members;
+    members.push(member)?;
+    Ok(members)
 }

@@ -8,7 +8,7 @@ ghost use Rattle.qc_parse.specs.Cursors.{unread, Takes, Reads};
 use crate::cursor::Cursor;
 use crate::definitions::refuse_any;
 use crate::halt::{Halt, unsupported};
-use crate::lists::beside;
+use crate::lists::{beside, followed};
 use crate::names::{any_word, at_number, at_text, name, number, or_empty, text};
 use qc_lex::{Ahead, Lexeme, is_same_word, quoted_text};
 use qc_sql::statements::{SetValue, Setting, Statement};
@@ -37,7 +37,8 @@ pub fn flush(cursor: &mut Cursor<'_>) -> Result<Statement, Halt>
     ensures { Takes (λ x. x) result (unread cursor.new) (rule.flush (unread cursor.old)) }
 {
     cursor.word(b"FLUSH")?;
-    if cursor.passed(b"TABLES") {
+    if cursor.at_word(b"TABLES") {
+        cursor.word(b"TABLES")?;
         return Ok(Statement::FlushTables);
     }
     cursor.word(b"QUERY")?;
@@ -164,7 +165,7 @@ pub fn set(alloc: Global, cursor: &mut Cursor<'_>) -> Result<Statement, Or<Halt>
     cursor.word(b"SET")?;
     let word = any_word(cursor)?;
     let setting = setting_of(alloc, cursor, word)?;
-    let (setting, ()) = beside(setting, no_second(alloc, cursor))?;
+    let setting = followed(setting, no_second(alloc, cursor))?;
     Ok(Statement::Set(setting))
 }
 

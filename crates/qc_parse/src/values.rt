@@ -8,7 +8,7 @@ ghost use Rattle.qc_parse.specs.Rests.{literal_or_column};
 
 use crate::cursor::Cursor;
 use crate::halt::{Halt, unsupported};
-use crate::lists::{beside, closed, followed, open_bracket, too_deep};
+use crate::lists::{beside, closed, followed, open_bracket, too_deep, with_member};
 use crate::literals::{at_literal, literal};
 use crate::names::{any_word, column, ends_value};
 use crate::words::{is_aggregate, is_known_call, is_reserved};
@@ -235,11 +235,12 @@ fn values(
 ) -> Result<Exprs, Or<Halt>>
     ensures { Reads (λ x. x) result (unread cursor.new) (meant.listed (rule.value_at depth aggregates) (unread cursor.old)) }
 {
-    let mut values = Exprs::new(alloc);
-    values.push(value(alloc, cursor, depth, aggregates)?)?;
+    let first = value(alloc, cursor, depth, aggregates)?;
+    let mut values = with_member(Exprs::new(alloc), first)?;
     'commas: while cursor.at_sign(b",") {
-        cursor.sign(b",")?;
-        values.push(value(alloc, cursor, depth, aggregates)?)?;
+        cursor.pass();
+        let (so_far, next) = beside(values, value(alloc, cursor, depth, aggregates))?;
+        values = with_member(so_far, next)?;
     }
     Ok(values)
 }

@@ -5,7 +5,7 @@ use Rattle.qc_sql.specs.Grammar.{member_at}
 use Rattle.qc_sql.specs.Grammar as rule
 use Rattle.qc_parse.specs.Cursors.{unread}
 use Rattle.qc_parse.specs.Rules.{shortens_member, shortens_all_of}
-use Rattle.qc_parse.proofs.Loops.{all_of, further, further_takes}
+use Rattle.qc_parse.proofs.Loops.{and_further}
 use Rattle.qc_parse.proofs.conditions.+conditions.Given as goal
 
 abbrev pub decreases-member : goal.decreases-member
@@ -30,7 +30,7 @@ abbrev pub invariant-all_of-ands : goal.invariant-all_of-ands
 invariant-all_of-ands l =
     let test = is_word (codes "AND") in
     let member = member_at l.depth in
-    all_of test (further test member) (further_takes test member (shortens_member l.depth)) l.members (unread l.cursor)
+    and_further test member (shortens_member l.depth) l.members (unread l.cursor)
     ≡ separated (at_word (codes "AND")) (word (codes "AND")) member (unread l.fn.cursor)
 
 abbrev pub decreases-all_of-ands : goal.decreases-all_of-ands
@@ -40,7 +40,7 @@ abbrev pub invariant-any_of-ors : goal.invariant-any_of-ors
 invariant-any_of-ors l =
     let test = is_word (codes "OR") in
     let member = rule.all_of (member_at l.depth) in
-    all_of test (further test member) (further_takes test member (shortens_all_of l.depth)) l.members (unread l.cursor)
+    and_further test member (shortens_all_of l.depth) l.members (unread l.cursor)
     ≡ separated (at_word (codes "OR")) (word (codes "OR")) member (unread l.fn.cursor)
 
 abbrev pub decreases-any_of-ors : goal.decreases-any_of-ors

@@ -2,7 +2,7 @@ use Rattle.std.proofs.Common.{◌≡◌, ◌+◌, ◌*◌, length}
 use Rattle.qc_sql.specs.Reading.{listed}
 use Rattle.qc_sql.specs.Grammar.{value_at}
 use Rattle.qc_parse.specs.Cursors.{unread}
-use Rattle.qc_parse.proofs.Loops.{all_of, comma, further, further_takes}
+use Rattle.qc_parse.proofs.Loops.{comma, and_further}
 use Rattle.qc_parse.specs.Rules.{shortens_value}
 use Rattle.qc_parse.proofs.values.+values.Given as goal
 
@@ -33,7 +33,7 @@ decreases-values l = 5 * l.depth + 2
 abbrev pub invariant-values-commas : goal.invariant-values-commas
 invariant-values-commas l =
     let rule = value_at l.depth l.aggregates in
-    all_of comma (further comma rule) (further_takes comma rule (shortens_value l.depth l.aggregates)) l.values (unread l.cursor) ≡ listed rule (unread l.fn.cursor)
+    and_further comma rule (shortens_value l.depth l.aggregates) l.values (unread l.cursor) ≡ listed rule (unread l.fn.cursor)
 
 abbrev pub decreases-values-commas : goal.decreases-values-commas
 decreases-values-commas l = length (unread l.cursor).tokens
