@@ -1,4 +1,5 @@
 pub mod Sorts
+pub mod Firsts
 pub mod Orders
 pub mod Places
 pub mod Joins
@@ -12,6 +13,7 @@ pub mod Folds
 pub mod SortKeys
 pub mod Spans
 pub mod Gathers
+pub mod Leads
 pub mod KeptRows
 pub mod Stages
 pub mod Rows

@@ -11,11 +11,11 @@ use Rattle.qc_sql.specs.Rows.{insert_before_ties, sorted}
 
 module _ {X : Type 0} (lt : X → X → Bool) (o : IsStrictWeakOrder lt) where
   -- none of a list is below an element
-  abbrev NoneBelow : X → List X → Type 0
+  abbrev pub NoneBelow : X → List X → Type 0
   NoneBelow x [] = Unit {0}
   NoneBelow x (y ∷ ys) = (lt y x ≡ false) × NoneBelow x ys
 
-  abbrev Rises : List X → Type 0
+  abbrev pub Rises : List X → Type 0
   Rises [] = Unit {0}
   Rises (x ∷ xs) = NoneBelow x xs × Rises xs
 
@@ -108,7 +108,7 @@ module _ {X : Type 0} (cmp : X → X → Ordering) (o : IsTotalOrder cmp) where
   turned Equal = refl
   turned Greater = refl
 
-  above_is_below : (x y : X) → is_gt (cmp x y) ≡ below y x
+  pub above_is_below : (x y : X) → is_gt (cmp x y) ≡ below y x
   above_is_below x y = ap is_gt (o.antisymm x y) ∙ turned (cmp y x)
 
   none_below_inserted : (x y : X) (ys : List X) → below y x ≡ false → NoneBelow below orders x ys → NoneBelow below orders x (insert_before_ties cmp y ys)

@@ -13,6 +13,7 @@ pub mod Folds
 pub mod Ahead
 pub mod Spans
 pub mod SortKeys
+pub mod Leading
 pub mod Stages
 pub mod Buffers
 pub mod Plans

@@ -8,6 +8,7 @@ mod gathered;
 mod gathering;
 mod item;
 mod joined;
+mod leading;
 mod matching;
 mod operand;
 mod plan;

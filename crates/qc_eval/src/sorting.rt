@@ -1,17 +1,6 @@
-//! Combinations of rows in the order of columns.
+//! Columns by which combinations of rows are sorted.
 
-ghost use Rattle.std.specs.Prelude.{◌≡◌, map, OnOk, OnErr, IfOk};
-ghost use Rattle.qc_sql.specs.Rows.{sorted};
-ghost use Rattle.qc_resolve.specs.Meaning.{keys_cmp};
-ghost use Rattle.qc_eval.specs.Ahead.{AllRows};
-ghost use Rattle.qc_eval.specs.Chosen.{chosen};
-
-use crate::gathered::Gathered;
-use qc_resolve::OrderKey;
-use qc_table::{ColumnView, TableVersion};
-use qc_types::{NoMemory, Steps};
-use std::alloc::Global;
-use std::sync::ledger::Ledger;
+use qc_table::ColumnView;
 
 /// A column as it is read.
 #[derive(Drop)]
@@ -33,19 +22,3 @@ pub struct SortKey<'a> {
 mod keys;
 
 pub use keys::SortKeys;
-
-/// Sorts combinations stably by the columns' values. Costs n log n comparisons of n combinations.
-pub fn sort<L: Ledger>(
-    alloc: Global,
-    found: &mut Gathered,
-    tables: &[TableVersion],
-    order: &[OrderKey],
-    steps: &mut Steps<L>,
-) -> Result<(), NoMemory>
-    ensures sorted { OnOk result (map (chosen tables.now) found.new ≡ sorted (keys_cmp order.now) (map (chosen tables.now) found.old)) }
-    ensures rows { AllRows tables.now found.old → AllRows tables.now found.new }
-    ensures err { OnErr result (found.new ≡ found.old) }
-{
-    let keys = SortKeys::new(alloc, tables, order, steps)?;
-    found.sort(&keys)
-}

@@ -144,6 +144,16 @@ fn sources(rt: HostRuntime) {
 }
 
 #[test]
+fn look_ups(rt: HostRuntime) {
+    is_empty(&rt, &differences(&rt, rt.alloc(), PLAIN, table::LOOK_UPS));
+}
+
+#[test]
+fn first_rows(rt: HostRuntime) {
+    is_empty(&rt, &differences(&rt, rt.alloc(), PLAIN, table::FIRST_ROWS));
+}
+
+#[test]
 fn comparisons(rt: HostRuntime) {
     is_empty(
         &rt,

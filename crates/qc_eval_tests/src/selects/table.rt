@@ -1,4 +1,4 @@
-//! Texts of SELECT, each with its columns and rows or its refusal, worked out by hand from the meaning of SELECT.
+//! Texts of SELECT, each with its columns and rows or its refusal, worked out by hand from the meaning of SELECT; those of `LOOK_UPS` and `FIRST_ROWS` by SQLite.
 //!
 //! In a table a SELECT stands on a line of its own, and below it stands, indented, what it gives: the names of its columns, and its rows with ` | ` between them; or the code of its refusal, with the message. Every other line says what the next ones are about.
 //!
@@ -330,6 +330,469 @@ SELECT COUNT(*), SUM(a.v) FROM o.t a, o.t b, o.t c, o.t d, o.t e, o.t f, o.t g, 
     COUNT(*), SUM(a.v): 256, 2361183241434822606592
 SELECT a.id, h.id FROM o.t a, o.t b, o.t c, o.t d, o.t e, o.t f, o.t g, o.t h LIMIT 127, 2
     id, id: -9223372036854775808, 9223372036854775807 | 9223372036854775807, -9223372036854775808
+"#;
+
+/// Conditions that bound a key: by literals, and by values of earlier tables. What they give was asked of SQLite, over the same tables and with the order of the rows made plain.
+pub const LOOK_UPS: &str = r#"
+; keys that are there, at both ends and between
+SELECT id FROM t WHERE id = -2
+    id: -2
+SELECT id FROM t WHERE id = 3
+    id: 3
+SELECT id FROM t WHERE id = 7
+    id: 7
+SELECT id FROM t WHERE 7 = id
+    id: 7
+SELECT id, name FROM t WHERE t.id = 4
+    id, name: 4, 'B'
+SELECT id FROM o.t WHERE id = -9223372036854775808
+    id: -9223372036854775808
+SELECT id FROM o.t WHERE id = 9223372036854775807
+    id: 9223372036854775807
+; keys that aren't there
+SELECT id FROM t WHERE id = -3
+    id:
+SELECT id FROM t WHERE id = 0
+    id:
+SELECT id FROM t WHERE id = 5
+    id:
+SELECT id FROM t WHERE id = 8
+    id:
+SELECT id FROM o.t WHERE id = -9223372036854775807
+    id:
+SELECT id FROM o.t WHERE id = 0
+    id:
+SELECT id FROM e WHERE id = 1
+    id:
+SELECT id FROM e WHERE id < 1
+    id:
+; up to a key, and from one on
+SELECT id FROM t WHERE id < -2
+    id:
+SELECT id FROM t WHERE id <= -2
+    id: -2
+SELECT id FROM t WHERE id < 3
+    id: -2 | 1 | 2
+SELECT id FROM t WHERE id <= 3
+    id: -2 | 1 | 2 | 3
+SELECT id FROM t WHERE id <= 5
+    id: -2 | 1 | 2 | 3 | 4
+SELECT id FROM t WHERE id < 7
+    id: -2 | 1 | 2 | 3 | 4
+SELECT id FROM t WHERE id <= 7
+    id: -2 | 1 | 2 | 3 | 4 | 7
+SELECT id FROM t WHERE id < 100
+    id: -2 | 1 | 2 | 3 | 4 | 7
+SELECT id FROM t WHERE id > 7
+    id:
+SELECT id FROM t WHERE id >= 7
+    id: 7
+SELECT id FROM t WHERE id > 3
+    id: 4 | 7
+SELECT id FROM t WHERE id >= 3
+    id: 3 | 4 | 7
+SELECT id FROM t WHERE id > 5
+    id: 7
+SELECT id FROM t WHERE id > -2
+    id: 1 | 2 | 3 | 4 | 7
+SELECT id FROM t WHERE id >= -2
+    id: -2 | 1 | 2 | 3 | 4 | 7
+SELECT id FROM t WHERE id >= -100
+    id: -2 | 1 | 2 | 3 | 4 | 7
+SELECT id FROM t WHERE 3 > id
+    id: -2 | 1 | 2
+SELECT id FROM t WHERE 3 >= id
+    id: -2 | 1 | 2 | 3
+SELECT id FROM t WHERE 3 < id
+    id: 4 | 7
+SELECT id FROM t WHERE 3 <= id
+    id: 3 | 4 | 7
+SELECT id FROM t WHERE 3 <> id
+    id: -2 | 1 | 2 | 4 | 7
+SELECT id FROM t WHERE id <> 3
+    id: -2 | 1 | 2 | 4 | 7
+SELECT id FROM o.t WHERE id < 9223372036854775807
+    id: -9223372036854775808
+SELECT id FROM o.t WHERE id >= 9223372036854775807
+    id: 9223372036854775807
+SELECT id FROM o.t WHERE id > 9223372036854775807
+    id:
+SELECT id FROM o.t WHERE id <= -9223372036854775808
+    id: -9223372036854775808
+SELECT id FROM o.t WHERE id < -9223372036854775808
+    id:
+; several bounds, and bounds that contradict each other
+SELECT id FROM t WHERE id > 1 AND id < 7
+    id: 2 | 3 | 4
+SELECT id FROM t WHERE id > 1 AND id < 7 AND id <> 3
+    id: 2 | 4
+SELECT id FROM t WHERE id >= 2 AND (id <= 4 AND id > 2)
+    id: 3 | 4
+SELECT id FROM t WHERE id > 4 AND id < 2
+    id:
+SELECT id FROM t WHERE id > 3 AND id < 4
+    id:
+SELECT id FROM t WHERE id = 3 AND id = 4
+    id:
+SELECT id FROM t WHERE id = 3 AND id = 3
+    id: 3
+SELECT id FROM t WHERE id = 3 AND id < 3
+    id:
+SELECT id FROM t WHERE id < 3 AND id >= 3
+    id:
+SELECT id FROM t WHERE id > 100 AND id < -100
+    id:
+SELECT id FROM t WHERE id BETWEEN 2 AND 4
+    id: 2 | 3 | 4
+SELECT id FROM t WHERE id BETWEEN 0 AND 5
+    id: 1 | 2 | 3 | 4
+SELECT id FROM t WHERE id BETWEEN 4 AND 2
+    id:
+SELECT id FROM t WHERE id BETWEEN 3 AND 3
+    id: 3
+SELECT id FROM t WHERE id BETWEEN 5 AND 6
+    id:
+SELECT id FROM t WHERE id NOT BETWEEN 2 AND 4
+    id: -2 | 1 | 7
+SELECT id FROM t WHERE id BETWEEN 2 AND 100 AND v = 5
+    id: 2 | 3
+; NULL as a bound
+SELECT id FROM t WHERE id = NULL
+    id:
+SELECT id FROM t WHERE id < NULL
+    id:
+SELECT id FROM t WHERE NULL >= id
+    id:
+SELECT id FROM t WHERE id BETWEEN NULL AND 4
+    id:
+SELECT id FROM t WHERE id BETWEEN 2 AND NULL
+    id:
+SELECT id FROM t WHERE id > 1 AND id < NULL
+    id:
+SELECT COUNT(*) FROM t WHERE id = NULL
+    COUNT(*): 0
+; a bound beside other parts, and one that is no bound
+SELECT id FROM t WHERE id > 1 AND v = 5
+    id: 2 | 3
+SELECT id FROM t WHERE v = 5 AND id > 2
+    id: 3
+SELECT id FROM t WHERE id = 2 OR id = 7
+    id: 2 | 7
+SELECT id FROM t WHERE (id = 2 OR v = 0) AND id > 2
+    id: 4
+SELECT id FROM t WHERE NOT id = 2
+    id: -2 | 1 | 3 | 4 | 7
+SELECT id FROM t WHERE NOT (id < 2 OR id > 4)
+    id: 2 | 3 | 4
+SELECT id FROM t WHERE id IN (7, 2, 5)
+    id: 2 | 7
+SELECT id FROM t WHERE id IS NULL
+    id:
+SELECT id FROM t WHERE id = id
+    id: -2 | 1 | 2 | 3 | 4 | 7
+SELECT id FROM t WHERE id = v
+    id:
+SELECT id FROM t WHERE v = id
+    id:
+SELECT id FROM t WHERE id < v
+    id: 2 | 3
+SELECT id FROM t WHERE id = LENGTH(name)
+    id: 1
+SELECT id FROM t WHERE id = LENGTH('abc')
+    id: 3
+SELECT id FROM t WHERE LENGTH('abc') < id
+    id: 4 | 7
+SELECT id FROM t WHERE v = 5 AND v > 4
+    id: 2 | 3
+; with aggregates, orders and limits
+SELECT COUNT(*) FROM t WHERE id > 2
+    COUNT(*): 3
+SELECT SUM(v), MIN(id), MAX(id) FROM t WHERE id BETWEEN 2 AND 4
+    SUM(v), MIN(id), MAX(id): 10, 2, 4
+SELECT COUNT(*) FROM t WHERE id = 5
+    COUNT(*): 0
+SELECT MAX(id) FROM t WHERE id > 7
+    MAX(id): NULL
+SELECT id FROM t WHERE id > 1 ORDER BY id DESC
+    id: 7 | 4 | 3 | 2
+SELECT id FROM t WHERE id > 1 ORDER BY v, id
+    id: 7 | 4 | 2 | 3
+SELECT id FROM t WHERE id >= 2 LIMIT 2
+    id: 2 | 3
+SELECT id FROM t WHERE id >= 2 LIMIT 1, 2
+    id: 3 | 4
+SELECT id FROM t WHERE id = 2 LIMIT 0
+    id:
+; a key that is a value of an earlier table
+SELECT s.id, t.id FROM s, t WHERE t.id = s.t_id
+    id, id: 1, 2 | 2, 2 | 3, -2
+SELECT s.id, t.id FROM s, t WHERE s.t_id = t.id
+    id, id: 1, 2 | 2, 2 | 3, -2
+SELECT s.id, t.id FROM s JOIN t ON t.id = s.t_id WHERE s.id > 1
+    id, id: 2, 2 | 3, -2
+SELECT t.id, s.id FROM t, s WHERE t.id = s.t_id
+    id, id: -2, 3 | 2, 1 | 2, 2
+SELECT t.id, s.id FROM t, s WHERE s.id = t.id
+    id, id: 1, 1 | 2, 2 | 3, 3 | 4, 4
+SELECT t.id, s.id FROM t, s WHERE s.id = t.v
+    id, id: 2, 5 | 3, 5
+SELECT t.id, s.id FROM t, s WHERE s.id < t.id
+    id, id: 2, 1 | 3, 1 | 3, 2 | 4, 1 | 4, 2 | 4, 3 | 7, 1 | 7, 2 | 7, 3 | 7, 4 | 7, 5
+SELECT t.id, s.id FROM t, s WHERE s.id >= t.id AND s.id <= t.v
+    id, id: 2, 2 | 2, 3 | 2, 4 | 2, 5 | 3, 3 | 3, 4 | 3, 5
+SELECT t.id, s.id FROM t, s WHERE s.id BETWEEN t.id AND t.v
+    id, id: 2, 2 | 2, 3 | 2, 4 | 2, 5 | 3, 3 | 3, 4 | 3, 5
+SELECT a.id, b.id FROM t a, t b WHERE b.id > a.id AND a.v = b.v
+    id, id: 2, 3
+SELECT a.id, b.id, c.id FROM t a, t b, t c WHERE b.id = a.id AND c.id = b.id AND a.id > 2
+    id, id, id: 3, 3, 3 | 4, 4, 4 | 7, 7, 7
+SELECT a.id, b.id, c.id FROM t a, t b, s c WHERE c.id = a.id AND b.id = c.t_id
+    id, id, id: 1, 2, 1 | 2, 2, 2 | 3, -2, 3
+SELECT a.id, b.id FROM t a, t b WHERE b.id = LENGTH(a.name)
+    id, id: -2, 1 | 1, 1 | 4, 1 | 7, 2
+SELECT a.id, b.id FROM t a JOIN o.t b ON b.id = a.id
+    id, id:
+SELECT a.id, b.id FROM o.t a, o.t b WHERE b.id = a.v
+    id, id: -9223372036854775808, 9223372036854775807 | 9223372036854775807, 9223372036854775807
+SELECT a.id, b.id FROM o.t a, o.t b WHERE b.id = a.u
+    id, id: -9223372036854775808, -9223372036854775808 | 9223372036854775807, -9223372036854775808
+SELECT COUNT(*) FROM t a, t b WHERE a.id = b.id
+    COUNT(*): 6
+SELECT COUNT(*) FROM t a, t b WHERE a.id < b.id
+    COUNT(*): 15
+SELECT a.id, b.id FROM t a, t b WHERE b.id = 3 AND a.id = 4
+    id, id: 4, 3
+SELECT a.id, b.id FROM t a, t b WHERE b.id = a.id AND b.id = 4
+    id, id: 4, 4
+; tables of no rows
+SELECT t.id, e.id FROM t, e
+    id, id:
+SELECT t.id FROM t, e WHERE t.id = 1
+    id:
+SELECT t.id FROM e, t WHERE t.id = e.id
+    id:
+SELECT COUNT(*) FROM t, e, s
+    COUNT(*): 0
+SELECT t.id FROM t, s WHERE s.id = 100
+    id:
+SELECT a.id FROM t a, t b, s c WHERE c.id > 5
+    id:
+; both ends of the keys
+SELECT id FROM o.t WHERE id >= -9223372036854775808
+    id: -9223372036854775808 | 9223372036854775807
+SELECT id FROM o.t WHERE id <= 9223372036854775807
+    id: -9223372036854775808 | 9223372036854775807
+SELECT id FROM o.t WHERE id > -9223372036854775808
+    id: 9223372036854775807
+SELECT id FROM o.t WHERE id BETWEEN -9223372036854775808 AND 9223372036854775807
+    id: -9223372036854775808 | 9223372036854775807
+SELECT id FROM o.t WHERE id BETWEEN 9223372036854775807 AND -9223372036854775808
+    id:
+SELECT id FROM o.t WHERE id BETWEEN -9223372036854775807 AND 9223372036854775806
+    id:
+SELECT id FROM o.t WHERE id NOT BETWEEN -9223372036854775807 AND 9223372036854775807
+    id: -9223372036854775808
+SELECT id FROM o.t WHERE id IN (9223372036854775807, -9223372036854775808)
+    id: -9223372036854775808 | 9223372036854775807
+SELECT id FROM o.t WHERE id IN (-9223372036854775807, 0, 9223372036854775806)
+    id:
+SELECT id FROM o.t WHERE id NOT IN (9223372036854775807)
+    id: -9223372036854775808
+SELECT id FROM t WHERE id > -9223372036854775808 AND id < 9223372036854775807
+    id: -2 | 1 | 2 | 3 | 4 | 7
+SELECT id FROM t WHERE id = 9223372036854775807
+    id:
+SELECT id FROM t WHERE id < -9223372036854775807
+    id:
+SELECT a.id, b.id FROM o.t a, o.t b WHERE a.id = b.id
+    id, id: -9223372036854775808, -9223372036854775808 | 9223372036854775807, 9223372036854775807
+SELECT a.id, b.id FROM o.t a, o.t b WHERE b.id > a.id
+    id, id: -9223372036854775808, 9223372036854775807
+SELECT a.id, b.id FROM o.t a, o.t b WHERE b.id < a.u
+    id, id:
+SELECT a.id, b.id FROM o.t a, o.t b WHERE b.id > a.v
+    id, id:
+SELECT a.id, b.id FROM o.t a, o.t b WHERE b.u = a.u AND b.v = a.v
+    id, id: -9223372036854775808, -9223372036854775808 | -9223372036854775808, 9223372036854775807 | 9223372036854775807, -9223372036854775808 | 9223372036854775807, 9223372036854775807
+; a list, with NULL and repeated members
+SELECT id FROM t WHERE id IN (3, 3, 3)
+    id: 3
+SELECT id FROM t WHERE id IN (7, -2, 7, -2, 2)
+    id: -2 | 2 | 7
+SELECT id FROM t WHERE id IN (NULL, 4)
+    id: 4
+SELECT id FROM t WHERE id IN (4, NULL, 1, NULL, 4)
+    id: 1 | 4
+SELECT id FROM t WHERE id IN (NULL)
+    id:
+SELECT id FROM t WHERE id IN (NULL, 5)
+    id:
+SELECT id FROM t WHERE id NOT IN (NULL, 5)
+    id:
+SELECT id FROM t WHERE id NOT IN (2, 3, 2)
+    id: -2 | 1 | 4 | 7
+SELECT id FROM t WHERE id IN (0, 5, 6, 8)
+    id:
+SELECT id FROM t WHERE id IN (1, 2, 3) AND id IN (3, 2, 9)
+    id: 2 | 3
+SELECT id FROM t WHERE id IN (1, 2) AND id IN (3, 4)
+    id:
+SELECT id FROM t WHERE id IN (1, 4, 7) AND id > 1 AND id < 7
+    id: 4
+SELECT id FROM t WHERE v IN (5, 5, 0)
+    id: 2 | 3 | 4
+SELECT id FROM t WHERE v IN (NULL, 0, 0)
+    id: 4
+SELECT id FROM t WHERE v NOT IN (5, 5, 9)
+    id: -2 | 4
+SELECT id FROM t WHERE v NOT IN (5, NULL, 5)
+    id:
+SELECT id FROM t WHERE NOT (v IN (5, NULL))
+    id:
+SELECT id FROM t WHERE v IN (NULL, 7) OR id = 1
+    id: 1
+SELECT id FROM t WHERE v NOT IN (9, 8, 7, 6, 5, 4, 3, 2, 1)
+    id: -2 | 4
+SELECT id FROM t WHERE v IN (9, 8, 7, 6, 5, 4, 3, 2, 1, 0)
+    id: 2 | 3 | 4
+SELECT id FROM t WHERE name IN ('b', 'ab', 'b', 'B')
+    id: -2 | 4 | 7
+SELECT id FROM t WHERE name IN (NULL, 'a', '')
+    id: 1 | 3
+SELECT id FROM t WHERE name NOT IN ('b', 'a', 'b')
+    id: 3 | 4 | 7
+SELECT id FROM t WHERE name NOT IN ('b', NULL)
+    id:
+SELECT COUNT(*) FROM t WHERE id IN (1, 1, 2, NULL)
+    COUNT(*): 2
+SELECT COUNT(*) FROM t a, t b WHERE a.id IN (1, 2, NULL) AND b.id IN (2, 3, 3)
+    COUNT(*): 4
+; NULL in a joined column
+SELECT a.id, b.id FROM t a, t b WHERE b.v = a.v
+    id, id: -2, -2 | 2, 2 | 2, 3 | 3, 2 | 3, 3 | 4, 4
+SELECT a.id, b.id FROM t a, t b WHERE a.v = b.v AND a.id < b.id
+    id, id: 2, 3
+SELECT s.id, t.id FROM s, t WHERE t.v = s.t_id
+    id, id:
+SELECT t.id, s.id FROM t, s WHERE s.t_id = t.v
+    id, id:
+SELECT t.id, s.id FROM t, s WHERE t.v = s.id
+    id, id: 2, 5 | 3, 5
+SELECT a.id, b.id FROM s a, s b WHERE b.t_id = a.t_id
+    id, id: 1, 1 | 1, 2 | 2, 1 | 2, 2 | 3, 3 | 5, 5
+SELECT a.id, b.id FROM s a, s b WHERE b.t_id <> a.t_id
+    id, id: 1, 3 | 1, 5 | 2, 3 | 2, 5 | 3, 1 | 3, 2 | 3, 5 | 5, 1 | 5, 2 | 5, 3
+SELECT a.id, b.id FROM s a, s b WHERE b.t_id = a.t_id AND b.id > a.id
+    id, id: 1, 2
+SELECT COUNT(*) FROM t a, t b WHERE a.v = b.v
+    COUNT(*): 6
+; columns of text
+SELECT a.id, b.id FROM t a, t b WHERE b.name = a.name
+    id, id: -2, -2 | 1, 1 | 3, 3 | 4, 4 | 7, 7
+SELECT a.id, b.id FROM s a, s b WHERE a.note = b.note
+    id, id: 1, 1 | 1, 3 | 2, 2 | 3, 1 | 3, 3 | 4, 4 | 5, 5
+SELECT a.id, b.id FROM s a, s b WHERE b.note = a.note AND b.id < a.id
+    id, id: 3, 1
+SELECT t.id, s.id FROM t, s WHERE s.note = t.name
+    id, id: 3, 4
+SELECT s.id, t.id FROM s, t WHERE t.name = s.note
+    id, id: 4, 3
+SELECT a.id, b.id FROM t a, t b WHERE a.name < b.name
+    id, id: 1, -2 | 1, 7 | 3, -2 | 3, 1 | 3, 4 | 3, 7 | 4, -2 | 4, 1 | 4, 7 | 7, -2
+SELECT a.id, b.id FROM t a, s b WHERE b.note >= a.name AND b.id = a.id
+    id, id: 1, 1 | 3, 3
+SELECT a.id, b.id, c.id FROM s a, s b, t c WHERE b.note = a.note AND c.id = b.id
+    id, id, id: 1, 1, 1 | 1, 3, 3 | 2, 2, 2 | 3, 1, 1 | 3, 3, 3 | 4, 4, 4
+; over three tables, and four
+SELECT a.id, b.id, c.id FROM t a, s b, t c WHERE b.t_id = a.id AND c.v = a.v
+    id, id, id: -2, 3, -2 | 2, 1, 2 | 2, 1, 3 | 2, 2, 2 | 2, 2, 3
+SELECT a.id, b.id, c.id FROM s a, t b, s c WHERE b.id = a.t_id AND c.t_id = b.id
+    id, id, id: 1, 2, 1 | 1, 2, 2 | 2, 2, 1 | 2, 2, 2 | 3, -2, 3
+SELECT a.id, b.id, c.id FROM s a, t b, s c WHERE c.t_id = b.id AND a.note = c.note
+    id, id, id: 1, -2, 3 | 1, 2, 1 | 2, 2, 2 | 3, -2, 3 | 3, 2, 1
+SELECT a.id, b.id, c.id FROM t a, t b, t c WHERE c.v = b.v AND b.v = a.v AND a.id = 3
+    id, id, id: 3, 2, 2 | 3, 2, 3 | 3, 3, 2 | 3, 3, 3
+SELECT a.id, b.id, c.id FROM t a, t b, t c WHERE c.id = a.id AND c.id = b.id AND c.v = 5
+    id, id, id: 2, 2, 2 | 3, 3, 3
+SELECT a.id, b.id, c.id FROM t a, s b, o.t c WHERE c.id > a.id AND a.id = b.t_id
+    id, id, id: -2, 3, 9223372036854775807 | 2, 1, 9223372036854775807 | 2, 2, 9223372036854775807
+SELECT a.id, b.id, c.id, d.id FROM t a, t b, s c, s d WHERE b.v = a.v AND c.t_id = b.id AND d.note = c.note
+    id, id, id, id: -2, -2, 3, 1 | -2, -2, 3, 3 | 2, 2, 1, 1 | 2, 2, 1, 3 | 2, 2, 2, 2 | 3, 2, 1, 1 | 3, 2, 1, 3 | 3, 2, 2, 2
+SELECT COUNT(*) FROM t a, t b, t c WHERE a.v = b.v AND b.v = c.v
+    COUNT(*): 10
+; conditions of a later table alone
+SELECT a.id, b.id FROM t a, t b WHERE b.v = 5
+    id, id: -2, 2 | -2, 3 | 1, 2 | 1, 3 | 2, 2 | 2, 3 | 3, 2 | 3, 3 | 4, 2 | 4, 3 | 7, 2 | 7, 3
+SELECT a.id, b.id FROM s a, t b WHERE b.v = 0 AND a.note = 'x'
+    id, id: 1, 4 | 3, 4
+SELECT a.id, b.id FROM t a, t b WHERE b.v = 6
+    id, id:
+SELECT a.id, b.id FROM t a, t b WHERE b.v = 6 AND a.v = 5
+    id, id:
+SELECT a.id, b.id FROM t a, t b WHERE b.v IS NULL AND b.id > a.id
+    id, id: -2, 1 | -2, 7 | 1, 7 | 2, 7 | 3, 7 | 4, 7
+SELECT a.id, b.id FROM t a, t b WHERE b.name = 'B' AND b.v = a.v
+    id, id: 4, 4
+SELECT a.id, b.id, c.id FROM t a, s b, t c WHERE c.v = 5 AND b.note = 'y' AND a.id = 1
+    id, id, id: 1, 2, 2 | 1, 2, 3
+SELECT a.id, b.id, c.id FROM s a, s b, s c WHERE c.note = 'zz' AND b.note = 'zz' AND a.note = 'zz'
+    id, id, id: 5, 5, 5
+SELECT COUNT(*) FROM t a, t b, t c WHERE c.v = 6
+    COUNT(*): 0
+SELECT a.id, b.id FROM t a, t b WHERE b.v = 5 LIMIT 3
+    id, id: -2, 2 | -2, 3 | 1, 2
+SELECT a.id, b.id FROM t a, t b WHERE b.v = 5 LIMIT 2, 3
+    id, id: 1, 2 | 1, 3 | 2, 2
+"#;
+
+/// The first rows in an order, and none, where more would come. They were asked of SQLite likewise.
+pub const FIRST_ROWS: &str = r#"
+; the first in an order
+SELECT id FROM t ORDER BY v LIMIT 1
+    id: 1
+SELECT id FROM t ORDER BY v LIMIT 2
+    id: 1 | 7
+SELECT id FROM t ORDER BY v LIMIT 1, 2
+    id: 7 | -2
+SELECT id FROM t ORDER BY v DESC LIMIT 3
+    id: 2 | 3 | 4
+SELECT id FROM t ORDER BY v DESC LIMIT 4, 5
+    id: 1 | 7
+SELECT id FROM t ORDER BY v LIMIT 6
+    id: 1 | 7 | -2 | 4 | 2 | 3
+SELECT id FROM t ORDER BY v LIMIT 100
+    id: 1 | 7 | -2 | 4 | 2 | 3
+SELECT id FROM t ORDER BY v LIMIT 100, 1
+    id:
+SELECT id FROM t ORDER BY name DESC LIMIT 2
+    id: -2 | 7
+SELECT id FROM t ORDER BY name LIMIT 2, 2
+    id: 4 | 1
+SELECT id FROM t ORDER BY v DESC, id DESC LIMIT 3
+    id: 3 | 2 | 4
+SELECT id FROM t ORDER BY v LIMIT 0
+    id:
+SELECT id FROM t ORDER BY v LIMIT 3, 0
+    id:
+SELECT id FROM t ORDER BY v LIMIT 18446744073709551615
+    id: 1 | 7 | -2 | 4 | 2 | 3
+SELECT a.id, b.id FROM t a, t b ORDER BY b.v DESC, a.v LIMIT 4
+    id, id: 1, 2 | 1, 3 | 7, 2 | 7, 3
+SELECT a.id, b.id FROM t a, t b WHERE a.id < b.id ORDER BY b.name DESC LIMIT 3, 4
+    id, id: 3, 7 | 4, 7 | -2, 1 | -2, 4
+SELECT a.id, b.id, c.id FROM s a, s b, s c ORDER BY c.note, b.t_id DESC, a.id DESC LIMIT 5
+    id, id, id: 5, 5, 4 | 4, 5, 4 | 3, 5, 4 | 2, 5, 4 | 1, 5, 4
+SELECT a.id, b.id, c.id FROM s a, s b, s c ORDER BY c.note DESC, a.note LIMIT 70, 6
+    id, id, id: 3, 1, 1 | 3, 1, 3 | 3, 2, 1 | 3, 2, 3 | 3, 3, 1 | 3, 3, 3
+; LIMIT 0
+SELECT COUNT(*) FROM t LIMIT 0
+    COUNT(*):
+SELECT SUM(v), MAX(name) FROM t, s LIMIT 0
+    SUM(v), MAX(name):
+SELECT COUNT(*) FROM t LIMIT 1, 1
+    COUNT(*):
+SELECT COUNT(*) FROM t LIMIT 0, 1
+    COUNT(*): 6
 "#;
 
 /// Comparisons, also with NULL.

@@ -184,6 +184,8 @@ fn comparison(sign: &str) -> Op {
         "=" => Op::Eq,
         "<>" => Op::Ne,
         "<" => Op::Lt,
+        "<=" => Op::Le,
+        ">=" => Op::Ge,
         _ => Op::Gt,
     }
 }

@@ -51,6 +51,18 @@ pub const ROWS_THAT_CHANGE_ARE_PUT: &[Case<'static>] = &[
         Asked::Update("t", "b=0", "a < 20"),
         "1: put d.t 1,10,0,'x','abcde'",
     ),
+    // the rows up to a key, and from one on
+    (
+        "d",
+        Asked::Update("t", "b=0", "id < 2"),
+        "1: put d.t 1,10,0,'x','abcde'",
+    ),
+    (
+        "d",
+        Asked::Update("t", "b=0", "id >= 2"),
+        "2: put d.t 2,NULL,0,NULL,'ab'; put d.t 3,30,0,'abc',NULL",
+    ),
+    ("d", Asked::Update("t", "b=0", "id > 9"), "0"),
 ];
 
 pub const ASSIGNMENTS_SEE_EARLIER_ONES: &[Case<'static>] = &[
@@ -192,6 +204,26 @@ pub const ROWS_GO: &[Case<'static>] = &[
         "3: del d.t 1; del d.t 2; del d.t 3",
     ),
     ("d", Asked::Delete("d.t", "id = 2"), "1: del d.t 2"),
+    // the first and the last key, and keys that aren't there
+    ("d", Asked::Delete("t", "id = 1"), "1: del d.t 1"),
+    ("d", Asked::Delete("t", "id = 3"), "1: del d.t 3"),
+    ("d", Asked::Delete("t", "id = 0"), "0"),
+    ("d", Asked::Delete("t", "id = 4"), "0"),
+    ("d", Asked::Delete("t", "id = NULL"), "0"),
+    ("d", Asked::Delete("t", "id < 1"), "0"),
+    (
+        "d",
+        Asked::Delete("t", "id <= 2"),
+        "2: del d.t 1; del d.t 2",
+    ),
+    ("d", Asked::Delete("t", "id > 1"), "2: del d.t 2; del d.t 3"),
+    ("d", Asked::Delete("t", "id >= 3"), "1: del d.t 3"),
+    ("d", Asked::Delete("t", "id > 3"), "0"),
+    (
+        "d",
+        Asked::Delete("t", "id <> 2"),
+        "2: del d.t 1; del d.t 3",
+    ),
     ("d", Asked::Delete("t", "b > 5"), "2: del d.t 2; del d.t 3"),
     ("d", Asked::Delete("t", "b < 0"), "0"),
     // a condition that is unknown keeps no row
