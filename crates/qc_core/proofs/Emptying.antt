@@ -1,9 +1,10 @@
 -- Entries are taken out one after another, before the event that says so.
 use Rattle.std.proofs.Common.{◌≡◌, ℕ, ◌-◌, Bool, true, false, cond, List, [], ◌∷◌, ◌++◌, map, refl, sym, ap, subst, ◌∙◌}
 use Rattle.std.specs.Prelude.{not, ◌||◌, Some}
-use Rattle.std.specs.List.{list_any, filter, AllByRecursion}
+use Rattle.std.specs.List.{list_any, list_all, filter, AllByRecursion}
 use Rattle.qc_types.specs.declared.names.TableName.{TableName}
-use Rattle.qc_sql.specs.Database.{apply}
+use Rattle.qc_sql.specs.declared.tables.RowOp.{RowOp}
+use Rattle.qc_sql.specs.Database.{Database, apply}
 use Rattle.qc_model.specs.declared.events.Who.{Who}
 use Rattle.qc_model.specs.declared.events.Event.{Event}
 use Rattle.qc_model.specs.declared.events.Event.TheVariants as event
@@ -16,16 +17,20 @@ use Rattle.qc_chain.specs.Chains.{Chain as Kept}
 use Rattle.qc_dir.specs.declared.entries.Entry.{Entry}
 use Rattle.qc_dir.specs.declared.tables.TableBlock.{TableBlock}
 use Rattle.qc_dir.specs.Directory.{IsDirectory, entry_at, has_serial}
-use Rattle.qc_sound.specs.PlainServer.{PlainServer, StoredEntry, EntryChain, is_task_on, is_stored, is_wanted}
+use Rattle.qc_sound.specs.Events.{is_small_operation}
+use Rattle.qc_sound.specs.PlainServer.{PlainServer, StoredEntry, EntryChain, is_task_on, is_stored, is_wanted, listed_tasks}
 use Rattle.qc_sound.specs.Moment.{Moment}
 use Rattle.qc_sound.specs.Sound.{IsSound}
 use Rattle.qc_sound.specs.Pending.{NeedsOf}
 use Rattle.qc_sound.specs.parts.Memory.{TilesAreSound, TablesAreSound}
 use Rattle.qc_sound.specs.steps.Events.{OfNone, HasRoom}
-use Rattle.qc_sound.specs.steps.Leaving.{staying, left, GivesBack}
-use Rattle.qc_sound.proofs.Leaves.{reset_step}
+use Rattle.qc_sound.specs.steps.Leaving.{staying, left, is_touched, GivesBack}
+use Rattle.qc_sound.proofs.Filters.{tasks_stay, tasks_wanted}
+use Rattle.qc_sound.proofs.Leaves.{reset_step, commit_step}
 use Rattle.qc_core.specs.declared.parts.Parts.{Parts}
-use Rattle.qc_core.specs.Whole.{Named, IsNamedAs, table_pair, plain, IsWhole, with_event}
+use Rattle.qc_core.specs.Whole.{Named, IsNamedAs, IsNamed, table_pair, plain, IsWhole, with_event, tasks_of}
+use Rattle.qc_core.specs.KeptLaws.{tasks_same}
+use Rattle.qc_core.specs.Commits.{with_database}
 use Rattle.qc_core.specs.Leaves.{MayLeave, Leaves}
 use Rattle.qc_core.specs.Cuts.{BlocksAreSound, cut, is_removed, IsCut}
 use Rattle.qc_core.proofs.Uses.{find_all, begun_at}
@@ -105,8 +110,8 @@ none_stay : (es : List StoredEntry) → [] ≡ staying (λ e. true) es
 none_stay [] = refl
 none_stay (e ∷ es) = none_stay es
 
--- The entries are out that an event takes out, which changes no data.
-module _ (m : Moment) (before : List Named) (serials words : List ℕ) (old t : Parts) (k : IsCut m before serials old t) (e : Event) (gone : StoredEntry → Bool) (same : staying (is_removed serials) (plain before old).entries ≡ staying gone (plain before old).entries) (quiet : operations e ≡ []) where
+-- The entries are out that an event takes out, and the database is the one that it makes.
+module _ (m : Moment) (before : List Named) (serials words : List ℕ) (old t : Parts) (k : IsCut m before serials old t) (e : Event) (gone : StoredEntry → Bool) (same : staying (is_removed serials) (plain before old).entries ≡ staying gone (plain before old).entries) (d : Database) (made : d ≡ apply (operations e) old.database) where
   abbrev p : PlainServer
   p = plain before old
 
@@ -119,9 +124,8 @@ module _ (m : Moment) (before : List Named) (serials words : List ℕ) (old t : 
   cut_gone : plain k.names t ≡ cut gone t.tiles tables p
   cut_gone = k.plain ∙ (λ i. record p { entries = same i; chains = filter (λ (c : EntryChain). is_wanted (same i) p.tasks c.serial) p.chains; table_blocks = tables; tiles = t.tiles })
 
-  plain_is : plain k.names (with_event e t) ≡ now
-  plain_is = (λ i. record (cut_gone i) { journal = (cut_gone i).journal ++ e ∷ []; spare = (cut_gone i).spare - 1 })
-      ∙ (λ i. record (cut gone t.tiles tables p) { journal = p.journal ++ e ∷ []; spare = p.spare - 1; database = ap (λ l. apply l p.database) (sym quiet) i })
+  plain_is : plain k.names (with_event e (with_database d t)) ≡ now
+  plain_is = λ i. record (cut_gone i) { journal = (cut_gone i).journal ++ e ∷ []; spare = (cut_gone i).spare - 1; database = made i }
 
   -- the blocks are given back that nobody wants
   pub gives : GivesBack m p now
@@ -131,7 +135,7 @@ module _ (m : Moment) (before : List Named) (serials words : List ℕ) (old t : 
       record { tiling = tiles.tiling; in_use = tiles.in_use; pinned = k.pinned; tables = record { named = blocks.named; once = blocks.once; words = blocks.words } }
 
   -- and the server is sound with the event where the plain one is
-  pub cut_whole : IsSound m words now → IsWhole m k.names words (with_event e t)
+  pub cut_whole : IsSound m words now → IsWhole m k.names words (with_event e (with_database d t))
   cut_whole sound =
       let b = k.blocks in
       record {
@@ -146,5 +150,22 @@ module _ (m : Moment) (before : List Named) (serials words : List ℕ) (old t : 
 pub reset_whole : (m : Moment) (before : List Named) (serials words : List ℕ) (old t : Parts) (k : IsCut m before serials old t) (who : Who) → IsWhole m before words old → staying (is_removed serials) (plain before old).entries ≡ [] → IsLicensed old.options old.journal.events (event.Reset who) → NeedsOf old.options m.next (old.journal.events ++ event.Reset who ∷ []) → OfNone (event.Reset who) (plain before old).tasks → HasRoom (plain before old) → IsWhole m k.names words (with_event (event.Reset who) t)
 reset_whole m before serials words old t k who h all licensed needs none room =
     let p = plain before old in
+    let e = event.Reset who in
     let same = all ∙ none_stay p.entries in
-    cut_whole m before serials words old t k (event.Reset who) (λ e. true) same refl (reset_step m words p who t.tiles (map table_pair t.dir.tables) h.sound licensed needs none room (gives m before serials words old t k (event.Reset who) (λ e. true) same refl))
+    let made : t.database ≡ old.database = ap (λ (x : Parts). x.database) k.others in
+    cut_whole m before serials words old t k e (λ e. true) same t.database made (reset_step m words p who t.tiles (map table_pair t.dir.tables) h.sound licensed needs none room (gives m before serials words old t k e (λ e. true) same t.database made))
+
+-- a commit, where those are out that use a table which it touches
+pub commit_whole : (m : Moment) (before : List Named) (serials words : List ℕ) (old t : Parts) (k : IsCut m before serials old t) (who : Who) (ops : List RowOp) → IsWhole m before words old → staying (is_removed serials) (plain before old).entries ≡ staying (is_touched (event.Commit who ops)) (plain before old).entries → IsLicensed old.options old.journal.events (event.Commit who ops) → list_all is_small_operation ops ≡ true → NeedsOf old.options m.next (old.journal.events ++ event.Commit who ops ∷ []) → OfNone (event.Commit who ops) (plain before old).tasks → HasRoom (plain before old) → IsWhole m k.names words (with_event (event.Commit who ops) (with_database (apply ops old.database) t))
+commit_whole m before serials words old t k who ops h same licensed small needs none room =
+    let p = plain before old in
+    let e = event.Commit who ops in
+    let d = apply ops old.database in
+    cut_whole m before serials words old t k e (is_touched e) same d refl (commit_step m words p who ops t.tiles (map table_pair t.dir.tables) h.sound licensed small needs none room (gives m before serials words old t k e (is_touched e) same d refl))
+
+-- what is listed stays
+pub cut_tasks : (m : Moment) (before : List Named) (serials : List ℕ) (old t : Parts) → IsCut m before serials old t → IsNamed before old → tasks_of t ≡ tasks_of old
+cut_tasks m before serials old t k named =
+    let p = plain before old in
+    let es = staying (is_removed serials) p.entries in
+    tasks_same k.names t k.blocks.named ∙ (ap listed_tasks k.plain ∙ (tasks_stay (is_wanted es p.tasks) p.chains p.tasks (tasks_wanted es p.tasks) ∙ sym (tasks_same before old named)))

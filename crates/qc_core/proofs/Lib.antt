@@ -39,4 +39,8 @@ pub mod Filling
 pub mod Trimming
 pub mod Completing
 pub mod Emptying
+pub mod Dropping
+pub mod Touching
+pub mod Resetting
+pub mod Committing
 mod examples

@@ -1,10 +1,11 @@
 -- Entries are taken out before the event that says so.
-use Rattle.std.specs.Prelude.{◌≡◌, ℕ, Bool, true, List, map}
+use Rattle.std.specs.Prelude.{◌≡◌, ℕ, Bool, true, List, [], ◌∷◌, map}
 use Rattle.std.specs.List.{list_any, filter, AllByRecursion}
 use Rattle.qc_types.specs.declared.names.TableName.{TableName}
 use Rattle.qc_laws.specs.history.Runs.{are_distinct}
 use Rattle.qc_tiles.specs.declared.blocks.Tile.{Tile}
 use Rattle.qc_tiles.specs.declared.blocks.Block.{Block}
+use Rattle.qc_dir.specs.declared.tables.TableBlock.{TableBlock}
 use Rattle.qc_dir.specs.Directory.{IsDirectory}
 use Rattle.qc_sound.specs.PlainServer.{PlainServer, StoredEntry, is_stored, is_wanted}
 use Rattle.qc_sound.specs.Moment.{Moment}
@@ -12,6 +13,7 @@ use Rattle.qc_sound.specs.parts.Memory.{TilesAreSound, TablesAreSound, pinned_bl
 use Rattle.qc_sound.specs.steps.Leaving.{staying}
 use Rattle.qc_core.specs.declared.parts.Parts.{Parts}
 use Rattle.qc_core.specs.Whole.{Named, IsNamed, SeatsAreSound, RoomIsSound, plain, table_pair}
+use Rattle.qc_core.specs.Leaves.{MayLeave, Leaves}
 
 -- the part of soundness that stays while a call takes entries out: that of the blocks, whatever the journal says
 pub record BlocksAreSound (m : Moment) (names : List Named) (s : Parts) : Type 0 where
@@ -29,6 +31,24 @@ pub record BlocksAreSound (m : Moment) (names : List Named) (s : Parts) : Type 0
 -- entries are out, and the chains that neither an entry nor a task is on
 abbrev pub cut : (StoredEntry → Bool) → List Tile → List (TableName × Block) → PlainServer → PlainServer
 cut gone tiles blocks p = record p { entries = staying gone p.entries; chains = filter (λ c. is_wanted (staying gone p.entries) p.tasks c.serial) p.chains; table_blocks = blocks; tiles = tiles }
+
+-- the blocks of a server that stands, or of one whose call takes entries out, are sound
+pub record HasSoundBlocks (s : Parts) : Type 0 where
+  pub moment : Moment
+  pub names : List Named
+  pub sound : BlocksAreSound moment names s
+
+-- the entry with a serial left, and its blocks were given back
+pub record LeavesAlone (n : ℕ) (old new : Parts) : Type 0 where
+  pub may : MayLeave n old
+  pub freed : List TableBlock
+  pub left : Leaves n may.entry may.held freed old new
+  pub valid : IsDirectory new.dir
+
+-- the entries with these serials left one after another, the last of the list first
+abbrev pub LeaveInTurn : List ℕ → Parts → Parts → Type 0
+LeaveInTurn [] old new = new ≡ old
+LeaveInTurn (n ∷ ns) old new = (mid : Parts) × LeaveInTurn ns old mid × LeavesAlone n mid new
 
 -- the entries with these serials
 abbrev pub is_removed : List ℕ → StoredEntry → Bool

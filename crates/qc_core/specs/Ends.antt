@@ -12,7 +12,7 @@ use Rattle.qc_model.specs.Session.{answer}
 use Rattle.qc_tiles.specs.declared.blocks.Block.{Block}
 use Rattle.qc_chain.specs.Words.{words_of}
 use Rattle.qc_chain.specs.Chains.{Chain, chain_at, with_chain, cut_chain, after_cut, used_words, EndsInLast}
-use Rattle.qc_dir.specs.Directory.{entry_at}
+use Rattle.qc_dir.specs.Directory.{entry_at, after_complete, with_entries}
 use Rattle.qc_sound.specs.parts.Contents.{text_of}
 use Rattle.qc_core.specs.Pins.{after_unpins}
 use Rattle.qc_turn.specs.declared.task.Task.TheVariants as task
@@ -20,8 +20,8 @@ use Rattle.qc_turn.specs.Tasks.{listed_for}
 use Rattle.qc_sound.specs.Moment.{at_rest}
 use Rattle.qc_core.specs.declared.parts.RunningTask.{RunningTask}
 use Rattle.qc_core.specs.declared.parts.Parts.{Parts}
-use Rattle.qc_core.specs.Whole.{Named, IsWhole, tasks_of}
-use Rattle.qc_core.specs.Strikes.{is_of, blocks_of_chain, MayLetGo}
+use Rattle.qc_core.specs.Whole.{Named, IsWhole, tasks_of, with_event}
+use Rattle.qc_core.specs.Strikes.{is_of, without_task_of, blocks_of_chain, MayLetGo}
 
 -- the event was added, and what it says nothing of stays
 pub record EndsBy (e : Event) (old new : Parts) : Type 0 where
@@ -78,6 +78,17 @@ cut_as number bytes (Some held) s = record s {
 
 abbrev pub cut_to : ℕ → ℕ → Parts → Parts
 cut_to number bytes s = cut_as number bytes (chain_at number s.chains) s
+
+-- the entry is complete, and the most recently used one
+abbrev pub with_complete : ℕ → Parts → Parts
+with_complete n s = record s { dir = with_entries (after_complete n s.dir.entries) s.dir }
+
+-- The seat's fill is out, its chain is unpinned and cut to the words that so many bytes use, the entry is complete and the most recently used one, and the
+-- event was added. Nothing else changed.
+pub record IsDone (seat serial bytes : ℕ) (old new : Parts) : Type 0 where
+  pub work : RunningTask
+  pub at : find (is_of seat) old.tasks.items ≡ Some work
+  pub server : new ≡ with_event (event.Done serial) (with_complete serial (cut_to work.chain.number bytes (without_task_of seat old)))
 
 -- the server is sound, the seat fills the entry, which is there, and has stored its whole answer
 pub record MayComplete (seat serial bytes : ℕ) (s : Parts) : Type 0 where

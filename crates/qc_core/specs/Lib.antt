@@ -20,3 +20,5 @@ pub mod Ends
 pub mod Starts
 pub mod Plains
 pub mod Overtaken
+pub mod Resets
+pub mod Commits

@@ -11,7 +11,7 @@ ghost use Rattle.qc_core.specs.Whole.{tasks_of};
 ghost use Rattle.qc_core.specs.Calls.{ListsFill, StoresWhole, MayBeGone};
 ghost use Rattle.qc_core.specs.Strikes.{rested};
 ghost use Rattle.qc_core.specs.Overtaken.{WasOvertaken, IsOvertaken};
-ghost use Rattle.qc_core.specs.Ends.{MayGiveUpFill, MayComplete, MayCut, cut_to, EndsFill, EndsBy};
+ghost use Rattle.qc_core.specs.Ends.{MayGiveUpFill, MayComplete, MayCut, cut_to, EndsFill, EndsBy, IsDone};
 
 use crate::overtakings::overtaken;
 use crate::parts::Parts;
@@ -38,6 +38,7 @@ impl Parts {
         requires { MayComplete seat serial bytes self.old }
         ensures number { result ≡ length self.new.journal.events }
         ensures ends { (u : MayComplete seat serial bytes self.old) → EndsFill (event.Done serial) seat u.words self.old self.new }
+        ensures done { IsDone seat serial bytes self.old self.new }
     {
         let Some(ended) = self.take_task(seat) else {
             unreachable!()
@@ -79,6 +80,7 @@ impl Server {
         requires { MayComplete seat serial bytes self.old }
         ensures number { result ≡ length self.new.journal.events }
         ensures ends { (u : MayComplete seat serial bytes self.old) → EndsFill (event.Done serial) seat u.words self.old self.new }
+        ensures done { IsDone seat serial bytes self.old self.new }
     {
         self.parts.complete(seat, serial, bytes)
     }
@@ -92,7 +94,8 @@ impl Server {
     }
 }
 
-/// Completes the entry that the seat fills, and answers the number of its event. Where the entry has left, it answers the number of the event that
+/// Completes the entry that the seat fills, which is the most recently used one then, and answers the number of its event. The chain is unpinned, and cut to
+/// the words that the bytes use. Where the entry has left, it answers the number of the event that
 /// overtook the fill: the first commit on one of its tables, or reset, after its start. After either the seat has no task. It takes no memory.
 pub fn done(held: &mut Held<'_, Server>, serial: u64, bytes: u32) -> Result<u64, u64>
     requires stands { MayRelease held.old }
@@ -100,7 +103,7 @@ pub fn done(held: &mut Held<'_, Server>, serial: u64, bytes: u32) -> Result<u64,
     requires stored { StoresWhole serial bytes held.old }
     ensures stands { MayRelease held.new × SameHolder held.old held.new }
     ensures there { is_ok result ≡ is_some (entry_of serial (cache held.old.value.journal.events)) }
-    ensures ok { IfOk result (λ place. (place ≡ length held.new.value.journal.events) × EndsBy (event.Done serial) held.old.value held.new.value) }
+    ensures ok { IfOk result (λ place. (place ≡ length held.new.value.journal.events) × EndsBy (event.Done serial) held.old.value held.new.value × IsDone (holder held.old).number serial bytes held.old.value held.new.value) }
     ensures err { IfErr result (λ by. IsOvertaken held.old.value.journal.events serial by × (held.new.value ≡ rested (holder held.old).number held.old.value)) }
     ensures rests { listed_for (holder held.old).number (tasks_of held.new.value) ≡ [] }
     ensures ranges { held.new.ranges ≡ held.old.ranges }
@@ -120,6 +123,7 @@ fn end_done(held: &mut Held<'_, Server>, serial: u64, bytes: u32) -> u64
     ensures stands { MayRelease held.new × SameHolder held.old held.new }
     ensures number { result ≡ length held.new.value.journal.events }
     ensures ends { EndsBy (event.Done serial) held.old.value held.new.value }
+    ensures done { IsDone (holder held.old).number serial bytes held.old.value held.new.value }
     ensures rests { listed_for (holder held.old).number (tasks_of held.new.value) ≡ [] }
     ensures ranges { held.new.ranges ≡ held.old.ranges }
 {

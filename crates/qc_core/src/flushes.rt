@@ -1,9 +1,10 @@
 //! Blocks move down to lower places.
 
-ghost use Rattle.std.specs.Prelude.{◌≡◌, ℕ, List, length, IfSome, IfNone};
+ghost use Rattle.std.specs.Prelude.{◌≡◌, ℕ, List, [], length, IfSome, IfNone};
 ghost use Rattle.qc_model.specs.declared.events.Event.TheVariants as event;
 ghost use Rattle.qc_tiles.specs.Tiles.{IsTiling, movable};
 ghost use Rattle.qc_dir.specs.Directory.{IsDirectory};
+ghost use Rattle.qc_turn.specs.Tasks.{listed_for};
 ghost use Rattle.qc_turn.specs.declared.view.FoundWord.{FoundWord};
 ghost use Rattle.qc_turn.specs.Seats.{MayRelease, SameHolder, holder};
 ghost use Rattle.qc_core.specs.declared.parts.Parts.{Parts};
@@ -99,6 +100,7 @@ pub fn flush(held: &mut Held<'_, Server>, who: Who) -> u64
     ensures number { result ≡ length held.new.value.journal.events }
     ensures flushed { (found : List FoundWord) × ReadsStreams (holder held.old).number held.old.value found × Finds held.old held.new found
         × (mid : Parts) × IsCompacted (swept found held.old.value) mid × (held.new.value ≡ with_event (event.Flush who) mid) }
+    ensures rests { listed_for (holder held.old).number (tasks_of held.new.value) ≡ [] }
 {
     strike_ended(held);
     compact(held);

@@ -3,6 +3,7 @@
 
 mod allocates;
 mod begins;
+mod commits;
 mod counted;
 mod ends;
 mod flushes;
@@ -17,6 +18,7 @@ mod parts;
 mod pins;
 mod plains;
 mod reserved;
+mod resets;
 mod rivals;
 mod rooms;
 mod seats;
@@ -25,6 +27,7 @@ mod statuses;
 mod strikes;
 mod sweeps;
 
+pub use commits::commit;
 pub use counted::CountedJournal;
 pub use ends::{done, gone};
 pub use flushes::flush;
@@ -36,6 +39,7 @@ pub use parts::{Parts, RunningTask};
 pub use pins::Unpinner;
 pub use plains::plain;
 pub use reserved::ReservedList;
+pub use resets::reset;
 pub use rivals::rival;
 pub use rooms::reserve;
 pub use seats::{Full, enter, leave};

@@ -1,9 +1,11 @@
 //! SHOW STATUS.
 
-ghost use Rattle.std.specs.Prelude.{◌≡◌, List};
+ghost use Rattle.std.specs.Prelude.{◌≡◌, List, []};
 ghost use Rattle.qc_tiles.specs.Tiles.{totals_of};
 ghost use Rattle.qc_turn.specs.declared.view.FoundWord.{FoundWord};
+ghost use Rattle.qc_turn.specs.Tasks.{listed_for};
 ghost use Rattle.qc_turn.specs.Seats.{MayRelease, SameHolder, holder};
+ghost use Rattle.qc_core.specs.Whole.{tasks_of};
 ghost use Rattle.qc_core.specs.Calls.{IsNext, HasSpare};
 ghost use Rattle.qc_core.specs.Sweeps.{swept, ReadsStreams, Finds};
 ghost use Rattle.qc_core.specs.Statuses.{TellsStatus};
@@ -32,6 +34,7 @@ pub fn status(held: &mut Held<'_, Server>, who: Who) -> (u64, Counters, Totals)
     requires room { HasSpare held.old.value }
     ensures stands { MayRelease held.new }
     ensures told { (found : List FoundWord) × ReadsStreams (holder held.old).number held.old.value found × Finds held.old held.new found × TellsStatus who (swept found held.old.value) held.new.value result }
+    ensures rests { listed_for (holder held.old).number (tasks_of held.new.value) ≡ [] }
 {
     strike_ended(held);
     push_status(held, who)

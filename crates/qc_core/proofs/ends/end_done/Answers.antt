@@ -3,7 +3,7 @@ use Rattle.qc_model.specs.declared.events.Event.TheVariants as event
 use Rattle.qc_turn.specs.Views.{idle_of}
 use Rattle.qc_turn.specs.Seats.{words, holder}
 use Rattle.qc_core.specs.declared.parts.Parts.{Parts}
-use Rattle.qc_core.specs.Ends.{MayComplete, EndsFill}
+use Rattle.qc_core.specs.Ends.{MayComplete, EndsFill, IsDone}
 use Rattle.qc_core.proofs.Standing.{value_stands}
 use Rattle.qc_core.proofs.Filling.{fills_of, ends_follows}
 use Rattle.qc_core.proofs.Completing.{stored_chain}
@@ -50,3 +50,6 @@ returns-clause-rests c =
     let ev = event.Done c.args.serial in
     let ends = subst (λ (p : ℕ × Parts). (u : MayComplete p.0 c.args.serial c.args.bytes p.1) → EndsFill ev p.0 u.words p.1 c.complete.new.self) (λ i. (c.number-seat.ensures i, c.value.ensures.value i)) c.complete.ensures.ends u in
     ends.rests
+
+pub returns-clause-done : goal.returns-clause-done
+returns-clause-done c = subst (λ (p : ℕ × Parts). IsDone p.0 c.args.serial c.args.bytes p.1 c.complete.new.self) (λ i. (c.number-seat.ensures i, c.value.ensures.value i)) c.complete.ensures.done

@@ -1,4 +1,6 @@
-use Rattle.std.proofs.Common.{◌<◌, sym, subst}
+use Rattle.std.proofs.Common.{◌<◌, sym, ap, subst, ◌∙◌}
+use Rattle.qc_turn.specs.Tasks.{listed_for}
+use Rattle.qc_core.specs.Whole.{tasks_of}
 use Rattle.qc_journal.specs.Room.{Recorded}
 use Rattle.qc_model.specs.Cache.{cache}
 use Rattle.qc_sound.specs.parts.Journal.{reserved}
@@ -42,3 +44,9 @@ returns-clause-flushed c =
       subst (λ (s : Parts). IsCompacted s m.value) w.2.value d.compacted,
       p.pushed,
     )
+
+pub returns-clause-rests : goal.returns-clause-rests
+returns-clause-rests c =
+    let h = c.args.held.now in
+    let own = λ (s : Parts). listed_for (holder h).number (tasks_of s) in
+    ap own c.push_flush.ensures.pushed ∙ (ap (listed_for (holder h).number) c.compact.ensures.listed ∙ (c.strike_ended.ensures.swept.2.listed ∙ c.requires.next.free))

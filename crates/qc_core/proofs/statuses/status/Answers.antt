@@ -1,4 +1,6 @@
-use Rattle.std.proofs.Common.{subst}
+use Rattle.std.proofs.Common.{ap, subst, ◌∙◌}
+use Rattle.qc_turn.specs.Tasks.{listed_for}
+use Rattle.qc_core.specs.Whole.{tasks_of}
 use Rattle.qc_turn.specs.Seats.{holder}
 use Rattle.qc_core.specs.declared.parts.Parts.{Parts}
 use Rattle.qc_core.specs.Statuses.{TellsStatus}
@@ -19,3 +21,9 @@ returns-clause-told c =
     let w = c.strike_ended.ensures.swept in
     let p = c.push_status.ensures in
     (w.0, w.3, finds_same h k m w.0 w.1 p.stands.1 p.ranges, subst (λ (s : Parts). TellsStatus c.args.who s m.value c.push_status.result) w.2.value p.told)
+
+pub returns-clause-rests : goal.returns-clause-rests
+returns-clause-rests c =
+    let h = c.args.held.now in
+    let own = λ (s : Parts). listed_for (holder h).number (tasks_of s) in
+    ap own c.push_status.ensures.told.server ∙ (c.strike_ended.ensures.swept.2.listed ∙ c.requires.next.free)

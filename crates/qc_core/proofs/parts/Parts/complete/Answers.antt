@@ -8,7 +8,7 @@ use Rattle.qc_core.specs.declared.parts.RunningTask.{RunningTask}
 use Rattle.qc_core.specs.declared.parts.Parts.{Parts}
 use Rattle.qc_core.specs.Whole.{with_event}
 use Rattle.qc_core.specs.Strikes.{without_task_of}
-use Rattle.qc_core.specs.Ends.{MayCut, cut_to, EndsFill}
+use Rattle.qc_core.specs.Ends.{MayCut, cut_to, with_complete, EndsFill}
 use Rattle.qc_core.proofs.Struck.{once_each}
 use Rattle.qc_core.proofs.Completing.{may_cut, some_room, completed, cut_journal}
 use Rattle.qc_core.proofs.parts.Parts.complete.Goals as goal
@@ -40,3 +40,16 @@ returns-clause-ends c = λ u.
     let is : x ≡ cut_to u.fills.work.chain.number c.args.bytes (without_task_of c.args.seat s) = c.cut_chain.ensures ∙ (λ i. cut_to (ended i).chain.number c.args.bytes (same i)) in
     let ends = completed c.args.seat c.args.serial c.args.bytes s u x is (subst IsDirectory c.complete.ensures.entries c.complete.ensures.valid) in
     subst (EndsFill ev c.args.seat u.words s) (sym (c.push.ensures.pushed ∙ (λ i. with_event ev (record x { dir = c.complete.ensures.entries i })))) ends
+
+pub returns-clause-done : goal.returns-clause-done
+returns-clause-done c =
+    let n = c.args.serial in
+    let x = c.cut_chain.new.self in
+    let ev = event.Done n in
+    let ended = c.in-Some.ended in
+    let same : c.take_task.new.self ≡ without_task_of c.args.seat c.args.self.now = (c.in-Some.ensures {u = tt}).some in
+    record {
+      work = ended;
+      at = sym c.take_task.ensures.found ∙ c.in-Some.is;
+      server = c.push.ensures.pushed ∙ ((λ i. with_event ev (record x { dir = c.complete.ensures.entries i })) ∙ ap (λ (z : Parts). with_event ev (with_complete n z)) (c.cut_chain.ensures ∙ ap (cut_to ended.chain.number c.args.bytes) same));
+    }
