@@ -20,3 +20,7 @@ pub mod Ends
 pub mod Starts
 pub mod Plains
 pub mod Overtaken
+pub mod Hands
+pub mod Takes
+pub mod Texts
+pub mod Adds
