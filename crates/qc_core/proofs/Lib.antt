@@ -39,4 +39,14 @@ pub mod Filling
 pub mod Trimming
 pub mod Completing
 pub mod Emptying
+pub mod Handing
+pub mod Sorting
+pub mod Dropping
+pub mod Keeping
+pub mod Searching
+pub mod GivingBack
+pub mod Drawing
+pub mod Storing
+pub mod Adding
+pub mod Starting
 mod examples

@@ -42,7 +42,7 @@ pub record MayAdd (serial : ℕ) (hand : Hand) (t : Taken) (s : Parts) (wide : �
   pub tiling : IsTiling (region_words s.tiles) s.tiles
   pub out : Contains (handed_out s.tiles) t.first
   pub ranges : 0 < wide
-  pub serial : entry_at serial s.dir.entries ≡ None
+  pub absent : entry_at serial s.dir.entries ≡ None
   pub few : length hand.tables ≤ 8
   pub room : 0 < s.dir.room
   pub table_room : length hand.fresh ≤ s.dir.table_room
@@ -69,7 +69,7 @@ module _ {K : Ghosts Parts Event} where
   pub record HoldsBlocks (who : Who) (serial : ℕ) (key : List ℕ) (tables : List TableName) (hand : Hand) (t : Taken) (h : Held Parts Event K) : Type 0 where
     pub held : IsHeld h
     pub follows : Follows K (holder h).number (idle_of (holder h).found) (taken h) h.value
-    pub tables : hand.tables ≡ tables
+    pub same : hand.tables ≡ tables
     pub starting : IsStarting (starts who serial key tables) (words h) [] (t.text ∷ t.first ∷ []) hand h.value
     pub next : IsNext h who
     pub room : HasStartRoom h.value

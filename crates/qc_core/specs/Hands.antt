@@ -22,13 +22,13 @@ pub record AreSorted (tables : List TableName) (kept others : List TableBlock) :
   pub foreign : AllByRecursion (λ b. list_any (same_table b.table) tables ≡ false) others
 
 -- Of some blocks those of the hand's tables came into the hand, and the others were given back.
-pub record Sorts (freed : List TableBlock) (old new : Hand) (tiles after : List Tile) : Type 0 where
+pub record Sorts (freed : List TableBlock) (old new : Hand) (ts us : List Tile) : Type 0 where
   pub kept : List TableBlock
   pub others : List TableBlock
   pub parts : IsPermutation freed (kept ++ others)
   pub sorts : AreSorted old.tables kept others
   pub hand : new ≡ record { tables = old.tables; fresh = old.fresh ++ kept }
-  pub tiles : after ≡ after_release (table_blocks others) tiles
+  pub tiles : us ≡ after_release (table_blocks others) ts
 
 -- how many of the blocks, and of the names, are of a table
 abbrev pub blocks_of : TableName → List TableBlock → ℕ

@@ -122,11 +122,11 @@ pub record Starts (seat : ℕ) (who : Who) (key : List ℕ) (tables : List Table
   pub ranges : after ≡ record { blocks = first ∷ []; bytes = 8 * first.words; room = before.room }
 
 -- One of the needs got no block, what was taken was given back, and the event pushed that says so.
-pub record LacksRoomFor (who : Who) (key : List ℕ) (tables : List TableName) (old new : Parts) (before after : Ranged) (need largest place : ℕ) : Type 0 where
+pub record LacksRoomFor (who : Who) (key : List ℕ) (tables : List TableName) (old new : Parts) (before after : Ranged) (need largest number : ℕ) : Type 0 where
   pub mid : Parts
   pub short : IsShortOf (needs_of old.options old.dir.tables tables key) old mid (record { need = need; largest = largest })
   pub server : new ≡ with_event (event.Run who (how.Plain (reason.NoRoom need largest))) mid
-  pub place : place ≡ length new.journal.events
+  pub place : number ≡ length new.journal.events
   pub ranges : after ≡ before
 
 abbrev pub IsBegun : ℕ → Who → List ℕ → List TableName → Parts → Parts → Ranged → Ranged → Answer → Type 0

@@ -2,6 +2,7 @@
 use Rattle.std.specs.Prelude.{◌≡◌, ℕ, ◌+◌, ◌<◌, ◌≤◌, true, List, [], ◌∷◌, ◌++◌, map, length, Option, Some, None, IsPermutation}
 use Rattle.std.specs.List.{AllByRecursion}
 use Rattle.qc_types.specs.declared.names.TableName.{TableName}
+use Rattle.qc_types.specs.declared.options.Options.{Options}
 use Rattle.qc_types.specs.Blocks.{least_block, raised}
 use Rattle.qc_key.specs.Hash.{hash}
 use Rattle.qc_model.specs.declared.events.Event.{Event}
@@ -37,11 +38,11 @@ abbrev pub holds : Option Event → List Block → Moment
 holds next held = record { hash = hash; next = next; held = held }
 
 -- The server is sound but for the start, which holds the blocks in hand and these others, and each of its tables has one block, or is missing.
-pub record IsStarting (next : Option Event) (words : List ℕ) (missing : List TableName) (others : List Block) (hand : Hand) (s : Parts) : Type 0 where
+pub record IsStarting (next : Option Event) (words : List ℕ) (missing : List TableName) (others : List Block) (mine : Hand) (s : Parts) : Type 0 where
   pub names : List Named
-  pub whole : IsWhole (holds next (table_blocks hand.fresh ++ others)) names words s
-  pub hand : IsInHand hand missing s.dir.tables
-  pub small : AllByRecursion (λ b. b.block.words ≤ 127) hand.fresh
+  pub whole : IsWhole (holds next (table_blocks mine.fresh ++ others)) names words s
+  pub hand : IsInHand mine missing s.dir.tables
+  pub small : AllByRecursion (λ b. b.block.words ≤ 127) mine.fresh
 
 -- there is as much room for events, beside those that entries may still have
 abbrev pub KeepsRoom : Parts → Parts → Type 0
@@ -85,20 +86,25 @@ pub record PrunesKeeping (need : ℕ) (next : Option Event) (words : List ℕ) (
   pub tables : after.tables ≡ before.tables
   pub room : KeepsRoom old new
 
--- some entries were pruned, and then the block was taken that the need gets
-pub record TakesKeeping (need : ℕ) (next : Option Event) (words : List ℕ) (missing : List TableName) (others : List Block) (before after : Hand) (old : Parts) (block : Block) (new : Parts) : Type 0 where
-  pub takes : TakesOne need old block new
-  pub starting : IsStarting next words missing (block ∷ others) after new
+-- some entries went, one after another
+pub record PrunesSome (need : ℕ) (next : Option Event) (words : List ℕ) (missing : List TableName) (others : List Block) (before after : Hand) (old new : Parts) : Type 0 where
+  pub count : ℕ
+  pub prunes : PrunesMany need count old new
+  pub starting : IsStarting next words missing others after new
   pub tables : after.tables ≡ before.tables
   pub room : KeepsRoom old new
 
--- some entries were pruned, and yet no free block holds the need: a run without room is licensed
-pub record FallsShort (need : ℕ) (next : Option Event) (words : List ℕ) (missing : List TableName) (others : List Block) (before after : Hand) (old new : Parts) (e : NoTile) : Type 0 where
-  pub count : ℕ
-  pub prunes : PrunesMany need count old new
-  pub lacks : LacksTile need new e
-  pub licensed : LacksRoom new.options new.journal.events need (largest_free new.tiles)
-  pub starting : IsStarting next words missing others after new
+-- No free block holds the need, and no entry is left that is complete and without users: a run without room is licensed.
+pub record HasNone (need : ℕ) (s : Parts) (e : NoTile) : Type 0 where
+  pub lacks : LacksTile need s e
+  pub licensed : LacksRoom s.options s.journal.events need (largest_free s.tiles)
+
+-- some entries were pruned, and then the block was taken that the need gets
+pub record TakesKeeping (need : ℕ) (next : Option Event) (words : List ℕ) (missing : List TableName) (others : List Block) (before after : Hand) (old : Parts) (block : Block) (new : Parts) : Type 0 where
+  pub takes : TakesOne need old block new
+  pub large : raised need ≤ block.words
+  pub small : block.words ≤ raised need + 63
+  pub starting : IsStarting next words missing (block ∷ others) after new
   pub tables : after.tables ≡ before.tables
   pub room : KeepsRoom old new
 
@@ -128,9 +134,17 @@ pub record TakesTables (next : Option Event) (words : List ℕ) (missing : List 
   pub tables : after.tables ≡ before.tables
   pub room : KeepsRoom old new
 
+-- the blocks have the words that were asked for, and at most 63 more
+pub record HaveSizes (options : Options) (bytes : ℕ) (taken : Taken) : Type 0 where
+  pub full : unit_words options ≤ taken.first.words
+  pub small : taken.first.words ≤ unit_words options + 63
+  pub few : raised (words_of_bytes bytes) ≤ taken.text.words
+  pub fits : taken.text.words ≤ raised (words_of_bytes bytes) + 63
+
 -- the first block of the chain was taken, and then that of the key
 pub record TakesPair (next : Option Event) (words : List ℕ) (bytes : ℕ) (before after : Hand) (old : Parts) (taken : Taken) (new : Parts) : Type 0 where
   pub takes : Takes (unit_words old.options ∷ raised (words_of_bytes bytes) ∷ []) old (taken.first ∷ taken.text ∷ []) new
+  pub sizes : HaveSizes old.options bytes taken
   pub starting : IsStarting next words [] (taken.text ∷ taken.first ∷ []) after new
   pub tables : after.tables ≡ before.tables
   pub room : KeepsRoom old new
@@ -139,6 +153,7 @@ pub record TakesPair (next : Option Event) (words : List ℕ) (bytes : ℕ) (bef
 pub record TakesAll (next : Option Event) (words : List ℕ) (missing : List TableName) (bytes : ℕ) (before after : Hand) (old : Parts) (taken : Taken) (new : Parts) : Type 0 where
   pub blocks : List Block
   pub takes : Takes (needs_for old.options missing bytes) old (blocks ++ taken.first ∷ taken.text ∷ []) new
+  pub sizes : HaveSizes old.options bytes taken
   pub starting : IsStarting next words [] (taken.text ∷ taken.first ∷ []) after new
   pub tables : after.tables ≡ before.tables
   pub room : KeepsRoom old new

@@ -7,7 +7,7 @@ ghost use Rattle.qc_model.specs.Licence.{unit_words, words_of_bytes};
 ghost use Rattle.qc_tiles.specs.Tiles.{largest_free};
 ghost use Rattle.qc_dir.specs.Directory.{IsDirectory, oldest_idle};
 ghost use Rattle.qc_core.specs.Leaves.{MayLeave, table_blocks};
-ghost use Rattle.qc_core.specs.Takes.{MayKeep, LeavesKeeping, MayTakeOne, PrunesKeeping, TakesKeeping, FallsShort, MayTake, next_of, TakesTables, TakesPair, TakesAll, Stops};
+ghost use Rattle.qc_core.specs.Takes.{MayKeep, LeavesKeeping, MayTakeOne, PrunesKeeping, PrunesSome, HasNone, TakesKeeping, MayTake, next_of, TakesTables, TakesPair, TakesAll, Stops};
 ghost use Rattle.qc_core.specs.Starts.{needs_for};
 
 use crate::hands::Hand;
@@ -64,8 +64,9 @@ impl Parts {
     /// The same as `prune`, but the blocks of the hand's tables come into the hand.
     fn prune_keeping(&mut self, need: u32, hand: &mut Hand) -> Result<(), NoTile>
         requires { MayTakeOne need hand.old self.old }
+        ensures pruned { (u : MayTakeOne need hand.old self.old) → PrunesSome need u.next u.words u.missing u.others hand.old hand.new self.old self.new }
         ensures ok { OnOk result (need ≤ largest_free self.new.tiles) }
-        ensures err { (u : MayTakeOne need hand.old self.old) → IfErr result (λ e. FallsShort need u.next u.words u.missing u.others hand.old hand.new self.old self.new e) }
+        ensures err { IfErr result (λ e. HasNone need self.new e) }
     {
         while self.tiles.largest() < need {
             if !self.prune_one_keeping(need, hand) {
@@ -82,7 +83,7 @@ impl Parts {
     fn allocate_keeping(&mut self, need: u32, hand: &mut Hand) -> Result<Block, NoTile>
         requires { MayTakeOne need hand.old self.old }
         ensures ok { (u : MayTakeOne need hand.old self.old) → IfOk result (λ block. TakesKeeping need u.next u.words u.missing u.others hand.old hand.new self.old block self.new) }
-        ensures err { (u : MayTakeOne need hand.old self.old) → IfErr result (λ e. FallsShort need u.next u.words u.missing u.others hand.old hand.new self.old self.new e) }
+        ensures err { (u : MayTakeOne need hand.old self.old) → IfErr result (λ e. PrunesSome need u.next u.words u.missing u.others hand.old hand.new self.old self.new × HasNone need self.new e) }
     {
         self.prune_keeping(need, hand)?;
         self.tiles.take(need)

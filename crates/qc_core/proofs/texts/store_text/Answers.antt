@@ -1,0 +1,1 @@
+use Rattle.qc_core.proofs.texts.store_text.Goals as goal
