@@ -1,8 +1,9 @@
 -- The blocks of a start, one after another.
-use Rattle.std.proofs.Common.{◌≡◌, ℕ, zero, suc, ◌+◌, ◌<◌, ◌≤◌, max, eqb, eq-eqb, Bool, true, false, List, [], ◌∷◌, ◌++◌, map, length, refl, sym, ap, subst, ◌∙◌, arith, append_assoc, append-nil, length-append}
-use Rattle.std.specs.Prelude.{◌||◌, Option, Some}
+use Rattle.std.proofs.Common.{◌≡◌, ℕ, zero, suc, ◌+◌, ◌<◌, ◌≤◌, max, eqb, eq-eqb, Bool, true, false, List, [], ◌∷◌, ◌++◌, map, length, take, drop, get_or, refl, sym, ap, subst, ◌∙◌, arith, append_assoc, append-nil, length-append}
+use Rattle.std.specs.Prelude.{◌||◌, Option, Some, Result, Ok, Err, IfOk}
+use Rattle.std.specs.Result.{IfErr, IsErrAnd}
 use Rattle.std.specs.List.{AllByRecursion}
-use Rattle.std.proofs.lemmas.List.{map-append}
+use Rattle.std.proofs.lemmas.List.{map-append, take_all, take-append-drop}
 use Rattle.qc_types.specs.declared.names.TableName.{TableName}
 use Rattle.qc_types.specs.declared.options.Options.{Options}
 use Rattle.qc_types.specs.Blocks.{least_block, raised}
@@ -69,25 +70,45 @@ takes_options (x ∷ xs) s t (b ∷ bs) h = takes_options xs h.0 t bs h.2 ∙ on
     one_options : (x : ℕ) (s : Parts) (b : Block) (t : Parts) → TakesOne x s b t → t.options ≡ s.options
     one_options x s b t o = ap (λ (x : Parts). x.options) o.server ∙ (pruned_after x o.count s o.mid o.prunes).options
 
+-- ---- places in a list
+
+drop_at_place : {A : Type 0} (l : List A) (n : ℕ) (x : A) → n < length l → x ≡ get_or l n x → drop n l ≡ x ∷ drop (n + 1) l
+drop_at_place [] n x h e = absurd (omega (arith, h))
+drop_at_place (y ∷ l) zero x h e = let z : 0 + 1 ≡ suc 0 = omega arith in ap (λ w. w ∷ l) (sym e)
+drop_at_place (y ∷ l) (suc n) x h e = let z : suc n + 1 ≡ suc (n + 1) = omega arith in drop_at_place l n x (omega (arith, h)) e ∙ ap (λ k. x ∷ drop k (y ∷ l)) (sym z)
+
+take_at_place : {A : Type 0} (l : List A) (n : ℕ) (x : A) → n < length l → x ≡ get_or l n x → take (n + 1) l ≡ take n l ++ x ∷ []
+take_at_place [] n x h e = absurd (omega (arith, h))
+take_at_place (y ∷ l) zero x h e = let z : 0 + 1 ≡ suc 0 = omega arith in ap (λ k. take k (y ∷ l)) z ∙ (ap (λ k. y ∷ k) (none l) ∙ ap (λ w. w ∷ []) (sym e))
+  where
+    none : {A : Type 0} (l : List A) → take 0 l ≡ []
+    none [] = refl
+    none (x ∷ l) = refl
+take_at_place (y ∷ l) (suc n) x h e = let z : suc n + 1 ≡ suc (n + 1) = omega arith in ap (λ k. take k (y ∷ l)) z ∙ ap (λ k. y ∷ k) (take_at_place l n x (omega (arith, h)) e)
+
+drop_all : {A : Type 0} (n : ℕ) (l : List A) → length l ≤ n → drop n l ≡ []
+drop_all zero [] h = refl
+drop_all (suc n) [] h = refl
+drop_all zero (x ∷ l) h = absurd (omega (arith, h))
+drop_all (suc n) (x ∷ l) h = drop_all n l (omega (arith, h))
+
 -- ---- a table
 
 -- so many of the tables have got their blocks
-pub record Drawing (next : Option Event) (words : List ℕ) (missing done : List TableName) (before hand : Hand) (old now : Parts) : Type 0 where
-  pub left : List TableName
-  pub split : missing ≡ done ++ left
+pub record Drawing (next : Option Event) (words : List ℕ) (missing : List TableName) (n : ℕ) (before hand : Hand) (old now : Parts) : Type 0 where
   pub blocks : List Block
-  pub takes : Takes (map (λ t. least_block) done) old blocks now
-  pub starting : IsStarting next words left [] hand now
+  pub takes : Takes (map (λ t. least_block) (take n missing)) old blocks now
+  pub starting : IsStarting next words (drop n missing) [] hand now
   pub tables : hand.tables ≡ before.tables
   pub room : KeepsRoom old now
 
-pub drawing_start : (missing : List TableName) (bytes : ℕ) (hand : Hand) (s : Parts) (u : MayTake missing bytes hand s) → Drawing (next_of missing bytes hand s u) u.words missing [] hand hand s s
-drawing_start missing bytes hand s u = record { left = missing; split = refl; blocks = []; takes = refl; starting = u.starting; tables = refl; room = λ k low. low }
+pub drawing_start : (missing : List TableName) (bytes : ℕ) (hand : Hand) (s : Parts) (u : MayTake missing bytes hand s) → Drawing (next_of missing bytes hand s u) u.words missing 0 hand hand s s
+drawing_start missing bytes hand s u = record { blocks = []; takes = refl; starting = u.starting; tables = refl; room = λ k low. low }
 
-pub may_take_table : (next : Option Event) (words : List ℕ) (t : TableName) (rest : List TableName) (hand : Hand) (s : Parts) → IsStarting next words (t ∷ rest) [] hand s → ((j : Journal) → PruneHasNeed s.options j least_block next) → MayTakeOne least_block hand s
+abbrev pub may_take_table : (next : Option Event) (words : List ℕ) (t : TableName) (rest : List TableName) (hand : Hand) (s : Parts) → IsStarting next words (t ∷ rest) [] hand s → ((j : Journal) → PruneHasNeed s.options j least_block next) → MayTakeOne least_block hand s
 may_take_table next words t rest hand s st needs = record { next = next; words = words; missing = t ∷ rest; others = []; starting = st; least = omega arith; needs = needs; few = omega arith; small = tt }
 
-module _ (next : Option Event) (words : List ℕ) (t : TableName) (rest : List TableName) (hand : Hand) (s new : Parts) (b : Block) (st : IsStarting next words (t ∷ rest) (b ∷ []) hand s) (low : b.words ≤ 127) where
+module _ (next : Option Event) (words : List ℕ) (t : TableName) (rest : List TableName) (hand : Hand) (s : Parts) (b : Block) (st : IsStarting next words (t ∷ rest) (b ∷ []) hand s) (low : b.words ≤ 127) where
   abbrev more : Hand
   more = record { tables = hand.tables; fresh = hand.fresh ++ record { table = t; block = b } ∷ [] }
 
@@ -115,6 +136,43 @@ module _ (next : Option Event) (words : List ℕ) (t : TableName) (rest : List T
       all_push : (P : TableBlock → Type 0) (xs : List TableBlock) (b : TableBlock) → AllByRecursion P xs → P b → AllByRecursion P (xs ++ b ∷ [])
       all_push P [] b h k = (k, tt)
       all_push P (x ∷ xs) b h k = (h.0, all_push P xs b h.1 k)
+
+-- ---- the tables, one after another
+
+module _ (next : Option Event) (words : List ℕ) (missing : List TableName) (n : ℕ) (before hand : Hand) (old now : Parts) (d : Drawing next words missing n before hand old now) (t : TableName) (inside : n < length missing) (is : t ≡ get_or missing n t) where
+  left_is : drop n missing ≡ t ∷ drop (n + 1) missing
+  left_is = drop_at_place missing n t inside is
+
+  pub next_table : IsStarting next words (t ∷ drop (n + 1) missing) [] hand now
+  next_table = subst (λ l. IsStarting next words l [] hand now) left_is d.starting
+
+  needs_join : map (λ t. least_block) (take (n + 1) missing) ≡ map (λ t. least_block) (take n missing) ++ least_block ∷ []
+  needs_join = ap (map (λ t. least_block)) (take_at_place missing n t inside is) ∙ map-append (λ t. least_block) (take n missing) (t ∷ [])
+
+  pub draws_on : (after : Hand) (b : Block) (new : Parts) → TakesKeeping least_block next words (t ∷ drop (n + 1) missing) [] hand after now b new → Drawing next words missing (n + 1) before (record { tables = after.tables; fresh = after.fresh ++ record { table = t; block = b } ∷ [] }) old new
+  draws_on after b new k = record {
+    blocks = d.blocks ++ b ∷ [];
+    takes = subst (λ l. Takes l old (d.blocks ++ b ∷ []) new) (sym needs_join) (takes_join (map (λ t. least_block) (take n missing)) (least_block ∷ []) old now new d.blocks (b ∷ []) d.takes (new, k.takes, refl));
+    starting = table_in_hand next words t (drop (n + 1) missing) after new b k.starting (omega (arith, k.small));
+    tables = k.tables ∙ d.tables;
+    room = λ j low. k.room j (d.room j low);
+  }
+
+  pub draw_room : (after : Hand) (b : Block) (new : Parts) → TakesKeeping least_block next words (t ∷ drop (n + 1) missing) [] hand after now b new → length after.fresh < 8
+  draw_room after b new k = push_room next words t (drop (n + 1) missing) after new b k.starting (omega (arith, k.small))
+
+  pub needs_split : map (λ t. least_block) missing ≡ map (λ t. least_block) (take n missing) ++ least_block ∷ map (λ t. least_block) (drop (n + 1) missing)
+  needs_split = ap (map (λ t. least_block)) (sym (take-append-drop n missing)) ∙ (map-append (λ t. least_block) (take n missing) (drop n missing) ∙ ap (λ l. map (λ t. least_block) (take n missing) ++ map (λ t. least_block) l) left_is)
+
+-- all are there
+pub draws_all : (next : Option Event) (words : List ℕ) (missing : List TableName) (n : ℕ) (before hand : Hand) (old now : Parts) → n ≡ length missing → Drawing next words missing n before hand old now → TakesTables next words missing before hand old now
+draws_all next words missing n before hand old now all d = record {
+  blocks = d.blocks;
+  takes = subst (λ l. Takes (map (λ t. least_block) l) old d.blocks now) (take_all n missing (omega (arith, all))) d.takes;
+  starting = subst (λ l. IsStarting next words l [] hand now) (drop_all n missing (omega (arith, all))) d.starting;
+  tables = d.tables;
+  room = d.room;
+}
 
 -- ---- a need gets none
 
@@ -223,17 +281,17 @@ stops_before next words needs more held old s e h =
 -- ---- the first block of the chain, and that of the key
 
 module _ (bytes : ℕ) (hand : Hand) (s : Parts) (u : MayTake [] bytes hand s) where
-  least_unit : least_block ≤ unit_words s.options
+  pub least_unit : least_block ≤ unit_words s.options
   least_unit = u.starting.whole.sound.rounded.least
 
-  pub may_take_first : MayTakeOne (unit_words s.options) hand s
+  abbrev pub may_take_first : MayTakeOne (unit_words s.options) hand s
   may_take_first = record { next = next_of [] bytes hand s u; words = u.words; missing = []; others = []; starting = u.starting; least = least_unit; needs = λ j. unit_need s.options u.key least_unit; few = omega arith; small = tt }
 
   module _ (first : Block) (next_hand : Hand) (mid : Parts) (t : TakesKeeping (unit_words s.options) (next_of [] bytes hand s u) u.words [] [] hand next_hand s first mid) where
-    mid_options : mid.options ≡ s.options
+    pub mid_options : mid.options ≡ s.options
     mid_options = takes_options (unit_words s.options ∷ []) s mid (first ∷ []) (mid, t.takes, refl)
 
-    pub may_take_text : MayTakeOne (raised (words_of_bytes bytes)) next_hand mid
+    abbrev pub may_take_text : MayTakeOne (raised (words_of_bytes bytes)) next_hand mid
     may_take_text = record {
       next = next_of [] bytes hand s u;
       words = u.words;
@@ -249,7 +307,7 @@ module _ (bytes : ℕ) (hand : Hand) (s : Parts) (u : MayTake [] bytes hand s) w
     pub pair_so : (text : Block) (after : Hand) (new : Parts) → TakesKeeping (raised (words_of_bytes bytes)) (next_of [] bytes hand s u) u.words [] (first ∷ []) next_hand after mid text new
         → TakesPair (next_of [] bytes hand s u) u.words bytes hand after s (record { first = first; text = text }) new
     pair_so text after new q = record {
-      takes = (mid, t.takes, new, q.takes, refl);
+      takes = (mid, t.takes, (new, q.takes, refl));
       sizes = record { full = omega (arith, t.large, least_unit); small = omega (arith, t.small, least_unit); few = omega (arith, q.large); fits = omega (arith, q.small) };
       starting = q.starting;
       tables = q.tables ∙ t.tables;
@@ -258,7 +316,7 @@ module _ (bytes : ℕ) (hand : Hand) (s : Parts) (u : MayTake [] bytes hand s) w
 
 -- ---- all
 
-pub may_take_pair : (missing : List TableName) (bytes : ℕ) (hand after : Hand) (s new : Parts) (u : MayTake missing bytes hand s) → TakesTables (next_of missing bytes hand s u) u.words missing hand after s new → MayTake [] bytes after new
+abbrev pub may_take_pair : (missing : List TableName) (bytes : ℕ) (hand after : Hand) (s new : Parts) (u : MayTake missing bytes hand s) → TakesTables (next_of missing bytes hand s u) u.words missing hand after s new → MayTake [] bytes after new
 may_take_pair missing bytes hand after s new u t = record {
   who = u.who;
   number = u.number;
@@ -280,3 +338,26 @@ all_so missing bytes hand after last s mid new u t taken q =
       tables = q.tables ∙ t.tables;
       room = λ k low. q.room k (t.room k low);
     }
+
+-- ---- errors that are passed on
+
+pub err_same : {T : Type 0} (r : Result T NoTile) (t : NoTile) (P : NoTile → Type 0) → IsErrAnd r (λ e. e ≡ t) → P t → IfErr r P
+err_same (Ok b) t P h k = tt
+err_same (Err e) t P h k = subst P (sym h) k
+
+pub ok_weaker : {T : Type 0} (r : Result T NoTile) (P Q : T → Type 0) → ((x : T) → P x → Q x) → IfOk r P → IfOk r Q
+ok_weaker (Ok x) P Q f h = f x h
+ok_weaker (Err e) P Q f h = tt
+
+pub err_weaker : {T : Type 0} (r : Result T NoTile) (P Q : NoTile → Type 0) → ((e : NoTile) → P e → Q e) → IfErr r P → IfErr r Q
+err_weaker (Ok x) P Q f h = tt
+err_weaker (Err e) P Q f h = f e h
+
+-- the first block of the chain, or the key's, isn't found
+pub all_stops : (missing : List TableName) (bytes : ℕ) (hand after : Hand) (s mid new : Parts) (u : MayTake missing bytes hand s) (t : TakesTables (next_of missing bytes hand s u) u.words missing hand after s mid) (held : List Block) (e : NoTile)
+    → Stops (next_of [] bytes after mid (may_take_pair missing bytes hand after s mid u t)) u.words (unit_words mid.options ∷ raised (words_of_bytes bytes) ∷ []) held mid new e → Stops (next_of missing bytes hand s u) u.words (needs_for s.options missing bytes) held s new e
+all_stops missing bytes hand after s mid new u t held e h =
+    let options = takes_options (map (λ t. least_block) missing) s mid t.blocks t.takes in
+    let same : Stops (next_of missing bytes hand s u) u.words (unit_words s.options ∷ raised (words_of_bytes bytes) ∷ []) held mid new e =
+    subst (λ (q : List TableName × Options). Stops (starts u.who u.number u.key q.0) u.words (unit_words q.1 ∷ raised (words_of_bytes bytes) ∷ []) held mid new e) (λ i. (t.tables i, options i)) h in
+    stops_after (next_of missing bytes hand s u) u.words (map (λ t. least_block) missing) (unit_words s.options ∷ raised (words_of_bytes bytes) ∷ []) held s mid new t.blocks e t.takes t.room same

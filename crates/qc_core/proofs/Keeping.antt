@@ -149,9 +149,6 @@ module _ (need : ℕ) (hand : Hand) (s : Parts) (u : MayTakeOne need hand s) whe
       p : PrunesOne need s (with_event ev all) one
       p = pruned_one s all (with_event ev all) n need largest one oldest size left_any valid refl
 
-      pub going : PrunesOne need s (with_event ev all) one
-      going = p
-
       licensed : IsLicensed s.options s.journal.events ev
       licensed =
           let licence = prunes_oldest m u.words (plain u.starting.names s) (stored s.chains e) need u.starting.whole.sound held_few held_low small o.found in
@@ -261,6 +258,7 @@ module _ (need : ℕ) (hand : Hand) (s : Parts) (u : MayTakeOne need hand s) whe
               small = subst (λ (h : Hand). AllByRecursion (λ b. b.block.words ≤ 127) h.fresh) (sym gone.hand) (all_join (λ (b : TableBlock). b.block.words ≤ 127) hand.fresh gone.kept u.starting.small kept_small);
             };
             tables = ap (λ (h : Hand). h.tables) gone.hand;
+            fewer = let now : reserved (cache v.journal.events) ≡ reserved (cache (with_event ev all).journal.events) = ap (λ (x : Parts). reserved (cache x.journal.events)) v_is in omega (arith, less, now);
             room = λ k low.
                 let spare : v.journal.spare ≡ s.journal.spare - 1 = ap (λ (x : Parts). x.journal.spare) v_is in
                 let fewer : reserved (cache v.journal.events) ≡ reserved (cache (with_event ev all).journal.events) = ap (λ (x : Parts). reserved (cache x.journal.events)) v_is in

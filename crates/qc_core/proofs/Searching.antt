@@ -37,10 +37,10 @@ pub none_yet : (need : ℕ) (hand : Hand) (s : Parts) (u : MayTakeOne need hand 
 none_yet need hand s u = record { count = 0; prunes = refl; starting = u.starting; tables = refl; room = λ k low. low }
 
 module _ (need : ℕ) (hand now : Hand) (old s : Parts) (u : MayTakeOne need hand old) (p : PrunesSome need u.next u.words u.missing u.others hand now old s) where
-  options_stay : s.options ≡ old.options
+  pub options_stay : s.options ≡ old.options
   options_stay = (pruned_after need p.count old s p.prunes).options
 
-  pub may_go_on : MayTakeOne need now s
+  abbrev pub may_go_on : MayTakeOne need now s
   may_go_on = record {
     next = u.next;
     words = u.words;

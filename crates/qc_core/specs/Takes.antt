@@ -82,6 +82,7 @@ pub record MayTakeOne (need : ℕ) (hand : Hand) (s : Parts) : Type 0 where
 -- the least recently used entry went that is complete and without users
 pub record PrunesKeeping (need : ℕ) (next : Option Event) (words : List ℕ) (missing : List TableName) (others : List Block) (before after : Hand) (old new : Parts) : Type 0 where
   pub prunes : Prunes need old new
+  pub fewer : reserved (cache new.journal.events) < reserved (cache old.journal.events)
   pub starting : IsStarting next words missing others after new
   pub tables : after.tables ≡ before.tables
   pub room : KeepsRoom old new

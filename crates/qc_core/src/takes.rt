@@ -140,10 +140,12 @@ impl Parts {
         ensures ok { (u : MayTake missing bytes hand.old self.old) → IfOk result (λ taken. TakesAll (next_of missing bytes hand.old self.old u) u.words missing bytes hand.old hand.new self.old taken self.new) }
         ensures err { (u : MayTake missing bytes hand.old self.old) → IfErr result (λ e. Stops (next_of missing bytes hand.old self.old u) u.words (needs_for self.old.options missing bytes) [] self.old self.new e) }
     {
-        let taken = self.take_all(hand, missing, bytes);
-        if taken.is_err() {
-            hand.give_back(&mut self.tiles);
+        match self.take_all(hand, missing, bytes) {
+            Ok(taken) => Ok(taken),
+            Err(none) => {
+                hand.give_back(&mut self.tiles);
+                Err(none)
+            }
         }
-        taken
     }
 }

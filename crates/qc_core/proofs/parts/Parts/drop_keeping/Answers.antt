@@ -4,6 +4,7 @@ use Rattle.qc_tiles.specs.declared.blocks.Tile.{Tile}
 use Rattle.qc_tiles.specs.Tiles.{handed_out, after_give_back}
 use Rattle.qc_tiles.proofs.Calls.{own_tiling}
 use Rattle.qc_chain.specs.Chains.{AreHandedOut}
+use Rattle.qc_dir.specs.Directory.{RemovesEntry}
 use Rattle.qc_core.specs.declared.parts.Parts.{Parts}
 use Rattle.qc_core.specs.Leaves.{table_blocks}
 use Rattle.qc_core.proofs.Leaving.{begun_there, text_out, tables_out}
@@ -49,7 +50,7 @@ returns-clause-left c = λ u.
       kept = s.kept;
       others = s.others;
       freed = r.result.freed;
-      removed = r.ensures.removed;
+      removed = subst (λ (x : Parts). RemovesEntry c.args.serial r.result.freed c.args.self.now.dir x.dir) (sym (c.drop_chain.ensures u.held begun)) r.ensures.removed;
       parts = s.parts;
       sorts = s.sorts;
       hand = s.hand;
