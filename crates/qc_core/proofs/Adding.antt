@@ -113,6 +113,10 @@ free_there [] h = absurd (omega (arith, h))
 free_there (None ∷ l) h = (0, omega arith, refl)
 free_there (Some x ∷ l) h = let r = free_there l h in (suc r.0, omega (arith, r.1), r.2)
 
+-- the chain of a free name, begun
+pub name_begun : (cs : Chained) (n : ℕ) → slice_get cs.chains n ≡ Some None → chain_at n (with_chain n (Some empty_chain) cs) ≡ Some empty_chain
+name_begun cs n free = ap (λ (o : Option (Option Kept)). option_and_then (λ x. x) o) (get_put cs.chains n None (Some empty_chain) free)
+
 -- ---- one chain more
 
 at_old : (m : ℕ) (cs : List EntryChain) (d : EntryChain) → has_chain m cs ≡ true → blocks_at m (cs ++ d ∷ []) ≡ blocks_at m cs
@@ -383,9 +387,7 @@ module _ (who : Who) (serial : ℕ) (key : List ℕ) (tables : List TableName) (
           find_own = find_new serial name st.names (sym (any_named serial s.chains st.names) ∙ chainless)
           not_named : (xs : List Named) → AllByRecursion (λ x. is_some (chain_at x.number s.chains) ≡ true) xs → list_any (λ m. m == name) (map (λ (x : Named). x.number) xs) ≡ false
           not_named [] h = refl
-          not_named (x ∷ xs) h = ap (λ b. b || list_any (λ m. m == name) (map (λ (x : Named). x.number) xs)) (not_equal x.number name (begun_else x.number h.0)) ∙ not_named xs h.1
-          not_equal : (k n : ℕ) → k ≢ n → (k == n) ≡ false
-          not_equal k n ne = ne_eqb k n ne
+          not_named (x ∷ xs) h = ap (λ b. b || list_any (λ m. m == name) (map (λ (x : Named). x.number) xs)) (ne_eqb x.number name (begun_else x.number h.0)) ∙ not_named xs h.1
 
       chains_room : ChainsHaveRoom names cs (region_words s.options)
       chains_room =

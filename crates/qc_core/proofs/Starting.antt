@@ -203,7 +203,7 @@ next_value h x who o n = record {
 
 -- ---- the start begins
 
-pub may_take : (words : List ℕ) (s : Parts) (who : Who) (number : ℕ) (key : List ℕ) (tables : List TableName) → Sound words s → MayBegin key tables s → MayTake (without_block s.dir.tables tables) (length key) (record { tables = tables; fresh = [] }) s
+abbrev pub may_take : (words : List ℕ) (s : Parts) (who : Who) (number : ℕ) (key : List ℕ) (tables : List TableName) → Sound words s → MayBegin key tables s → MayTake (without_block s.dir.tables tables) (length key) (record { tables = tables; fresh = [] }) s
 may_take words s who number key tables sound may =
     let w = sound.1 in
     let p = plain sound.0 s in

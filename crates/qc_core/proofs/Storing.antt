@@ -32,14 +32,14 @@ drop_step (x ∷ l) (suc k) h = let e : suc k + 1 ≡ suc (k + 1) = omega arith 
 
 -- the words that 8 bytes make
 pub few_bits : (i : ℕ) → i < 8 → 256 * 256 ^ i ≤ 2 ^ 64
-few_bits 0 h = omega arith
-few_bits 1 h = omega arith
-few_bits 2 h = omega arith
-few_bits 3 h = omega arith
-few_bits 4 h = omega arith
-few_bits 5 h = omega arith
-few_bits 6 h = omega arith
-few_bits 7 h = omega arith
+few_bits zero h = omega arith
+few_bits (suc zero) h = omega arith
+few_bits (suc (suc zero)) h = omega arith
+few_bits (suc (suc (suc zero))) h = omega arith
+few_bits (suc (suc (suc (suc zero)))) h = omega arith
+few_bits (suc (suc (suc (suc (suc zero))))) h = omega arith
+few_bits (suc (suc (suc (suc (suc (suc zero)))))) h = omega arith
+few_bits (suc (suc (suc (suc (suc (suc (suc zero))))))) h = omega arith
 few_bits (suc (suc (suc (suc (suc (suc (suc (suc n)))))))) h = absurd (omega (arith, h))
 
 -- ---- the words

@@ -15,7 +15,8 @@ fn word_of(piece: &[u8]) -> u64
 {
     let mut word = 0;
     for index in 0..piece.len() {
-        word = word * 256 + u64::from(piece[piece.len() - 1 - index]);
+        let byte = piece[piece.len() - 1 - index];
+        word = word * 256 + u64::from(byte);
     }
     word
 }
