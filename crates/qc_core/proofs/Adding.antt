@@ -63,6 +63,7 @@ use Rattle.qc_core.specs.Leaves.{table_blocks}
 use Rattle.qc_core.specs.Hands.{IsInHand}
 use Rattle.qc_core.specs.Starts.{HasStartRoom, new_entry, fill_of, AddsFill}
 use Rattle.qc_core.specs.Takes.{holds, starts, IsStarting}
+use Rattle.qc_core.specs.Grows.{MayAppend}
 use Rattle.qc_core.specs.Adds.{MayAdd, IsAdded}
 use Rattle.qc_core.proofs.Appending.{get_else}
 use Rattle.qc_core.proofs.Handing.{hand_fresh}
@@ -116,6 +117,17 @@ free_there (Some x ∷ l) h = let r = free_there l h in (suc r.0, omega (arith, 
 -- the chain of a free name, begun
 pub name_begun : (cs : Chained) (n : ℕ) → slice_get cs.chains n ≡ Some None → chain_at n (with_chain n (Some empty_chain) cs) ≡ Some empty_chain
 name_begun cs n free = ap (λ (o : Option (Option Kept)). option_and_then (λ x. x) o) (get_put cs.chains n None (Some empty_chain) free)
+
+abbrev pub may_append_first : (s : Parts) (cs : Chained) (n : ℕ) (t : Taken) (serial wide : ℕ) (hand : Hand) → MayAdd serial hand t s wide → slice_get s.chains.chains n ≡ Some None → cs ≡ with_chain n (Some empty_chain) s.chains → MayAppend n t.first (record s { chains = cs }) wide
+may_append_first s cs n t serial wide hand m free is = record {
+  held = empty_chain;
+  begun = subst (λ (x : Chained). chain_at n x ≡ Some empty_chain) (sym is) (name_begun s.chains n free);
+  few = omega (arith, m.most);
+  room = subst (λ (x : Chained). 0 < x.room) (sym is) m.chain_room;
+  tiling = m.tiling;
+  out = m.out;
+  ranges = m.ranges;
+}
 
 -- ---- one chain more
 
@@ -344,7 +356,7 @@ module _ (who : Who) (serial : ℕ) (key : List ℕ) (tables : List TableName) (
           let pins = λ (x : Block). pin_pins (region_words s.options) s.tiles t.first x w.tiling first_held in
           let fills = tasks_more s.journal.events p.chains (chain_of serial (t.first ∷ [])) (filling seat serial) (t.first ∷ []) p.tasks st.whole.sound.tasks.each (at_new serial p.chains (t.first ∷ []) chainless) in
           record {
-            tiling = after_pin-tiling (region_words s.options) true t.first.first s.tiles w.tiling;
+            tiling = after_pin-tiling (region_words s.options) t.first.first true s.tiles w.tiling;
             in_use = permuted (handed_out us) (blocks_in_use then) (λ b. omega (arith, ap (times b) same, hands b, then_use b));
             pinned = λ x. (
               λ k. subst (λ l. Contains l x) (sym fills) (⊎_elim

@@ -8,3 +8,11 @@ overflow_mul-word c =
     let bits = few_bits c.loop-index.index (omega (arith, inside, c.requires)) in
     let low = c.loop-index.invariant.low in
     omega (arith, bits, low)
+
+pub overflow_add-word : goal.overflow_add-word
+overflow_add-word c =
+    let inside : c.loop-index.index < length c.args.piece.now = c.loop-index-test.true in
+    let bits = few_bits c.loop-index.index (omega (arith, inside, c.requires)) in
+    let low = c.loop-index.invariant.low in
+    let byte : c.from.result < 256 = omega (arith, c.from.ensures, c.type_inv.piece (length c.args.piece.now - 1 - c.loop-index.index)) in
+    omega (arith, bits, low, byte)

@@ -20,7 +20,7 @@ allocate_keeping-requires c =
     let g = c.into_iter-table-iterator.ensures.into_iter_gives in
     let items = c.into_vec-table-items.ensures in
     let road = YieldsList-from_vec {s = c.into_iter-table-iterator.result} missing (g.0 ∙ items) (g.1 ∙ (c.into_vec-table-items.result.ok.0 ∙ ap (λ l. length l) items)) in
-    let t = YieldsList-turn road c.loop-table.yielded c.loop-table.table-iterator c.loop-table.yielded_by _ _ c.in-Some.table c.in-Some.is c.next.ensures.steps in
+    let t = YieldsList-turn road c.loop-table.yielded c.loop-table.table-iterator c.loop-table.yielded_by _ c.next.new.self c.in-Some.table c.in-Some.is c.next.ensures.steps in
     let n = length c.loop-table.yielded in
     let next = next_of missing bytes c.args.hand.now c.args.self.now u in
     may_take_table next u.words c.in-Some.table (drop (n + 1) missing) c.loop-table.hand c.loop-table.self
@@ -32,7 +32,7 @@ returns-in_err-block-clause-err c = λ bytes u.
     let g = c.into_iter-table-iterator.ensures.into_iter_gives in
     let items = c.into_vec-table-items.ensures in
     let road = YieldsList-from_vec {s = c.into_iter-table-iterator.result} missing (g.0 ∙ items) (g.1 ∙ (c.into_vec-table-items.result.ok.0 ∙ ap (λ l. length l) items)) in
-    let t = YieldsList-turn road c.loop-table.yielded c.loop-table.table-iterator c.loop-table.yielded_by _ _ c.in-Some.table c.in-Some.is c.next.ensures.steps in
+    let t = YieldsList-turn road c.loop-table.yielded c.loop-table.table-iterator c.loop-table.yielded_by _ c.next.new.self c.in-Some.table c.in-Some.is c.next.ensures.steps in
     let n = length c.loop-table.yielded in
     let s = c.args.self.now in
     let now = c.loop-table.self in
@@ -54,7 +54,7 @@ push-requires c =
     let g = c.into_iter-table-iterator.ensures.into_iter_gives in
     let items = c.into_vec-table-items.ensures in
     let road = YieldsList-from_vec {s = c.into_iter-table-iterator.result} missing (g.0 ∙ items) (g.1 ∙ (c.into_vec-table-items.result.ok.0 ∙ ap (λ l. length l) items)) in
-    let t = YieldsList-turn road c.loop-table.yielded c.loop-table.table-iterator c.loop-table.yielded_by _ _ c.in-Some.table c.in-Some.is c.next.ensures.steps in
+    let t = YieldsList-turn road c.loop-table.yielded c.loop-table.table-iterator c.loop-table.yielded_by _ c.next.new.self c.in-Some.table c.in-Some.is c.next.ensures.steps in
     let n = length c.loop-table.yielded in
     let s = c.args.self.now in
     let now = c.loop-table.self in
@@ -69,7 +69,7 @@ loop-table-preserved c = λ bytes u.
     let g = c.into_iter-table-iterator.ensures.into_iter_gives in
     let items = c.into_vec-table-items.ensures in
     let road = YieldsList-from_vec {s = c.into_iter-table-iterator.result} missing (g.0 ∙ items) (g.1 ∙ (c.into_vec-table-items.result.ok.0 ∙ ap (λ l. length l) items)) in
-    let t = YieldsList-turn road c.loop-table.yielded c.loop-table.table-iterator c.loop-table.yielded_by _ _ c.in-Some.table c.in-Some.is c.next.ensures.steps in
+    let t = YieldsList-turn road c.loop-table.yielded c.loop-table.table-iterator c.loop-table.yielded_by _ c.next.new.self c.in-Some.table c.in-Some.is c.next.ensures.steps in
     let n = length c.loop-table.yielded in
     let s = c.args.self.now in
     let now = c.loop-table.self in
@@ -87,5 +87,5 @@ returns-clause-ok c = λ bytes u.
     let g = c.into_iter-table-iterator.ensures.into_iter_gives in
     let items = c.into_vec-table-items.ensures in
     let road = YieldsList-from_vec {s = c.into_iter-table-iterator.result} missing (g.0 ∙ items) (g.1 ∙ (c.into_vec-table-items.result.ok.0 ∙ ap (λ l. length l) items)) in
-    let e = YieldsList-end road c.loop-table.yielded c.loop-table.table-iterator c.loop-table.yielded_by _ _ c.in-None.is c.next.ensures.steps in
+    let e = YieldsList-end road c.loop-table.yielded c.loop-table.table-iterator c.loop-table.yielded_by _ c.next.new.self c.in-None.is c.next.ensures.steps in
     draws_all (next_of missing bytes c.args.hand.now c.args.self.now u) u.words missing (length c.loop-table.yielded) c.args.hand.now c.loop-table.hand c.args.self.now c.loop-table.self e.1 (c.loop-table.invariant bytes u)
