@@ -106,7 +106,7 @@ may_prune need old now u g small = record {
   held = held_small now.options now.journal.events need u.moment.held (subst (λ o. AllByRecursion (λ (b : Block). b.words ≤ unit_words o + 63) u.moment.held) (sym g.options) u.held);
 }
 
-prunes_so : (need : ℕ) (s t : Parts) (v : MayPruneOne need s) → PrunesOne need s t v → Prunes need s t
+pub prunes_so : (need : ℕ) (s t : Parts) (v : MayPruneOne need s) → PrunesOne need s t v → Prunes need s t
 prunes_so need s t v p = record {
   small = v.small;
   serial = p.serial;

@@ -25,7 +25,7 @@ get_same [] k x v h = absurd (none-some x h)
 get_same (y ∷ l) zero x v h = refl
 get_same (y ∷ l) (suc k) x v h = get_same l k x v h
 
-get_else : {A : Type 0} (l : List A) (k j : ℕ) (v : A) → j ≢ k → slice_get (slice_set l k v) j ≡ slice_get l j
+pub get_else : {A : Type 0} (l : List A) (k j : ℕ) (v : A) → j ≢ k → slice_get (slice_set l k v) j ≡ slice_get l j
 get_else [] k j v ne = refl
 get_else (x ∷ l) zero zero v ne = absurd (ne refl)
 get_else (x ∷ l) zero (suc j) v ne = refl

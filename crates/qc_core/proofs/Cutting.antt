@@ -132,7 +132,7 @@ module _ (m : Moment) (names : List Named) (s : Parts) (n : ℕ) (h : BlocksAreS
     back : us ≡ after_release own s.tiles → IsGivenBack (region_words s.options) s.tiles us own
     back is = subst (λ ts. IsGivenBack (region_words s.options) s.tiles ts own) (sym is) (gives_all (region_words s.options) s.tiles own h.tiles.tiling own_out loose)
 
-    tiles_after : us ≡ after_release own s.tiles → TilesAreSound m after
+    pub tiles_after : us ≡ after_release own s.tiles → TilesAreSound m after
     tiles_after is =
         let g = back is in
         record {

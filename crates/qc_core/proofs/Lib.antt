@@ -43,4 +43,14 @@ pub mod Dropping
 pub mod Touching
 pub mod Resetting
 pub mod Committing
+pub mod Handing
+pub mod Sorting
+pub mod Sparing
+pub mod Keeping
+pub mod Searching
+pub mod GivingBack
+pub mod Drawing
+pub mod Storing
+pub mod Adding
+pub mod Starting
 mod examples

@@ -73,7 +73,7 @@ module _ (m : Moment) (words : List ℕ) (names : List Named) (s : Parts) (n : �
     abbrev pub names_left : List Named
     names_left = c.under
 
-    after_plain : plain c.under (with_event ev t) ≡ left ev (is_stored n) t.tiles (map table_pair t.dir.tables) (plain names s)
+    pub after_plain : plain c.under (with_event ev t) ≡ left ev (is_stored n) t.tiles (map table_pair t.dir.tables) (plain names s)
     after_plain = λ i. record (c.plain i) { journal = (c.plain i).journal ++ ev ∷ []; spare = (c.plain i).spare - 1 }
 
     gives : GivesBack m (plain names s) (left ev (is_stored n) t.tiles (map table_pair t.dir.tables) (plain names s))

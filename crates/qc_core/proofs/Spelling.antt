@@ -18,7 +18,7 @@ use Rattle.qc_core.specs.Spelled.{spells, is_text, read, IsSame, MayRead}
 
 -- ---- one word
 
-read_step : (ws : List ℕ) (first n : ℕ) → 0 < n → read ws first n ≡ get_or ws first 0 ∷ read ws (first + 1) (n - 1)
+pub read_step : (ws : List ℕ) (first n : ℕ) → 0 < n → read ws first n ≡ get_or ws first 0 ∷ read ws (first + 1) (n - 1)
 read_step ws first zero h = absurd (omega arith)
 read_step ws first (suc n) h = let a : suc first ≡ first + 1 = omega arith in let b : n ≡ suc n - 1 = omega arith in λ i. get_or ws first 0 ∷ read ws (a i) (b i)
 
@@ -28,7 +28,7 @@ take_least [] (suc m) = let z : min (suc m) (length {A = ℕ} []) ≡ 0 = omega 
 take_least (x ∷ l) zero = let z : min zero (length (x ∷ l)) ≡ 0 = omega arith in ap (λ k. take k (x ∷ l)) z
 take_least (x ∷ l) (suc m) = let z : min (suc m) (length (x ∷ l)) ≡ suc (min m (length l)) = omega arith in ap (λ k. take k (x ∷ l)) z ∙ ap (λ t. x ∷ t) (take_least l m)
 
-piece_is : (key : List ℕ) (from to : ℕ) → to ≡ min (from + 8) (length key) → take (to - from) (drop from key) ≡ take 8 (drop from key)
+pub piece_is : (key : List ℕ) (from to : ℕ) → to ≡ min (from + 8) (length key) → take (to - from) (drop from key) ≡ take 8 (drop from key)
 piece_is key from to e =
     let long : length (drop from key) ≡ length key - from = length-drop from key in
     let n : to - from ≡ min 8 (length (drop from key)) = omega (arith, e, long) in

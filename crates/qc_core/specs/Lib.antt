@@ -22,3 +22,7 @@ pub mod Plains
 pub mod Overtaken
 pub mod Resets
 pub mod Commits
+pub mod Hands
+pub mod Takes
+pub mod Texts
+pub mod Adds

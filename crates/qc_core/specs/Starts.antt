@@ -1,6 +1,27 @@
 -- What a start needs of the region, and in which order.
-use Rattle.std.specs.Prelude.{◌≡◌, ℕ, ◌+◌, ◌≤◌, List, [], ◌∷◌, ◌++◌, map, length, is_none}
+use Rattle.std.specs.Prelude.{◌≡◌, ℕ, ◌+◌, ◌*◌, ◌^◌, ◌<◌, ◌≤◌, true, false, List, [], ◌∷◌, ◌++◌, map, length, is_none, Some}
 use Rattle.std.specs.List.{filter}
+use Rattle.qc_key.specs.Hash.{hash}
+use Rattle.qc_model.specs.declared.events.Who.{Who}
+use Rattle.qc_model.specs.declared.events.Event.TheVariants as event
+use Rattle.qc_model.specs.declared.events.How.TheVariants as how
+use Rattle.qc_model.specs.declared.events.Reason.TheVariants as reason
+use Rattle.qc_model.specs.Cache.{cache}
+use Rattle.qc_tiles.specs.declared.blocks.Block.{Block}
+use Rattle.qc_tiles.specs.declared.blocks.NoTile.{NoTile}
+use Rattle.qc_tiles.specs.Tiles.{taken, after_take, after_pin}
+use Rattle.qc_chain.specs.Chains.{Begun, Ranged, whole_chain, after_release}
+use Rattle.qc_dir.specs.declared.entries.Entry.{Entry}
+use Rattle.qc_turn.specs.declared.task.ListedTask.{ListedTask}
+use Rattle.qc_turn.specs.declared.task.Task.TheVariants as task
+use Rattle.qc_turn.specs.Tasks.{own}
+use Rattle.qc_sound.specs.parts.Journal.{reserved}
+use Rattle.qc_core.specs.declared.parts.RunningTask.{RunningTask}
+use Rattle.qc_core.specs.declared.starts.Started.{Started}
+use Rattle.qc_core.specs.declared.starts.Begun.{Begun as Answer}
+use Rattle.qc_core.specs.declared.starts.Begun.TheVariants as begun
+use Rattle.qc_core.specs.Whole.{with_event}
+use Rattle.qc_core.specs.Allocates.{PrunesMany, LacksTile}
 use Rattle.qc_types.specs.declared.names.TableName.{TableName}
 use Rattle.qc_types.specs.declared.options.Options.{Options}
 use Rattle.qc_types.specs.Blocks.{least_block, raised}
@@ -15,12 +36,104 @@ use Rattle.qc_core.specs.declared.parts.Parts.{Parts}
 abbrev pub without_block : List TableBlock → List TableName → List TableName
 without_block there tables = filter (λ t. is_none (block_of t there)) tables
 
--- a block for each table that has none, the first block of the result, and the text last
+-- a block for each of these tables, the first block of the result, and the text last, of so many bytes
+abbrev pub needs_for : Options → List TableName → ℕ → List ℕ
+needs_for options missing bytes = map (λ t. least_block) missing ++ unit_words options ∷ raised (words_of_bytes bytes) ∷ []
+
+-- those of a start: only its tables that have no block need one
 abbrev pub needs_of : Options → List TableBlock → List TableName → List ℕ → List ℕ
-needs_of options there tables key = map (λ t. least_block) (without_block there tables) ++ unit_words options ∷ raised (words_of_bytes (length key)) ∷ []
+needs_of options there tables key = needs_for options (without_block there tables) (length key)
 
 -- the start of an entry with this key and these tables would be licensed, and each table has one block
 pub record MayBegin (key : List ℕ) (tables : List TableName) (s : Parts) : Type 0 where
   pub may : MayStart s.options s.journal.events (start_count s.journal.events + 1) key tables
   pub few : length tables ≤ 8
   pub once : AreApart same_table tables
+  pub short : length key < 2 ^ 32
+
+-- there is room for the event of a start, and for the two that its entry may have, beside those that other entries may still have
+abbrev pub HasStartRoom : Parts → Type 0
+HasStartRoom s = reserved (cache s.journal.events) + 2 < s.journal.spare
+
+-- ---- the blocks
+
+-- Some entries were pruned for the need, then the block was taken that it gets.
+pub record TakesOne (need : ℕ) (old : Parts) (block : Block) (new : Parts) : Type 0 where
+  pub count : ℕ
+  pub mid : Parts
+  pub prunes : PrunesMany need count old mid
+  pub taken : taken need mid.tiles ≡ Some block
+  pub server : new ≡ record mid { tiles = after_take need mid.tiles }
+
+-- a block for each need, one after another
+abbrev pub Takes : List ℕ → Parts → List Block → Parts → Type 0
+Takes [] old [] new = new ≡ old
+Takes (need ∷ needs) old (b ∷ bs) new = (mid : Parts) × TakesOne need old b mid × Takes needs mid bs new
+Takes needs old bs new = ⊥
+
+-- The first needs got their blocks, and the next one got none after some prunes, since none was left. Some of the blocks were given back then.
+pub record IsShortOf (needs : List ℕ) (old new : Parts) (e : NoTile) : Type 0 where
+  pub done : List ℕ
+  pub need : ℕ
+  pub rest : List ℕ
+  pub split : needs ≡ done ++ need ∷ rest
+  pub blocks : List Block
+  pub mid : Parts
+  pub takes : Takes done old blocks mid
+  pub count : ℕ
+  pub last : Parts
+  pub prunes : PrunesMany need count mid last
+  pub lacks : LacksTile need last e
+  pub given : List Block
+  pub server : new ≡ record last { tiles = after_release given last.tiles }
+
+-- ---- the entry
+
+abbrev pub new_entry : ℕ → List ℕ → List TableName → Block → ℕ → Entry
+new_entry serial key tables text chain = record { serial = serial; hash = hash key; text = text; text_bytes = length key; tables = tables; chain = record { number = chain }; complete = false; users = 0 }
+
+abbrev pub fill_of : ℕ → ℕ → ℕ → RunningTask
+fill_of seat serial chain = record { seat = seat; task = task.Fill serial; chain = record { number = chain } }
+
+-- The entry is the most recently used one, with a chain of one block, which is pinned, and the seat fills it.
+pub record AddsFill (seat serial : ℕ) (key : List ℕ) (tables : List TableName) (first text : Block) (old new : Parts) : Type 0 where
+  pub chain : ℕ
+  pub entries : new.dir.entries ≡ old.dir.entries ++ new_entry serial key tables text chain ∷ []
+  pub begun : Begun chain new.chains (whole_chain (first ∷ []))
+  pub tiles : new.tiles ≡ after_pin true first.first old.tiles
+  pub tasks : new.tasks.items ≡ old.tasks.items ++ fill_of seat serial chain ∷ []
+  pub options : new.options ≡ old.options
+  pub database : new.database ≡ old.database
+  pub connected : new.connected ≡ old.connected
+
+-- ---- the call
+
+-- The blocks were taken, the entry was added, and the event pushed. The ranges are its chain.
+pub record Starts (seat : ℕ) (who : Who) (key : List ℕ) (tables : List TableName) (old new : Parts) (before after : Ranged) (b : Started) : Type 0 where
+  pub serial : b.serial ≡ start_count old.journal.events + 1
+  pub place : b.place ≡ length new.journal.events
+  pub blocks : List Block
+  pub first : Block
+  pub text : Block
+  pub mid : Parts
+  pub takes : Takes (needs_of old.options old.dir.tables tables key) old (blocks ++ first ∷ text ∷ []) mid
+  pub adds : AddsFill seat b.serial key tables first text mid new
+  pub events : new.journal.events ≡ mid.journal.events ++ event.Run who (how.Start b.serial key tables) ∷ []
+  pub ranges : after ≡ record { blocks = first ∷ []; bytes = 8 * first.words; room = before.room }
+
+-- One of the needs got no block, what was taken was given back, and the event pushed that says so.
+pub record LacksRoomFor (who : Who) (key : List ℕ) (tables : List TableName) (old new : Parts) (before after : Ranged) (need largest number : ℕ) : Type 0 where
+  pub mid : Parts
+  pub short : IsShortOf (needs_of old.options old.dir.tables tables key) old mid (record { need = need; largest = largest })
+  pub server : new ≡ with_event (event.Run who (how.Plain (reason.NoRoom need largest))) mid
+  pub place : number ≡ length new.journal.events
+  pub ranges : after ≡ before
+
+abbrev pub IsBegun : ℕ → Who → List ℕ → List TableName → Parts → Parts → Ranged → Ranged → Answer → Type 0
+IsBegun seat who key tables old new before after (begun.Started b) = Starts seat who key tables old new before after b
+IsBegun seat who key tables old new before after (begun.NoRoom need largest place) = LacksRoomFor who key tables old new before after need largest place
+
+-- what is listed for the seat then
+abbrev pub begun_tasks : ℕ → Ranged → Answer → List ListedTask
+begun_tasks seat r (begun.Started b) = own seat (task.Fill b.serial) r.blocks
+begun_tasks seat r (begun.NoRoom need largest place) = []

@@ -47,7 +47,7 @@ impl From<NoTile> for Short {
 
 impl Parts {
     /// Appends a block to a chain, and pins it. The ranges are the chain.
-    fn append(&mut self, chain: ChainName, block: Block, ranges: &mut Ranges)
+    pub(crate) fn append(&mut self, chain: ChainName, block: Block, ranges: &mut Ranges)
         requires { MayAppend chain.number block self.old ranges.old.room }
         ensures server { (u : MayAppend chain.number block self.old ranges.old.room) → self.new ≡ appended chain.number block u.held self.old }
         ensures ranges { (u : MayAppend chain.number block self.old ranges.old.room) → ranges.new ≡ longer_by block (record { blocks = u.held.blocks; bytes = u.held.bytes; room = ranges.old.room }) }

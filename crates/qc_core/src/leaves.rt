@@ -29,7 +29,7 @@ impl Parts {
     }
 
     /// Gives the chain of an entry back that is out, where no task is on it.
-    fn drop_chain(&mut self, serial: u64, chain: ChainName)
+    pub(crate) fn drop_chain(&mut self, serial: u64, chain: ChainName)
         requires { (held : Chain) × Begun chain.number self.old.chains held × AreHandedOut self.old.tiles held.blocks }
         ensures { (held : Chain) → Begun chain.number self.old.chains held → self.new ≡ chain_left (has_task serial self.old) chain.number held self.old }
     {
@@ -61,7 +61,7 @@ impl Parts {
 }
 
 /// Gives the blocks of tables back.
-fn give_back_tables(tiles: &mut Tiles, places: &[Option<TableBlock>])
+pub(crate) fn give_back_tables(tiles: &mut Tiles, places: &[Option<TableBlock>])
     requires tiling { IsTiling (region_words tiles.old) tiles.old }
     requires out { AreHandedOut tiles.old (blocks_in places.now) }
     ensures tiles { tiles.new ≡ after_release (blocks_in places.now) tiles.old }

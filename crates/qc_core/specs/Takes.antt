@@ -1,0 +1,169 @@
+-- The blocks of a start are taken, one after another, and the blocks of its own tables are kept for it while entries are pruned.
+use Rattle.std.specs.Prelude.{◌≡◌, ℕ, ◌+◌, ◌<◌, ◌≤◌, true, List, [], ◌∷◌, ◌++◌, map, length, Option, Some, None, IsPermutation}
+use Rattle.std.specs.List.{AllByRecursion}
+use Rattle.qc_types.specs.declared.names.TableName.{TableName}
+use Rattle.qc_types.specs.declared.options.Options.{Options}
+use Rattle.qc_types.specs.Blocks.{least_block, raised}
+use Rattle.qc_key.specs.Hash.{hash}
+use Rattle.qc_model.specs.declared.events.Event.{Event}
+use Rattle.qc_model.specs.declared.events.Event.TheVariants as event
+use Rattle.qc_model.specs.declared.events.How.TheVariants as how
+use Rattle.qc_model.specs.declared.events.Who.{Who}
+use Rattle.qc_model.specs.Journal.{Journal}
+use Rattle.qc_model.specs.Cache.{cache}
+use Rattle.qc_model.specs.Licence.{LacksRoom, unit_words, words_of_bytes}
+use Rattle.qc_model.specs.Needs.{PruneHasNeed}
+use Rattle.qc_tiles.specs.declared.blocks.Block.{Block}
+use Rattle.qc_tiles.specs.declared.blocks.NoTile.{NoTile}
+use Rattle.qc_tiles.specs.Tiles.{taken, after_take, largest_free}
+use Rattle.qc_chain.specs.Chains.{Chain, after_release}
+use Rattle.qc_dir.specs.declared.entries.Entry.{Entry}
+use Rattle.qc_dir.specs.declared.tables.TableBlock.{TableBlock}
+use Rattle.qc_dir.specs.Directory.{RemovesEntry}
+use Rattle.qc_sound.specs.Moment.{Moment}
+use Rattle.qc_sound.specs.parts.Journal.{reserved}
+use Rattle.qc_core.specs.declared.hands.Hand.{Hand}
+use Rattle.qc_core.specs.declared.takes.Taken.{Taken}
+use Rattle.qc_core.specs.declared.parts.Parts.{Parts}
+use Rattle.qc_core.specs.Whole.{Named, IsWhole}
+use Rattle.qc_core.specs.Leaves.{table_blocks, own_blocks, has_task, free_chain, left_by}
+use Rattle.qc_core.specs.Allocates.{Prunes, PrunesMany, LacksTile}
+use Rattle.qc_core.specs.Hands.{own_in, AreSorted, IsInHand}
+use Rattle.qc_core.specs.Starts.{TakesOne, Takes, IsShortOf, needs_for}
+
+-- ---- the server while a start is under way
+
+-- what a start has begun, that holds these blocks
+abbrev pub holds : Option Event → List Block → Moment
+holds next held = record { hash = hash; next = next; held = held }
+
+-- The server is sound but for the start, which holds the blocks in hand and these others, and each of its tables has one block, or is missing.
+pub record IsStarting (next : Option Event) (words : List ℕ) (missing : List TableName) (others : List Block) (mine : Hand) (s : Parts) : Type 0 where
+  pub names : List Named
+  pub whole : IsWhole (holds next (table_blocks mine.fresh ++ others)) names words s
+  pub hand : IsInHand mine missing s.dir.tables
+  pub small : AllByRecursion (λ b. b.block.words ≤ 127) mine.fresh
+
+-- there is as much room for events, beside those that entries may still have
+abbrev pub KeepsRoom : Parts → Parts → Type 0
+KeepsRoom old new = (k : ℕ) → reserved (cache old.journal.events) + k < old.journal.spare → reserved (cache new.journal.events) + k < new.journal.spare
+
+-- ---- one entry
+
+-- the hand has room for the blocks of its tables that are freed when an entry leaves
+abbrev pub MayKeep : ℕ → Hand → Parts → Type 0
+MayKeep serial hand s = (freed rest : List TableBlock) → IsPermutation s.dir.tables (freed ++ rest) → length hand.fresh + own_in hand.tables freed ≤ 8
+
+-- The entry is out, and its blocks were given back, but for those of the hand's tables, which came into the hand.
+pub record LeavesKeeping (serial : ℕ) (e : Entry) (held : Chain) (before after : Hand) (old new : Parts) : Type 0 where
+  pub kept : List TableBlock
+  pub others : List TableBlock
+  pub freed : List TableBlock
+  pub removed : RemovesEntry serial freed old.dir new.dir
+  pub parts : IsPermutation freed (kept ++ others)
+  pub sorts : AreSorted before.tables kept others
+  pub hand : after ≡ record { tables = before.tables; fresh = before.fresh ++ kept }
+  pub server : new ≡ left_by new.dir (has_task serial old) e held others old
+
+-- ---- one need
+
+-- the need is one that the start may have, whose blocks are few and small
+pub record MayTakeOne (need : ℕ) (hand : Hand) (s : Parts) : Type 0 where
+  pub next : Option Event
+  pub words : List ℕ
+  pub missing : List TableName
+  pub others : List Block
+  pub starting : IsStarting next words missing others hand s
+  pub least : least_block ≤ need
+  pub needs : (j : Journal) → PruneHasNeed s.options j need next
+  pub few : length others ≤ 1
+  pub small : AllByRecursion (λ b. b.words ≤ unit_words s.options + 63) others
+
+-- the least recently used entry went that is complete and without users
+pub record PrunesKeeping (need : ℕ) (next : Option Event) (words : List ℕ) (missing : List TableName) (others : List Block) (before after : Hand) (old new : Parts) : Type 0 where
+  pub prunes : Prunes need old new
+  pub fewer : reserved (cache new.journal.events) < reserved (cache old.journal.events)
+  pub starting : IsStarting next words missing others after new
+  pub tables : after.tables ≡ before.tables
+  pub room : KeepsRoom old new
+
+-- some entries went, one after another
+pub record PrunesSome (need : ℕ) (next : Option Event) (words : List ℕ) (missing : List TableName) (others : List Block) (before after : Hand) (old new : Parts) : Type 0 where
+  pub count : ℕ
+  pub prunes : PrunesMany need count old new
+  pub starting : IsStarting next words missing others after new
+  pub tables : after.tables ≡ before.tables
+  pub room : KeepsRoom old new
+
+-- No free block holds the need, and no entry is left that is complete and without users: a run without room is licensed.
+pub record HasNone (need : ℕ) (s : Parts) (e : NoTile) : Type 0 where
+  pub lacks : LacksTile need s e
+  pub licensed : LacksRoom s.options s.journal.events need (largest_free s.tiles)
+
+-- some entries were pruned, and then the block was taken that the need gets
+pub record TakesKeeping (need : ℕ) (next : Option Event) (words : List ℕ) (missing : List TableName) (others : List Block) (before after : Hand) (old : Parts) (block : Block) (new : Parts) : Type 0 where
+  pub takes : TakesOne need old block new
+  pub large : raised need ≤ block.words
+  pub small : block.words ≤ raised need + 63
+  pub starting : IsStarting next words missing (block ∷ others) after new
+  pub tables : after.tables ≡ before.tables
+  pub room : KeepsRoom old new
+
+-- ---- all needs
+
+-- the prunes of a start are for its event
+abbrev pub starts : Who → ℕ → List ℕ → List TableName → Option Event
+starts who number key tables = Some (event.Run who (how.Start number key tables))
+
+-- a start is under way that holds the blocks in hand, and whose key has so many bytes
+pub record MayTake (missing : List TableName) (bytes : ℕ) (hand : Hand) (s : Parts) : Type 0 where
+  pub who : Who
+  pub number : ℕ
+  pub key : List ℕ
+  pub words : List ℕ
+  pub long : length key ≡ bytes
+  pub starting : IsStarting (starts who number key hand.tables) words missing [] hand s
+
+abbrev pub next_of : (missing : List TableName) (bytes : ℕ) (hand : Hand) (s : Parts) → MayTake missing bytes hand s → Option Event
+next_of missing bytes hand s u = starts u.who u.number u.key hand.tables
+
+-- a block was taken for each of the tables that were missing
+pub record TakesTables (next : Option Event) (words : List ℕ) (missing : List TableName) (before after : Hand) (old new : Parts) : Type 0 where
+  pub blocks : List Block
+  pub takes : Takes (map (λ t. least_block) missing) old blocks new
+  pub starting : IsStarting next words [] [] after new
+  pub tables : after.tables ≡ before.tables
+  pub room : KeepsRoom old new
+
+-- the blocks have the words that were asked for, and at most 63 more
+pub record HaveSizes (options : Options) (bytes : ℕ) (taken : Taken) : Type 0 where
+  pub full : unit_words options ≤ taken.first.words
+  pub small : taken.first.words ≤ unit_words options + 63
+  pub few : raised (words_of_bytes bytes) ≤ taken.text.words
+  pub fits : taken.text.words ≤ raised (words_of_bytes bytes) + 63
+
+-- the first block of the chain was taken, and then that of the key
+pub record TakesPair (next : Option Event) (words : List ℕ) (bytes : ℕ) (before after : Hand) (old : Parts) (taken : Taken) (new : Parts) : Type 0 where
+  pub takes : Takes (unit_words old.options ∷ raised (words_of_bytes bytes) ∷ []) old (taken.first ∷ taken.text ∷ []) new
+  pub sizes : HaveSizes old.options bytes taken
+  pub starting : IsStarting next words [] (taken.text ∷ taken.first ∷ []) after new
+  pub tables : after.tables ≡ before.tables
+  pub room : KeepsRoom old new
+
+-- all blocks of the start were
+pub record TakesAll (next : Option Event) (words : List ℕ) (missing : List TableName) (bytes : ℕ) (before after : Hand) (old : Parts) (taken : Taken) (new : Parts) : Type 0 where
+  pub blocks : List Block
+  pub takes : Takes (needs_for old.options missing bytes) old (blocks ++ taken.first ∷ taken.text ∷ []) new
+  pub sizes : HaveSizes old.options bytes taken
+  pub starting : IsStarting next words [] (taken.text ∷ taken.first ∷ []) after new
+  pub tables : after.tables ≡ before.tables
+  pub room : KeepsRoom old new
+
+-- One of the needs got no block. Some blocks were given back then, and these are held still.
+pub record Stops (next : Option Event) (words : List ℕ) (needs : List ℕ) (held : List Block) (old new : Parts) (e : NoTile) : Type 0 where
+  pub short : IsShortOf needs old new e
+  pub licensed : LacksRoom new.options new.journal.events e.need e.largest
+  pub least : least_block ≤ e.need
+  pub names : List Named
+  pub whole : IsWhole (holds next held) names words new
+  pub room : KeepsRoom old new
