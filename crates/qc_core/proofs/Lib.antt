@@ -53,4 +53,5 @@ pub mod Drawing
 pub mod Storing
 pub mod Adding
 pub mod Starting
+pub mod Freshening
 mod examples

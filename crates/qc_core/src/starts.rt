@@ -1,6 +1,6 @@
 //! Entries begin.
 
-ghost use Rattle.std.specs.Prelude.{◌≡◌, ◌+◌, ◌*◌, ◌^◌, ◌<◌, ◌≤◌, [], ◌∷◌, ◌++◌, length, IfOk, OnOk, OnErr};
+ghost use Rattle.std.specs.Prelude.{◌≡◌, ◌+◌, ◌*◌, ◌^◌, ◌<◌, ◌≤◌, List, [], ◌∷◌, ◌++◌, length, IfOk, OnOk, OnErr};
 ghost use Rattle.std.specs.Result.{IfErr};
 ghost use Rattle.qc_model.specs.declared.events.Event.TheVariants as event;
 ghost use Rattle.qc_model.specs.declared.events.How.TheVariants as how;
@@ -9,10 +9,12 @@ ghost use Rattle.qc_model.specs.Choice.{start_count};
 ghost use Rattle.qc_dir.specs.Directory.{incomplete};
 ghost use Rattle.qc_turn.specs.declared.task.Task.TheVariants as task;
 ghost use Rattle.qc_turn.specs.Tasks.{listed_for, own};
-ghost use Rattle.qc_turn.specs.Seats.{MayRelease, SameHolder, holder};
+ghost use Rattle.qc_turn.specs.Seats.{MayRelease, SameHolder, holder, with_ranges};
+ghost use Rattle.qc_turn.specs.declared.view.FoundWord.{FoundWord};
 ghost use Rattle.qc_core.specs.declared.parts.Parts.{Parts};
 ghost use Rattle.qc_core.specs.Whole.{tasks_of, with_event, IsSomewhereSound};
 ghost use Rattle.qc_core.specs.Calls.{IsNext, HasMoreRoom};
+ghost use Rattle.qc_core.specs.Sweeps.{swept, ReadsStreams, Finds};
 ghost use Rattle.qc_core.specs.Starts.{MayBegin, HasStartRoom, AddsFill, IsBegun, begun_tasks, needs_for};
 ghost use Rattle.qc_core.specs.Takes.{MayTake, next_of, TakesAll, Stops};
 ghost use Rattle.qc_core.specs.Adds.{IsReady, MayAdd, IsAdded, HoldsBlocks, HoldsText, HoldsNothing};
@@ -20,6 +22,7 @@ ghost use Rattle.qc_core.specs.Adds.{IsReady, MayAdd, IsAdded, HoldsBlocks, Hold
 use crate::hands::Hand;
 use crate::parts::{Parts, RunningTask};
 use crate::server::Server;
+use crate::sweeps::strike_ended;
 use crate::takes::Taken;
 use crate::texts::store_text;
 use qc_chain::Ranges;
@@ -175,11 +178,11 @@ impl Server {
 }
 
 /// Begins the entry of a SELECT: it gets a block for each of its tables that has none, the first block of its chain, of a unit, and last a block for its
-/// key, which is stored there; the seat fills it from now on, and has the first block of the chain in hand. Before a block is taken that no free one holds,
-/// the least recently used entries that are complete and without users are pruned, one after another. Where none is left, all blocks are given back, and
-/// the SELECT runs plain for want of room; what was pruned stays so. A block of one of its tables is kept for it when the last entry that names the table
-/// is pruned. All memory is taken first: where it lacks, there may be more room in the journal, and nothing else changed. Linear in the key, and in the
-/// blocks of the entries that are pruned.
+/// key, which is stored there; the seat fills it from now on, and has the first block of the chain in hand. The streams that other seats have ended are
+/// struck off before. Before a block is taken that no free one holds, the least recently used entries that are complete and without users are pruned, one
+/// after another. Where none is left, all blocks are given back, and the SELECT runs plain for want of room; what was pruned stays so. A block of one of its
+/// tables is kept for it when the last entry that names the table is pruned. All memory is taken first: where it lacks, there may be more room in the
+/// journal, and nothing else changed. Linear in the key, and in the blocks of the entries that are pruned.
 pub fn start(
     held: &mut Held<'_, Server>,
     alloc: Global,
@@ -191,14 +194,38 @@ pub fn start(
     requires next { IsNext held.old who }
     requires may { MayBegin key tables held.old.value }
     requires ranges { held.old.value.options.size ≤ 512 * held.old.ranges.room }
-    ensures stands { MayRelease held.new × SameHolder held.old held.new }
-    ensures memory { OnErr result (HasMoreRoom held.old.value held.new.value × (held.new.ranges ≡ held.old.ranges)) }
-    ensures begun { IfOk result (λ b. (s : Parts) × HasMoreRoom held.old.value s × IsBegun (holder held.old).number who key tables s held.new.value held.old.ranges held.new.ranges b) }
+    ensures stands { MayRelease held.new }
+    ensures memory { OnErr result (SameHolder held.old held.new × HasMoreRoom held.old.value held.new.value × (held.new.ranges ≡ held.old.ranges)) }
+    ensures begun { IfOk result (λ b. (found : List FoundWord) × (s : Parts) × Finds held.old (with_ranges held.new held.old.ranges) found × HasMoreRoom held.old.value s × ReadsStreams (holder held.old).number s found
+        × IsBegun (holder held.old).number who key tables (swept found s) held.new.value held.old.ranges held.new.ranges b) }
     ensures listed { IfOk result (λ b. listed_for (holder held.old).number (tasks_of held.new.value) ≡ begun_tasks (holder held.old).number held.new.ranges b) }
 {
     let ready = held.value().make_ready(alloc, &tables)?;
     make_start_room(held)?;
-    Ok(begin(held, who, key, tables, ready))
+    Ok(begin_swept(held, who, key, tables, ready))
+}
+
+/// The start with all memory taken.
+fn begin_swept(
+    held: &mut Held<'_, Server>,
+    who: Who,
+    key: Text,
+    tables: Tables,
+    ready: Ready,
+) -> Begun
+    requires stands { MayRelease held.old }
+    requires next { IsNext held.old who }
+    requires may { MayBegin key tables held.old.value }
+    requires ranges { held.old.value.options.size ≤ 512 * held.old.ranges.room }
+    requires room { HasStartRoom held.old.value }
+    requires ready { IsReady tables held.old.value ready }
+    ensures stands { MayRelease held.new }
+    ensures begun { (found : List FoundWord) × Finds held.old (with_ranges held.new held.old.ranges) found × ReadsStreams (holder held.old).number held.old.value found
+        × IsBegun (holder held.old).number who key tables (swept found held.old.value) held.new.value held.old.ranges held.new.ranges result }
+    ensures listed { listed_for (holder held.old).number (tasks_of held.new.value) ≡ begun_tasks (holder held.old).number held.new.ranges result }
+{
+    strike_ended(held);
+    begin(held, who, key, tables, ready)
 }
 
 /// Makes room in the journal for the event of a start and the two of its entry, beside those that other entries may still have.
@@ -212,7 +239,7 @@ fn make_start_room(held: &mut Held<'_, Server>) -> Result<(), NoMemory>
     held.value().reserve_start()
 }
 
-/// The start with all memory taken.
+/// The same with the streams as they are listed.
 fn begin(held: &mut Held<'_, Server>, who: Who, key: Text, tables: Tables, ready: Ready) -> Begun
     requires stands { MayRelease held.old }
     requires next { IsNext held.old who }
