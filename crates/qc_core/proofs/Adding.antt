@@ -92,6 +92,7 @@ block_within first end (t ∷ ts) b c h = elim (not t.free) as (λ v. Contains (
     covers_end : (first end : ℕ) (ts : List Tile) → CoversFrom first end ts → first ≤ end
     covers_end first end [] c = omega (arith, c)
     covers_end first end (t ∷ ts) c = omega (arith, covers_end (first + t.words) end ts c.1)
+
     later : (first + t.words ≤ b.first) × (b.first + b.words ≤ end) → (first ≤ b.first) × (b.first + b.words ≤ end)
     later (low, high) = (omega (arith, low), high)
 
@@ -360,13 +361,13 @@ module _ (who : Who) (serial : ℕ) (key : List ℕ) (tables : List TableName) (
             in_use = permuted (handed_out us) (blocks_in_use then) (λ b. omega (arith, ap (times b) same, hands b, then_use b));
             pinned = λ x. (
               λ k. subst (λ l. Contains l x) (sym fills) (⊎_elim
-              (λ (o : Contains (pinned_blocks s.tiles) x). Contains-append_left (blocks_of_tasks p) (t.first ∷ []) x ((w.pinned x).0 o))
-              (λ (e : x ≡ t.first). Contains-append_right (blocks_of_tasks p) (t.first ∷ []) x (subst (λ y. Contains (t.first ∷ []) y) (sym e) (in_first t.first [])))
-              ((pins x).0 k)),
+                  (λ (o : Contains (pinned_blocks s.tiles) x). Contains-append_left (blocks_of_tasks p) (t.first ∷ []) x ((w.pinned x).0 o))
+                  (λ (e : x ≡ t.first). Contains-append_right (blocks_of_tasks p) (t.first ∷ []) x (subst (λ y. Contains (t.first ∷ []) y) (sym e) (in_first t.first [])))
+                  ((pins x).0 k)),
               λ k. (pins x).1 (⊎_elim
-              (λ (o : Contains (blocks_of_tasks p) x). inl ((w.pinned x).1 o))
-              (λ (o : Contains (t.first ∷ []) x). ⊎_elim (λ (e : t.first ≡ x). inr (sym e)) (λ (z : Contains [] x). absurd (omega (arith, z.1))) (in_front x t.first [] o))
-              (Contains-append_cases (blocks_of_tasks p) (t.first ∷ []) x (subst (λ l. Contains l x) fills k))),
+                  (λ (o : Contains (blocks_of_tasks p) x). inl ((w.pinned x).1 o))
+                  (λ (o : Contains (t.first ∷ []) x). ⊎_elim (λ (e : t.first ≡ x). inr (sym e)) (λ (z : Contains [] x). absurd (omega (arith, z.1))) (in_front x t.first [] o))
+                  (Contains-append_cases (blocks_of_tasks p) (t.first ∷ []) x (subst (λ l. Contains l x) fills k))),
             );
           }
 
@@ -397,6 +398,7 @@ module _ (who : Who) (serial : ℕ) (key : List ℕ) (tables : List TableName) (
         where
           find_own : IsNamedAs names serial name
           find_own = find_new serial name st.names (sym (any_named serial s.chains st.names) ∙ chainless)
+
           not_named : (xs : List Named) → AllByRecursion (λ x. is_some (chain_at x.number s.chains) ≡ true) xs → list_any (λ m. m == name) (map (λ (x : Named). x.number) xs) ≡ false
           not_named [] h = refl
           not_named (x ∷ xs) h = ap (λ b. b || list_any (λ m. m == name) (map (λ (x : Named). x.number) xs)) (ne_eqb x.number name (begun_else x.number h.0)) ∙ not_named xs h.1

@@ -49,6 +49,7 @@ text_need o key = by (eqb n least_block || eqb n (raised (unit_words o))) (eqb n
   where
     n : ℕ
     n = raised (words_of_bytes (length key))
+
     by : (a b : Bool) → b ≡ true → (a || b) ≡ true
     by true b h = refl
     by false b h = h

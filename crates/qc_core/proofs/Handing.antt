@@ -176,6 +176,7 @@ names_left q t (u ∷ ts) = elim (same_table t u) as (λ x. same_table t u ≡ x
   where
     zero_less : names_of t (filter q ts) ≡ cond (q t) (names_of t ts) 0 → names_of t (filter q ts) ≡ cond (q t) (0 + names_of t ts) 0
     zero_less k = let z : names_of t ts ≡ 0 + names_of t ts = omega arith in k ∙ ap (λ n. cond (q t) n 0) z
+
     zero_more : bit (same_table t u) ≡ 0 → names_of t (filter q ts) ≡ cond (q t) (names_of t ts) 0 → bit (same_table t u) + names_of t (filter q ts) ≡ cond (q t) (0 + names_of t ts) 0
     zero_more z k = let y : bit (same_table t u) + names_of t (filter q ts) ≡ names_of t (filter q ts) = omega (arith, z) in y ∙ zero_less k
 
@@ -208,6 +209,7 @@ hand_begins tables there few apart once = record {
     zero : (b : Bool) → ◌≡◌ {A = ℕ} (cond b 0 0) 0
     zero true = refl
     zero false = refl
+
     by : (t : TableName) (v : Bool) → list_any (is_block_of t) there ≡ v → names_of t (without_block there tables) ≡ cond (not (list_any (is_block_of t) there)) (names_of t tables) 0 → names_of t tables ≡ 1 → blocks_of t there + (0 + names_of t (without_block there tables)) ≡ 1
     by t true e left one =
         let less = at_most_one there once t in
@@ -229,6 +231,7 @@ hand_fresh hand there e h same = record {
     once : (t : TableName) (v : Bool) → list_any (same_table t) hand.tables ≡ v → blocks_of t hand.fresh ≤ 1
     once t true e = omega (arith, h.one t e)
     once t false e = omega (arith, h.none t e)
+
     by : (t : TableName) (v : Bool) → list_any (same_table t) hand.tables ≡ v → list_any (is_block_of t) hand.fresh ≡ (list_any (same_table t) hand.tables && not (list_any (is_block_of t) there))
     by t false e = none_left (is_block_of t) hand.fresh (omega (arith, h.none t e)) ∙ ap (λ v. v && not (list_any (is_block_of t) there)) (sym e)
     by t true e = either (list_any (is_block_of t) there) refl ∙ ap (λ v. v && not (list_any (is_block_of t) there)) (sym e)

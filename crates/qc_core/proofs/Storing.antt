@@ -53,9 +53,9 @@ spelled_each ws key first (suc n) h =
     let less : suc n - 1 ≡ n = omega arith in
     let head : spells (get_or ws first 0) (take 8 key) ≡ true = subst (λ (p : ℕ × ℕ). spells (get_or ws p.0 0) (take 8 (drop p.1 key)) ≡ true) (λ i. (at i, nought i)) (h 0 (omega arith)) in
     let tail = spelled_each ws (drop 8 key) (first + 1) n (λ j low.
-        let place : first + (j + 1) ≡ (first + 1) + j = omega arith in
-        let byte : 8 + 8 * j ≡ 8 * (j + 1) = omega arith in
-        subst (λ (p : ℕ × List ℕ). spells (get_or ws p.0 0) (take 8 p.1) ≡ true) (λ i. (place i, (sym (drop-drop (8 * j) 8 key ∙ ap (λ n. drop n key) byte)) i)) (h (j + 1) (omega (arith, low)))) in
+    let place : first + (j + 1) ≡ (first + 1) + j = omega arith in
+    let byte : 8 + 8 * j ≡ 8 * (j + 1) = omega arith in
+    subst (λ (p : ℕ × List ℕ). spells (get_or ws p.0 0) (take 8 p.1) ≡ true) (λ i. (place i, (sym (drop-drop (8 * j) 8 key ∙ ap (λ n. drop n key) byte)) i)) (h (j + 1) (omega (arith, low)))) in
     ap (λ l. is_text l key) (one ∙ ap (λ n. get_or ws first 0 ∷ read ws (first + 1) n) less) ∙ (λ i. both (head i) (tail i))
   where
     both : Bool → Bool → Bool
