@@ -1,4 +1,3 @@
-pub mod Sorts
 pub mod Firsts
 pub mod Orders
 pub mod Places
@@ -9,6 +8,7 @@ pub mod Scans
 pub mod Keys
 pub mod Ranges
 pub mod Levels
+pub mod Members
 pub mod Folds
 pub mod SortKeys
 pub mod Spans

@@ -99,7 +99,7 @@ pub fn negated(a: Option<bool>) -> Option<bool>
 }
 
 /// OR of three values.
-pub fn either(a: Option<bool>, b: Option<bool>) -> Option<bool>
+fn either(a: Option<bool>, b: Option<bool>) -> Option<bool>
     ensures { result ≡ meant.either a b }
 {
     negated(both(negated(a), negated(b)))

@@ -8,7 +8,7 @@ use Rattle.qc_sql.specs.declared.statements.Cond.TheVariants.{Or, And}
 use Rattle.qc_types.specs.declared.names.Value.{Value}
 use Rattle.qc_sql.specs.declared.statements.Expr.{Expr}
 use Rattle.qc_sql.specs.Errors.{not_supported}
-use Rattle.qc_sql.specs.Rows.{Scope, mixes, sort_of_value, refuse_if, each, ◌>>=◌}
+use Rattle.qc_sql.specs.Rows.{Scope, mixes, sort_of_value, refuse_if, each, value_cmp, sorted, ◌>>=◌}
 use Rattle.qc_resolve.specs.Values.{Validated, row_validated}
 use Rattle.qc_sql.specs.Trees.{fold_cond-Or, fold_cond-And}
 use Rattle.qc_resolve.specs.declared.test.Test.{Test}
@@ -37,10 +37,10 @@ mixes_any x vs = list_any (λ v. mixes x.sort (sort_of_value v)) vs
 
 pub in_refused : (scope : Scope) (a : Expr) (vs ys : List Value) (x : Validated) → row_validated scope a ≡ Ok x → ys ≡ vs → mixes_any x ys ≡ true → in_validated scope a vs ≡ Err (not_supported (codes "mixed comparison"))
 in_refused scope a vs ys x h e k =
-    ap (λ r. r >>= λ x. refuse_if (mixes_any x vs) (not_supported (codes "mixed comparison")) >>= λ _. Ok (made.In x.formula vs)) h
-    ∙ ap (λ b. refuse_if b (not_supported (codes "mixed comparison")) >>= λ _. Ok (made.In x.formula vs)) (ap (mixes_any x) (sym e) ∙ k)
+    ap (λ r. r >>= λ x. refuse_if (mixes_any x vs) (not_supported (codes "mixed comparison")) >>= λ _. Ok (made.In x.formula (sorted value_cmp vs))) h
+    ∙ ap (λ b. refuse_if b (not_supported (codes "mixed comparison")) >>= λ _. Ok (made.In x.formula (sorted value_cmp vs))) (ap (mixes_any x) (sym e) ∙ k)
 
-pub in_taken : (scope : Scope) (a : Expr) (vs ys : List Value) (x : Validated) → row_validated scope a ≡ Ok x → ys ≡ vs → mixes_any x ys ≡ false → in_validated scope a vs ≡ Ok (made.In x.formula vs)
+pub in_taken : (scope : Scope) (a : Expr) (vs ys : List Value) (x : Validated) → row_validated scope a ≡ Ok x → ys ≡ vs → mixes_any x ys ≡ false → in_validated scope a vs ≡ Ok (made.In x.formula (sorted value_cmp vs))
 in_taken scope a vs ys x h e k =
-    ap (λ r. r >>= λ x. refuse_if (mixes_any x vs) (not_supported (codes "mixed comparison")) >>= λ _. Ok (made.In x.formula vs)) h
-    ∙ ap (λ b. refuse_if b (not_supported (codes "mixed comparison")) >>= λ _. Ok (made.In x.formula vs)) (ap (mixes_any x) (sym e) ∙ k)
+    ap (λ r. r >>= λ x. refuse_if (mixes_any x vs) (not_supported (codes "mixed comparison")) >>= λ _. Ok (made.In x.formula (sorted value_cmp vs))) h
+    ∙ ap (λ b. refuse_if b (not_supported (codes "mixed comparison")) >>= λ _. Ok (made.In x.formula (sorted value_cmp vs))) (ap (mixes_any x) (sym e) ∙ k)

@@ -16,5 +16,7 @@ pub mod RowAgrees
 pub mod Scans
 pub mod Shows
 pub mod Sizes
+pub mod Sorts
 pub mod Steps
 pub mod TestAgrees
+pub mod ValueOrder

@@ -13,7 +13,7 @@ use Rattle.qc_sql.specs.declared.statements.Cond.TheVariants.{Or', And', Not', C
 use Rattle.qc_sql.specs.Errors.{not_supported}
 use Rattle.qc_sql.specs.Trees.{fold_cond, fold_conds}
 use Rattle.qc_sql.specs.Rows as meant
-use Rattle.qc_sql.specs.Rows.{Bound, Scope, Combination, Good, Sort, Truth, check, comparison, compared, condition, good, one_group, mixes, sort_of_value, is_null, is_true, any_of, all_of, both, negated, each, refuse_if, ◌>>=◌}
+use Rattle.qc_sql.specs.Rows.{Bound, Scope, Combination, Good, Sort, Truth, check, comparison, compared, condition, good, one_group, mixes, sort_of_value, is_null, is_true, any_of, all_of, both, negated, each, refuse_if, value_cmp, sorted, ◌>>=◌}
 use Rattle.qc_resolve.specs.declared.formula.Formula.{Formula}
 use Rattle.qc_resolve.specs.declared.test.Test.{Test}
 use Rattle.qc_resolve.specs.declared.test.Test.TheVariants as made
@@ -25,6 +25,7 @@ use Rattle.qc_resolve.specs.Meaning as meaning
 use Rattle.qc_resolve.specs.Meaning.{row_value, truth, keeps}
 use Rattle.qc_resolve.specs.Values.{Validated, row_validated}
 use Rattle.qc_resolve.proofs.RowAgrees.{Similar, IsSame, similar}
+use Rattle.qc_resolve.proofs.Sorts.{any_of_sorted}
 
 abbrev Meant : Type 0
 Meant = Combination → Truth
@@ -168,22 +169,22 @@ module _ (scope : Scope) where
   each_same x w (v ∷ vs) c h = λ i. compared op.Eq (h i) v ∷ each_same x w vs c h i
 
   in_at : (x : Good) (w : Validated) (vs : List Value) (b : Bool) → IsSame bounds x w
-      → SameTest bounds (cond b (Err mixed) (Ok (with_each x vs)) >>= λ tests. Ok (λ c. any_of (map (λ t. t c) tests))) (refuse_if b mixed >>= λ _. Ok (made.In w.formula vs))
+      → SameTest bounds (cond b (Err mixed) (Ok (with_each x vs)) >>= λ tests. Ok (λ c. any_of (map (λ t. t c) tests))) (refuse_if b mixed >>= λ _. Ok (made.In w.formula (sorted value_cmp vs)))
   in_at x w vs true h = refl
-  in_at x w vs false h = λ c k. ap any_of (each_same x w vs c (h.value c k))
+  in_at x w vs false h = λ c k. ap any_of (each_same x w vs c (h.value c k)) ∙ sym (any_of_sorted (compared op.Eq (row_value c w.formula)) value_cmp vs)
 
   in_one : (x : Good) (w : Validated) (vs : List Value) → IsSame bounds x w
       → SameTest bounds (each (λ v. comparison op.Eq x (good (sort_of_value v) (λ _. v))) vs >>= λ tests. Ok (λ c. any_of (map (λ t. t c) tests)))
-      (refuse_if (list_any (λ v. mixes w.sort (sort_of_value v)) vs) (not_supported (codes "mixed comparison")) >>= λ _. Ok (made.In w.formula vs))
+      (refuse_if (list_any (λ v. mixes w.sort (sort_of_value v)) vs) (not_supported (codes "mixed comparison")) >>= λ _. Ok (made.In w.formula (sorted value_cmp vs)))
   unfolding mixed
   in_one x w vs h =
-      subst (λ r. SameTest bounds (r >>= λ tests. Ok (λ c. any_of (map (λ t. t c) tests))) (refuse_if (list_any (λ v. mixes w.sort (sort_of_value v)) vs) mixed >>= λ _. Ok (made.In w.formula vs)))
+      subst (λ r. SameTest bounds (r >>= λ tests. Ok (λ c. any_of (map (λ t. t c) tests))) (refuse_if (list_any (λ v. mixes w.sort (sort_of_value v)) vs) mixed >>= λ _. Ok (made.In w.formula (sorted value_cmp vs))))
       (sym (literals x vs ∙ ap (λ s. cond (list_any (λ v. mixes s (sort_of_value v)) vs) (Err mixed) (Ok (with_each x vs))) h.sort))
       (in_at x w vs (list_any (λ v. mixes w.sort (sort_of_value v)) vs) h)
 
   in_case : (r : Result Good SqlError) (w : Result Validated SqlError) (vs : List Value) → Similar bounds r w
       → SameTest bounds (r >>= λ x. each (λ v. comparison op.Eq x (good (sort_of_value v) (λ _. v))) vs >>= λ tests. Ok (λ c. any_of (map (λ t. t c) tests)))
-      (w >>= λ x. refuse_if (list_any (λ v. mixes x.sort (sort_of_value v)) vs) (not_supported (codes "mixed comparison")) >>= λ _. Ok (made.In x.formula vs))
+      (w >>= λ x. refuse_if (list_any (λ v. mixes x.sort (sort_of_value v)) vs) (not_supported (codes "mixed comparison")) >>= λ _. Ok (made.In x.formula (sorted value_cmp vs)))
   in_case (Ok x) (Ok w) vs h = in_one x w vs h
   in_case (Err e) (Err f) vs h = h
   in_case (Ok x) (Err f) vs h = absurd h

@@ -17,7 +17,7 @@ use Rattle.qc_sql.specs.declared.statements.Select.{Select}
 use Rattle.qc_sql.specs.Trees.{fold_expr, fold_cond}
 use Rattle.qc_sql.specs.Database.{Name, Database, Table}
 use Rattle.qc_sql.specs.Errors.{not_supported, name_not_unique, too_many_combinations, too_many_columns}
-use Rattle.qc_sql.specs.Rows.{Bound, Scope, Found, Sort, mixes, sort_of_value, each, ◌>>=◌, refuse_if, refuse_some, bind, first_repeated, combination_count, aggregate_at, has_aggregate, of_column, definition_of}
+use Rattle.qc_sql.specs.Rows.{Bound, Scope, Found, Sort, mixes, sort_of_value, each, ◌>>=◌, refuse_if, refuse_some, bind, first_repeated, combination_count, aggregate_at, has_aggregate, of_column, definition_of, value_cmp, sorted}
 use Rattle.qc_resolve.specs.declared.definitions.ColumnNames.{ColumnNames}
 use Rattle.qc_resolve.specs.declared.formula.Formula.{Formula}
 use Rattle.qc_resolve.specs.declared.formula.Formula.TheVariants as form
@@ -47,7 +47,7 @@ null_validated scope a = row_validated scope a >>= λ x. Ok (test.IsNull x.formu
 
 abbrev pub in_validated : Scope → Expr → List Value → Result Test SqlError
 in_validated scope a vs = row_validated scope a >>= λ x.
-    refuse_if (list_any (λ v. mixes x.sort (sort_of_value v)) vs) (not_supported (codes "mixed comparison")) >>= λ _. Ok (test.In x.formula vs)
+    refuse_if (list_any (λ v. mixes x.sort (sort_of_value v)) vs) (not_supported (codes "mixed comparison")) >>= λ _. Ok (test.In x.formula (sorted value_cmp vs))
 
 -- the test of three values that were found good
 abbrev pub between_values : Validated → Validated → Validated → Result Test SqlError

@@ -10,6 +10,7 @@ ghost use Rattle.qc_resolve.specs.Views.{sort_of, validated_of};
 
 use crate::scope::Scope;
 use crate::test::{Test, Tests};
+use crate::value_set::ValueSet;
 use crate::values::{Sort, Valued, row_value, sort_of_literal};
 use qc_sql::errors::not_supported;
 use qc_sql::statements::{Cond, Expr, Op, Values};
@@ -86,7 +87,7 @@ fn is_in(alloc: Global, scope: &Scope, of: &Expr, values: &Values) -> Result<Tes
     if mixes_any(of.sort, values.items()) {
         return Err(Or::Other(not_supported(alloc, b"mixed comparison")?));
     }
-    Ok(Test::In(of.formula, values.copy(alloc)?))
+    Ok(Test::In(of.formula, ValueSet::from_values(alloc, values)?))
 }
 
 fn between(

@@ -14,6 +14,7 @@ mod resolved;
 mod scope;
 mod select;
 mod test;
+mod value_set;
 mod values;
 
 pub use bind::check_database;
@@ -22,3 +23,4 @@ pub use matching::resolve_condition;
 pub use resolved::{Fold, Folds, OrderKey, OrderKeys, Output, Resolved, Versions};
 pub use select::resolve;
 pub use test::{Test, Tests};
+pub use value_set::ValueSet;

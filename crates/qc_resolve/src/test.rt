@@ -1,7 +1,8 @@
 //! Conditions on rows, with each column found.
 
 use crate::formula::Formula;
-use qc_sql::statements::{Op, Values};
+use crate::value_set::ValueSet;
+use qc_sql::statements::Op;
 use qc_types::{Boxed, OwnedList};
 
 /// A condition of three truth values on a combination of rows.
@@ -13,7 +14,7 @@ pub enum Test {
     Compare(Formula, Op, Formula),
     IsNull(Formula),
     /// Whether the value equals one of the literals.
-    In(Formula, Values),
+    In(Formula, ValueSet),
     /// Whether the first value is at least the second and at most the third.
     Between(Formula, Formula, Formula),
 }

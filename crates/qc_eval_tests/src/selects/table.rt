@@ -663,6 +663,14 @@ SELECT id FROM t WHERE name NOT IN ('b', 'a', 'b')
     id: 3 | 4 | 7
 SELECT id FROM t WHERE name NOT IN ('b', NULL)
     id:
+SELECT id FROM t WHERE name IN ('B', 'AB', 'A')
+    id: 4
+SELECT id FROM t WHERE name NOT IN ('B', 'AB', 'A', 'B')
+    id: -2 | 1 | 3 | 7
+SELECT id FROM t WHERE name IN ('c', 'b', 'ab', 'a', 'C', 'B')
+    id: -2 | 1 | 4 | 7
+SELECT id FROM t WHERE id IN (8, 7, 3, 2, -2, -3)
+    id: -2 | 2 | 3 | 7
 SELECT COUNT(*) FROM t WHERE id IN (1, 1, 2, NULL)
     COUNT(*): 2
 SELECT COUNT(*) FROM t a, t b WHERE a.id IN (1, 2, NULL) AND b.id IN (2, 3, 3)

@@ -13,4 +13,4 @@ returns-then-mixes_any c =
 pub returns : goal.returns
 returns c =
     in_taken c.args.scope.now c.args.of.now c.args.values.now c.items.result.now (validated_of c.in_ok-of.of) c.in_ok-of.ensures c.items.ensures (sym c.if-mixes_any.ensures)
-    ∙ ap (λ (vs : List Value). Ok (made.In c.in_ok-of.of.formula vs)) (sym c.in_ok-copy.ensures)
+    ∙ ap (λ (vs : List Value). Ok (made.In c.in_ok-of.of.formula vs)) (sym c.in_ok-from_values.ensures)

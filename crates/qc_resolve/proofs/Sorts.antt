@@ -1,5 +1,5 @@
 -- A list that is sorted stably is the one that the definition gives: a stable sort leaves no choice.
-use Rattle.std.proofs.Common.{◌≡◌, Bool, true, false, cond, not, ◌&&◌, List, [], ◌∷◌, map, refl, sym, ap, ◌∙◌, arith, add-one, suc, if◌then◌else◌}
+use Rattle.std.proofs.Common.{◌≡◌, Bool, true, false, Some, None, cond, not, ◌&&◌, List, [], ◌∷◌, map, refl, sym, ap, ◌∙◌, arith, add-one, suc, if◌then◌else◌}
 use Rattle.std.specs.Cmp.{IsTotalOrder, IsStrictWeakOrder}
 use Rattle.std.specs.List.{filter}
 use Rattle.std.specs.List.Sorted.{IsSortedBy, IsStableBy, ties}
@@ -7,7 +7,7 @@ use Rattle.std.specs.Ordering.{is_lt, is_gt, ordering_reverse}
 use Rattle.std.specs.declared.cmp.Ordering.{Ordering}
 use Rattle.std.specs.declared.cmp.Ordering.TheVariants.{Less, Equal, Greater}
 use Rattle.std.proofs.lemmas.List.Sorted.{ranks_by}
-use Rattle.qc_sql.specs.Rows.{insert_before_ties, sorted}
+use Rattle.qc_sql.specs.Rows.{Truth, any_of, either, insert_before_ties, sorted}
 
 module _ {X : Type 0} (lt : X → X → Bool) (o : IsStrictWeakOrder lt) where
   -- none of a list is below an element
@@ -175,3 +175,33 @@ insert-map f cmp x (y ∷ ys) =
 pub sorted-map : {X Y : Type 0} (f : X → Y) (cmp : Y → Y → Ordering) (xs : List X) → map f (sorted (λ a b. cmp (f a) (f b)) xs) ≡ sorted cmp (map f xs)
 sorted-map f cmp [] = refl
 sorted-map f cmp (x ∷ xs) = insert-map f cmp x (sorted (λ a b. cmp (f a) (f b)) xs) ∙ ap (insert_before_ties cmp (f x)) (sorted-map f cmp xs)
+
+-- ---- truths in another order
+
+either_swap : (a b c : Truth) → either a (either b c) ≡ either b (either a c)
+either_swap (Some true) (Some true) c = refl
+either_swap (Some true) (Some false) c = refl
+either_swap (Some true) None c = refl
+either_swap (Some false) (Some true) c = refl
+either_swap (Some false) (Some false) c = refl
+either_swap (Some false) None (Some true) = refl
+either_swap (Some false) None (Some false) = refl
+either_swap (Some false) None None = refl
+either_swap None (Some true) c = refl
+either_swap None (Some false) (Some true) = refl
+either_swap None (Some false) (Some false) = refl
+either_swap None (Some false) None = refl
+either_swap None None c = refl
+
+any_of_inserted : {X : Type 0} (f : X → Truth) (cmp : X → X → Ordering) (x : X) (xs : List X) → any_of (map f (insert_before_ties cmp x xs)) ≡ either (f x) (any_of (map f xs))
+any_of_inserted f cmp x [] = refl
+any_of_inserted f cmp x (y ∷ ys) =
+    elim (is_gt (cmp x y)) as (λ b. any_of (map f (if b then y ∷ insert_before_ties cmp x ys else x ∷ y ∷ ys)) ≡ either (f x) (either (f y) (any_of (map f ys)))) [
+      | true ↦ ap (either (f y)) (any_of_inserted f cmp x ys) ∙ either_swap (f y) (f x) (any_of (map f ys))
+      | false ↦ refl
+    ]
+
+-- OR of what a function makes of each doesn't depend on their order.
+pub any_of_sorted : {X : Type 0} (f : X → Truth) (cmp : X → X → Ordering) (xs : List X) → any_of (map f (sorted cmp xs)) ≡ any_of (map f xs)
+any_of_sorted f cmp [] = refl
+any_of_sorted f cmp (x ∷ xs) = any_of_inserted f cmp x (sorted cmp xs) ∙ ap (either (f x)) (any_of_sorted f cmp xs)
