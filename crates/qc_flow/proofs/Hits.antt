@@ -40,6 +40,7 @@ use Rattle.qc_core.specs.KeptLaws.{blocks_named}
 use Rattle.qc_core.specs.Whole.{Named, IsNamedAs, chain_blocks, chain_bytes, chain_in, listed_in, tasks_of, with_event}
 use Rattle.qc_core.proofs.Seeking.{pair_of}
 use Rattle.qc_core.proofs.Uses.{serial_at, find_all}
+use Rattle.qc_flow.proofs.Removals.{find_last}
 use Rattle.qc_flow.specs.Hits.{HasHit, Looked, HitsAnswer, StreamsBegin}
 
 -- ---- the entry in the cache
@@ -79,10 +80,6 @@ none_left n (x ∷ es) = elim (is_entry n x) as (λ b. is_entry n x ≡ b → li
   | true ↦ λ e. none_left n es
   | false ↦ λ e. ap (λ b. b || list_any (is_entry n) (without n es)) e ∙ none_left n es
 ] refl
-
-find_last : (p : Cached → Bool) (xs : List Cached) (y : Cached) → list_any p xs ≡ false → p y ≡ true → find p (xs ++ y ∷ []) ≡ Some y
-find_last p [] y h is = ap (λ b. cond b (Some y) None) is
-find_last p (x ∷ xs) y h is = let t = neither (p x) (list_any p xs) h in ap (λ b. cond b (Some x) (find p (xs ++ y ∷ []))) t.0 ∙ find_last p xs y t.1 is
 
 used_there : (n : ℕ) (es : List Cached) (y : Cached) → entry_of n es ≡ Some y → y.serial ≡ n → entry_of n (used n es) ≡ Some y
 used_there n es y h serial =
@@ -160,45 +157,18 @@ module _ (g h : Held Parts Event ghosts) (who : Who) (serial : ℕ) (key : List 
       let bytes : chain_bytes (chain_at entry.chain.number t.chains) ≡ h.ranges.bytes = ap chain_bytes chain_is in
       ap (λ k. answer k (present t.journal.events)) (sym key_is) ∙ (q.spelled.kept_answer (q.is.complete ∙ whole) ∙ (λ i. Some (text_of (words h) (blocks i) (bytes i))))
 
-  -- the seat's task is the new one
-  work_is : listed_for (holder g).number (tasks_of t) ≡ listed_in t.chains (streams (holder g).number serial old_pair.0) ∷ []
-  work_is =
-      let n = (holder g).number in
-      let x = listed_in t.chains (streams n serial old_pair.0) in
-      let chains = ap (λ (p : Parts). p.chains) server in
-      let items : tasks_of t ≡ map (listed_in t.chains) (s.tasks.items ++ streams n serial old_pair.0 ∷ []) = ap (λ (p : Parts). map (listed_in t.chains) p.tasks.items) server in
-      let none : listed_for n (map (listed_in t.chains) s.tasks.items) ≡ [] = ap (λ cs. listed_for n (map (listed_in cs) s.tasks.items)) chains ∙ l.next.free in
-      ap (listed_for n) (items ∙ map-append (listed_in t.chains) s.tasks.items (streams n serial old_pair.0 ∷ []))
-      ∙ (filter-append _ (map (listed_in t.chains) s.tasks.items) (x ∷ [])
-      ∙ (ap (λ l. l ++ listed_for n (x ∷ [])) none ∙ ap (λ b. cond b (x ∷ []) []) (eq-eqb n n refl)))
-
-  same_number : old_pair.0.chain.number ≡ entry.chain.number
-  same_number =
-      let P = λ (w : RunningTask). IfSome (serial_of w.task) (λ n. IsNamedAs names n w.chain.number) in
-      let items : t.tasks.items ≡ s.tasks.items ++ streams (holder g).number serial old_pair.0 ∷ [] = ap (λ (p : Parts). p.tasks.items) server in
-      let one : IsNamedAs names serial old_pair.0.chain.number = last_of P s.tasks.items (streams (holder g).number serial old_pair.0) (subst (AllByRecursion P) items l.stands.sound.1.named.tasks) in
-      let two : IsNamedAs names serial entry.chain.number = subst (λ n. IsNamedAs names n entry.chain.number) (serial_at serial t.dir.entries entry there) named in
-      ap (λ (x : Named). x.number) (same_Some (record { serial = serial; number = old_pair.0.chain.number }) (record { serial = serial; number = entry.chain.number }) (sym one ∙ two))
-    where
-      last_of : (P : RunningTask → Type 0) (ws : List RunningTask) (w : RunningTask) → AllByRecursion P (ws ++ w ∷ []) → P w
-      last_of P [] w a = a.0
-      last_of P (x ∷ ws) w a = last_of P ws w a.1
-
   pub has_hit : HasHit h serial key
-  has_hit =
-      let n = (holder g).number in
-      let blocks : chain_blocks (chain_at old_pair.0.chain.number t.chains) ≡ h.ranges.blocks = ap (λ k. chain_blocks (chain_at k t.chains)) same_number ∙ ap chain_blocks chain_is in
-      let listed : listed_for n (tasks_of t) ≡ own n (task.Stream serial) h.ranges.blocks = work_is ∙ (λ i. record { number = n; task = task.Stream serial; blocks = blocks i } ∷ []) in
-      record {
-        listed = subst (λ k. listed_for k (tasks_of t) ≡ own k (task.Stream serial) h.ranges.blocks) (sym l.number) listed;
-        answered = answered;
-      }
+  has_hit = record {
+    listed = subst (λ k. listed_for k (tasks_of t) ≡ own k (task.Stream serial) h.ranges.blocks) (sym l.number) l.listed;
+    within = l.within;
+    answered = answered;
+  }
 
 pub hits_answer : HitsAnswer
 hits_answer g h who serial key state l = has_hit g h who serial key state l
 
 pub streams_begin : StreamsBegin
-streams_begin h out key hit bytes within =
+streams_begin h out key hit bytes =
     let v = with_word_set (holder h) true in
     let us = words h in
     let bs = h.ranges.blocks in
@@ -208,11 +178,12 @@ streams_begin h out key hit bytes within =
     let long : length (spelled us bs) ≡ length (places bs) = length-map (places bs) (λ i. slice_index us i) in
     let all = length_words bs in
     let size = ap (λ (l : List ℕ). length l) content in
+    let within = hit.within in
     record {
       streams = record {
         task = ap (λ ts. released_task true (task_in ts)) one;
         words = size ∙ (long ∙ ap (λ l. length (places l)) (sym blocks));
-        within = omega (arith, within, size, long, all);
+        within = omega (arith, within, bytes, size, long, all);
       };
       answered = hit.answered ∙ (λ i. Some (take (sym bytes i) (bytes_of (sym content i))));
     }

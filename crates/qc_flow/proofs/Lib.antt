@@ -1,2 +1,11 @@
 pub mod Pieces
+pub mod Packets
+pub mod Removals
+pub mod Holdings
+pub mod Seats
 pub mod Hits
+pub mod Licences
+pub mod Begins
+pub mod Takings
+pub mod EndedSeats
+pub mod Told

@@ -1,5 +1,6 @@
-//! Laws of hits: functions with no code, of which the contract is the law.
+//! Laws of hits and fills: functions with no code, of which the contract is the law.
 
+ghost use Rattle.qc_flow.specs.Begins.{FillsBegin, PacketsFollow};
 ghost use Rattle.qc_flow.specs.Hits.{HitsAnswer, StreamsBegin};
 
 /// The words that a hit has in hand spell what its key answers, and its stream is listed for the seat.
@@ -10,4 +11,14 @@ pub fn hits_answer()
 /// After the release the seat streams the hit, and its bytes are what the key answers.
 pub fn streams_begin()
     ensures { StreamsBegin }
+{}
+
+/// After the release the seat fills the entry that was started, and nothing of it is stored.
+pub fn fills_begin()
+    ensures { FillsBegin }
+{}
+
+/// Once a packet of the answer is stored, the one behind it comes next, and behind the last one the answer is whole.
+pub fn packets_follow()
+    ensures { PacketsFollow }
 {}

@@ -1,8 +1,13 @@
-//! What a session does with its seat outside the lock: hits go out piece by piece.
+//! What a session does with its seat outside the lock: hits go out piece by piece, and entries are filled packet by packet.
 #![tactic(auto)]
 
+mod endings;
+mod fills;
+mod growths;
 mod laws;
+mod packs;
 mod streams;
 
-pub use laws::{hits_answer, streams_begin};
+pub use fills::{Ended, Fill, FillStep};
+pub use laws::{fills_begin, hits_answer, packets_follow, streams_begin};
 pub use streams::Stream;

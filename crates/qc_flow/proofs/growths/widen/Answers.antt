@@ -1,0 +1,59 @@
+use Rattle.std.proofs.Common.{rules, ◌≡◌, ℕ, true, List, [], ap, sym, subst, ◌∙◌}
+use Rattle.std.specs.Prelude.{IfErr}
+use Rattle.qc_chain.specs.Chains.{Ranged}
+use Rattle.qc_turn.specs.Seats.{view, words, holder}
+use Rattle.qc_flow.specs.Growths.{WasShort, settled}
+use Rattle.qc_turn.specs.Tasks.{listed_for}
+use Rattle.qc_core.specs.Whole.{tasks_of}
+use Rattle.qc_flow.proofs.Holdings.{continues_both, number_on, grown_front}
+use Rattle.qc_flow.proofs.Takings.{took_fill, fills_for, fill_content, seat_fills, seat_rests}
+use Rattle.qc_flow.proofs.growths.widen.Goals as goal
+
+pub grow_to-requires-clause-stands : goal.grow_to-requires-clause-stands
+grow_to-requires-clause-stands g c =
+    let t = c.take-held.ensures in
+    (took_fill (view c.args.seat.now) c.take-held.result c.args.serial t.held.0 t.taken t.holds c.requires.seated.1).stands
+
+pub grow_to-requires-clause-fills : goal.grow_to-requires-clause-fills
+grow_to-requires-clause-fills g c =
+    let t = c.take-held.ensures in
+    let v = view c.args.seat.now in
+    let h = c.take-held.result in
+    fills_for v h c.args.seat.now.ranges c.args.serial c.args.total (took_fill v h c.args.serial t.held.0 t.taken t.holds c.requires.seated.1) t.taken c.requires.seated.1 c.requires.seated.0.ranges t.ranges c.requires.wants c.requires.room
+
+pub returns-in-Err-clause-goes_on : goal.returns-in-Err-clause-goes_on
+returns-in-Err-clause-goes_on g c =
+    let n = c.args.serial in
+    let t = c.take-held.ensures in
+    let v = view c.args.seat.now in
+    let h = c.take-held.result in
+    let k = c.grow_to.new.held in
+    let m = c.end_short-step.new.held in
+    let f = took_fill v h n t.held.0 t.taken t.holds c.requires.seated.1 in
+    let both = continues_both h k m c.grow_to.ensures.stands.1 c.end_short-step.ensures.stands.1 in
+    let none = subst (λ i. listed_for i (tasks_of m.value) ≡ []) (number_on h k c.grow_to.ensures.stands.1) c.end_short-step.ensures.rests in
+    let q = (seat_rests v _ h m n f t.taken c.requires.seated.0.free both.view both.value none c.release.ensures.view).goes_on in
+    search (rules, q)
+
+pub release-requires-2-clause-content : goal.release-requires-2-clause-content
+release-requires-2-clause-content g c =
+    let n = c.args.serial in
+    let t = c.take-held.ensures in
+    let v = view c.args.seat.now in
+    let h = c.take-held.result in
+    let k = c.grow_to.new.held in
+    let e = c.grow_to.ensures in
+    let f = took_fill v h n t.held.0 t.taken t.holds c.requires.seated.1 in
+    fill_content v h k c.args.seat.now.ranges n c.args.total f t.taken c.requires.seated.1 e.stands.1 e.fills e.stands.0 c.requires.seated.0.ranges t.ranges c.requires.wants e.words (grown_front c.args.total h.ranges.blocks k.ranges.blocks e.blocks)
+
+pub returns-clause-goes_on : goal.returns-clause-goes_on
+returns-clause-goes_on g c =
+    let n = c.args.serial in
+    let t = c.take-held.ensures in
+    let v = view c.args.seat.now in
+    let h = c.take-held.result in
+    let k = c.grow_to.new.held in
+    let e = c.grow_to.ensures in
+    let f = took_fill v h n t.held.0 t.taken t.holds c.requires.seated.1 in
+    let q = (seat_fills v h k c.args.seat.now.ranges n c.args.total f t.taken c.requires.seated.1 e.stands.1 e.fills _ c.requires.seated.0.free c.release-2.ensures.view).0 in
+    search (rules, q)

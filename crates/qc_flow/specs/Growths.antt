@@ -1,0 +1,96 @@
+-- A fill gets blocks: what is asked, and what becomes of the holding and of the seat.
+use Rattle.std.specs.Prelude.{◌≡◌, ℕ, ◌*◌, ◌<◌, ◌≤◌, ◌⊎◌, true, false, Some, None, List, [], ◌∷◌, ◌++◌, length}
+use Rattle.qc_model.specs.declared.events.Event.{Event}
+use Rattle.qc_model.specs.declared.events.Event.TheVariants as event
+use Rattle.qc_model.specs.declared.events.GoneWhy.TheVariants as gone
+use Rattle.qc_model.specs.Agrees.{is_ended}
+use Rattle.qc_model.specs.Cache.{cache, entry_of}
+use Rattle.qc_model.specs.Journal.{Journal, present}
+use Rattle.qc_model.specs.Licence.{IsFilling, unit_words}
+use Rattle.qc_model.specs.Session.{answer}
+use Rattle.qc_laws.specs.history.Runs.{IsStarted}
+use Rattle.qc_tiles.specs.declared.blocks.Block.{Block}
+use Rattle.qc_chain.specs.Words.{words_of}
+use Rattle.qc_turn.specs.declared.task.Task.TheVariants as task
+use Rattle.qc_turn.specs.declared.view.Holding.TheVariants.{Free}
+use Rattle.qc_turn.specs.declared.view.View.{View}
+use Rattle.qc_turn.specs.Seats.{Held, holder}
+use Rattle.qc_turn.specs.Tasks.{listed_for, own}
+use Rattle.qc_turn.specs.Views.{of_seat}
+use Rattle.qc_turn.specs.Words.{StartsWith}
+use Rattle.qc_core.specs.Allocates.{LacksTile}
+use Rattle.qc_core.specs.Overtaken.{IsOvertaken}
+use Rattle.qc_core.specs.Whole.{tasks_of}
+use Rattle.qc_core.specs.contracts.server.ServerKept.TheImpl.{ghosts}
+use Rattle.qc_core.specs.declared.grows.Short.{Short}
+use Rattle.qc_core.specs.declared.grows.Short.TheVariants as short
+use Rattle.qc_core.specs.declared.parts.Parts.{Parts}
+use Rattle.qc_flow.specs.Seats.{HasEnded, EndsIn}
+use Rattle.qc_flow.specs.declared.fills.FillStep.{FillStep}
+use Rattle.qc_flow.specs.declared.fills.FillStep.TheVariants as step
+
+-- what is stored begins the answer of the entry at its start, which has so many bytes at least
+pub record Wants (serial total : ℕ) (v : View Parts Event) : Type 0 where
+  pub start : IsStarted v.seen serial
+  pub all : List ℕ
+  pub answered : answer start.key (present start.earlier) ≡ Some all
+  pub begun : StartsWith all v.content
+  pub long : total ≤ length all
+
+-- the blocks hold fewer bytes
+abbrev pub HoldFewer : List Block → ℕ → Type 0
+HoldFewer blocks total = 8 * words_of blocks < total
+
+-- the blocks are as they were, or there are more, and without the last one they hold fewer bytes
+abbrev pub GrowFor : ℕ → List Block → List Block → Type 0
+GrowFor total old new = (new ≡ old) ⊎ ((front : List Block) × (last : Block) × (new ≡ front ++ last ∷ []) × StartsWith front old × HoldFewer front total)
+
+-- the blocks hold so many bytes, or they held fewer, and the fill has ended
+abbrev pub Widens : (serial total : ℕ) → View Parts Event → View Parts Event → FillStep → Type 0
+Widens serial total old new step.More = (new.task ≡ task.Fill serial) × (new.content ≡ old.content) × GrowFor total old.blocks new.blocks × (total ≤ 8 * words_of new.blocks)
+Widens serial total old new (step.Overtaken by) = HoldFewer old.blocks total × HasEnded serial new × IsOvertaken new.seen serial by
+Widens serial total old new (step.TooLarge length) = ⊥
+Widens serial total old new (step.NoRoom need largest) = HoldFewer old.blocks total × HasEnded serial new × EndsIn (event.Gone serial (gone.NoRoom need largest)) new.seen
+
+-- ---- under the turn
+
+-- the journal goes on by events of no session, and the rest of what the lock sees stays
+pub record Onward (old new : Parts) : Type 0 where
+  pub later : Journal
+  pub events : new.journal.events ≡ old.journal.events ++ later
+  pub quiet : (n : ℕ) → of_seat ghosts n later ≡ []
+  pub options : new.options ≡ old.options
+  pub connected : new.connected ≡ old.connected
+
+-- what the holder knew before it took the turn
+abbrev pub settled : View Parts Event → View Parts Event
+settled v = record v { holding = Free; found = [] }
+
+-- the same seat holds the same turn
+pub record Continues (h k : Held Parts Event ghosts) : Type 0 where
+  pub seat : k.seat.ghost_name ≡ h.seat.ghost_name
+  pub turn : k.turn.now ≡ h.turn.now
+  pub view : settled (holder k) ≡ settled (holder h)
+  pub value : Onward h.value k.value
+  pub room : k.ranges.room ≡ h.ranges.room
+
+-- the seat fills the entry, whose answer at its start has so many bytes at least, and has its chain in hand
+pub record FillsFor (serial total : ℕ) (h : Held Parts Event ghosts) : Type 0 where
+  pub listed : listed_for (holder h).number (tasks_of h.value) ≡ own (holder h).number (task.Fill serial) h.ranges.blocks
+  pub start : IsStarted h.value.journal.events serial
+  pub all : List ℕ
+  pub answered : answer start.key (present start.earlier) ≡ Some all
+  pub long : total ≤ length all
+  pub room : h.value.options.size ≤ 512 * h.ranges.room
+
+-- the entry has left, by this event; or it is still filled, no free block has a unit, and no idle entry is left
+abbrev pub WasShort : ℕ → Parts → Short → Type 0
+WasShort serial s (short.Overtaken by) = (entry_of serial (cache s.journal.events) ≡ None) × IsOvertaken s.journal.events serial by
+WasShort serial s (short.NoRoom need largest) = IsFilling s.journal.events serial × LacksTile (unit_words s.options) s (record { need = need; largest = largest })
+
+-- how a fill ended that got no block
+abbrev pub EndsShort : ℕ → Journal → FillStep → Type 0
+EndsShort serial journal step.More = ⊥
+EndsShort serial journal (step.Overtaken by) = IsOvertaken journal serial by
+EndsShort serial journal (step.TooLarge length) = ⊥
+EndsShort serial journal (step.NoRoom need largest) = EndsIn (event.Gone serial (gone.NoRoom need largest)) journal

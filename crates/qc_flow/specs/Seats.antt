@@ -1,0 +1,30 @@
+-- What becomes of a seat by calls on its fill.
+use Rattle.std.specs.Prelude.{◌≡◌, ℕ, true, [], ◌∷◌, ◌++◌}
+use Rattle.qc_model.specs.declared.events.Event.{Event}
+use Rattle.qc_model.specs.Agrees.{is_ended}
+use Rattle.qc_model.specs.Journal.{Journal}
+use Rattle.qc_turn.specs.declared.task.Task.TheVariants as task
+use Rattle.qc_turn.specs.declared.view.View.{View}
+use Rattle.qc_turn.specs.Words.{StartsWith}
+use Rattle.qc_core.specs.declared.parts.Parts.{Parts}
+
+-- The seat has seen more, and may have another task. All else of it stays: it is connected as before, and its session has the same events.
+pub record GoesOn (old new : View Parts Event) : Type 0 where
+  pub seen : StartsWith new.seen old.seen
+  pub same : new ≡ record old { seen = new.seen; task = new.task; blocks = new.blocks; content = new.content }
+
+-- the seat has no task
+pub record IsAtRest (v : View Parts Event) : Type 0 where
+  pub task : v.task ≡ task.Rest
+  pub blocks : v.blocks ≡ []
+  pub content : v.content ≡ []
+
+-- the journal's last event
+abbrev pub EndsIn : Event → Journal → Type 0
+EndsIn e journal = (earlier : Journal) × (journal ≡ earlier ++ e ∷ [])
+
+-- The seat rests, and in what it has then seen the fill has ended: the entry is done or gone, but not by the end of its session, or a commit or a reset
+-- took it out before.
+pub record HasEnded (serial : ℕ) (v : View Parts Event) : Type 0 where
+  pub rests : IsAtRest v
+  pub ended : is_ended serial [] v.seen ≡ true
