@@ -1,5 +1,5 @@
 -- What a seat that fills knows when it has taken the turn, and what it may release.
-use Rattle.std.proofs.Common.{◌≡◌, ℕ, ◌*◌, ◌≤◌, Bool, true, false, List, [], ◌++◌, length, take, refl, sym, ap, subst, ◌∙◌, arith, true≢false, inl, inr, ⊎_elim}
+use Rattle.std.proofs.Common.{◌≡◌, ℕ, ◌*◌, ◌≤◌, Bool, true, false, List, [], ◌++◌, length, take, sym, ap, subst, ◌∙◌, true≢false, inl, ⊎_elim}
 use Rattle.std.specs.Prelude.{Some, slice_index}
 use Rattle.qc_model.specs.declared.events.Event.{Event}
 use Rattle.qc_tiles.specs.declared.blocks.Block.{Block}

@@ -1,5 +1,5 @@
 -- The fill of an entry: what is stored of its answer, and what each call makes of it.
-use Rattle.std.specs.Prelude.{◌≡◌, ℕ, ◌+◌, ◌*◌, ◌/◌, ◌%◌, ◌<◌, ◌≤◌, ◌⊎◌, Bool, true, false, List, [], ◌∷◌, ◌++◌, length, drop, Some, slice_index}
+use Rattle.std.specs.Prelude.{◌≡◌, ℕ, ◌+◌, ◌*◌, ◌/◌, ◌%◌, ◌≤◌, ◌⊎◌, Bool, true, false, List, ◌∷◌, ◌++◌, length, drop, Some, slice_index}
 use Rattle.std.specs.List.{concat}
 use Rattle.qc_model.specs.declared.events.Event.{Event}
 use Rattle.qc_model.specs.declared.events.Event.TheVariants as event
@@ -17,7 +17,7 @@ use Rattle.qc_turn.specs.Views.{with_content}
 use Rattle.qc_core.specs.contracts.server.ServerKept.TheImpl.{ghosts}
 use Rattle.qc_core.specs.declared.parts.Parts.{Parts}
 use Rattle.qc_core.specs.Overtaken.{IsOvertaken}
-use Rattle.qc_flow.specs.Seats.{IsAtRest, HasEnded, EndsIn}
+use Rattle.qc_flow.specs.Seats.{HasEnded, EndsIn}
 use Rattle.qc_flow.specs.Growths.{HoldFewer, GrowFor}
 use Rattle.qc_flow.specs.declared.fills.Fill.{Fill}
 use Rattle.qc_flow.specs.declared.fills.FillStep.{FillStep}

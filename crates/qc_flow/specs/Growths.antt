@@ -1,9 +1,8 @@
 -- A fill gets blocks: what is asked, and what becomes of the holding and of the seat.
-use Rattle.std.specs.Prelude.{◌≡◌, ℕ, ◌*◌, ◌<◌, ◌≤◌, ◌⊎◌, true, false, Some, None, List, [], ◌∷◌, ◌++◌, length}
+use Rattle.std.specs.Prelude.{◌≡◌, ℕ, ◌*◌, ◌<◌, ◌≤◌, ◌⊎◌, Some, None, List, [], ◌∷◌, ◌++◌, length}
 use Rattle.qc_model.specs.declared.events.Event.{Event}
 use Rattle.qc_model.specs.declared.events.Event.TheVariants as event
 use Rattle.qc_model.specs.declared.events.GoneWhy.TheVariants as gone
-use Rattle.qc_model.specs.Agrees.{is_ended}
 use Rattle.qc_model.specs.Cache.{cache, entry_of}
 use Rattle.qc_model.specs.Journal.{Journal, present}
 use Rattle.qc_model.specs.Licence.{IsFilling, unit_words}

@@ -1,4 +1,4 @@
-use Rattle.std.proofs.Common.{◌≡◌, ℕ, true, false, List, ap, sym, subst, ◌∙◌, eq-eqb, refl}
+use Rattle.std.proofs.Common.{ap, sym, subst, ◌∙◌, eq-eqb, refl}
 use Rattle.std.specs.Prelude.{is_some}
 use Rattle.qc_model.specs.declared.events.Event.TheVariants as event
 use Rattle.qc_model.specs.declared.events.GoneWhy.TheVariants as gone

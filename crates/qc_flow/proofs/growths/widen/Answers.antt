@@ -1,8 +1,5 @@
-use Rattle.std.proofs.Common.{rules, ◌≡◌, ℕ, true, List, [], ap, sym, subst, ◌∙◌}
-use Rattle.std.specs.Prelude.{IfErr}
-use Rattle.qc_chain.specs.Chains.{Ranged}
-use Rattle.qc_turn.specs.Seats.{view, words, holder}
-use Rattle.qc_flow.specs.Growths.{WasShort, settled}
+use Rattle.std.proofs.Common.{rules, ◌≡◌, [], subst}
+use Rattle.qc_turn.specs.Seats.{view}
 use Rattle.qc_turn.specs.Tasks.{listed_for}
 use Rattle.qc_core.specs.Whole.{tasks_of}
 use Rattle.qc_flow.proofs.Holdings.{continues_both, number_on, grown_front}
