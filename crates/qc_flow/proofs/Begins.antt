@@ -4,22 +4,16 @@ use Rattle.std.specs.Prelude.{Some, option_map, slice_index}
 use Rattle.std.specs.List.{concat}
 use Rattle.std.proofs.lemmas.List.Folds.{concat-append}
 use Rattle.qc_model.specs.declared.events.Event.{Event}
-use Rattle.qc_types.specs.declared.options.Options.{Options}
-use Rattle.qc_chain.specs.Words.{words_of}
 use Rattle.qc_chain.specs.Chains.{Ranged}
 use Rattle.qc_turn.specs.Bytes.{low_bytes}
-use Rattle.qc_turn.specs.Seats.{Held, holder, words, view}
+use Rattle.qc_turn.specs.Seats.{holder, words, view}
 use Rattle.qc_turn.specs.Tasks.{task_in, blocks_in, released_task, released_blocks}
 use Rattle.qc_turn.specs.Views.{bytes_on, content_of, with_word_set, after_release}
-use Rattle.qc_turn.specs.declared.seat.Seat.{Seat}
 use Rattle.qc_turn.specs.declared.view.View.{View}
-use Rattle.qc_turn.specs.declared.task.Task.TheVariants as task
 use Rattle.qc_core.specs.contracts.server.ServerKept.TheImpl.{ghosts}
 use Rattle.qc_core.specs.declared.parts.Parts.{Parts}
-use Rattle.qc_flow.specs.Fills.{IsFillOf, size_of, limit_of}
-use Rattle.qc_flow.specs.Begins.{BeginsFill, FillsBegin, Follows, PacketsFollow}
+use Rattle.qc_flow.specs.Begins.{FillsBegin, PacketsFollow}
 use Rattle.qc_flow.proofs.Licences.{started_in}
-use Rattle.qc_flow.specs.declared.fills.Fill.{Fill}
 
 pub fills_begin : FillsBegin
 fills_begin h f s b =

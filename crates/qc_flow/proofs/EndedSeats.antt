@@ -1,5 +1,5 @@
 -- What a seat knows after it took the turn and ended its fill.
-use Rattle.std.proofs.Common.{◌≡◌, ℕ, true, false, List, [], ◌∷◌, length, sym, subst, Result, Ok, Err}
+use Rattle.std.proofs.Common.{◌≡◌, ℕ, true, false, [], ◌∷◌, length, sym, subst, Result, Ok, Err}
 use Rattle.std.specs.Prelude.{IfOk, IfErr, is_ok, is_some}
 use Rattle.qc_model.specs.declared.events.Event.{Event}
 use Rattle.qc_model.specs.declared.events.Event.TheVariants as event

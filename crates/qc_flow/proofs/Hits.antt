@@ -1,9 +1,8 @@
 -- What a hit has in hand.
 use Rattle.std.proofs.Common.{◌≡◌, ℕ, eqb, eq-eqb, eqb-true, Bool, true, false, cond, List, [], ◌∷◌, ◌++◌, length, map, take, refl, sym, ap, subst, ◌∙◌, arith, true≢false}
-use Rattle.std.specs.Prelude.{not, ◌&&◌, ◌||◌, ◌==◌, Option, Some, None, find, option_map, slice_index, IfSome}
-use Rattle.std.specs.List.{list_any, AllByRecursion}
-use Rattle.std.proofs.lemmas.List.{map-append, length-map}
-use Rattle.std.proofs.lemmas.List.Elements.{filter-append}
+use Rattle.std.specs.Prelude.{not, ◌&&◌, ◌||◌, ◌==◌, Option, Some, None, find, option_map, slice_index}
+use Rattle.std.specs.List.{list_any}
+use Rattle.std.proofs.lemmas.List.{length-map}
 use Rattle.std.proofs.lemmas.Option.{none-some, same_Some}
 use Rattle.std.proofs.lemmas.Slice.Eq.{bytes_eq-Decides}
 use Rattle.qc_key.specs.Hash.{hash}
@@ -18,7 +17,7 @@ use Rattle.qc_model.specs.Journal.{Journal, present}
 use Rattle.qc_model.specs.Session.{State, answer}
 use Rattle.qc_laws.specs.history.Runs.{are_distinct, serials}
 use Rattle.qc_laws.proofs.history.Events.{cache_push}
-use Rattle.qc_laws.proofs.history.Serials.{serials_apart, both_true, neither}
+use Rattle.qc_laws.proofs.history.Serials.{serials_apart, both_true}
 use Rattle.qc_chain.specs.Chains.{chain_at}
 use Rattle.qc_dir.specs.declared.entries.Entry.{Entry}
 use Rattle.qc_dir.specs.Directory.{entry_at, has_serial}
@@ -30,16 +29,15 @@ use Rattle.qc_turn.specs.Views.{content_of, with_word_set, after_release}
 use Rattle.qc_turn.specs.declared.task.Task.TheVariants as task
 use Rattle.qc_turn.proofs.Tasks.{length_words}
 use Rattle.qc_sound.specs.Moment.{at_rest}
-use Rattle.qc_sound.specs.PlainServer.{blocks_at, serial_of}
+use Rattle.qc_sound.specs.PlainServer.{blocks_at}
 use Rattle.qc_sound.specs.parts.Contents.{text_of}
 use Rattle.qc_core.specs.declared.parts.Parts.{Parts}
-use Rattle.qc_core.specs.declared.parts.RunningTask.{RunningTask}
 use Rattle.qc_core.specs.contracts.server.ServerKept.TheImpl.{ghosts}
-use Rattle.qc_core.specs.Hits.{entry_chain, hit_entry, used_by, streams}
+use Rattle.qc_core.specs.Hits.{entry_chain, hit_entry, used_by}
 use Rattle.qc_core.specs.KeptLaws.{blocks_named}
-use Rattle.qc_core.specs.Whole.{Named, IsNamedAs, chain_blocks, chain_bytes, chain_in, listed_in, tasks_of, with_event}
+use Rattle.qc_core.specs.Whole.{Named, IsNamedAs, chain_blocks, chain_bytes, chain_in, tasks_of, with_event}
 use Rattle.qc_core.proofs.Seeking.{pair_of}
-use Rattle.qc_core.proofs.Uses.{serial_at, find_all}
+use Rattle.qc_core.proofs.Uses.{find_all}
 use Rattle.qc_flow.proofs.Removals.{find_last}
 use Rattle.qc_flow.specs.Hits.{HasHit, Looked, HitsAnswer, StreamsBegin}
 

@@ -1,7 +1,7 @@
 -- What goes on under the turn while a fill gets blocks or ends.
-use Rattle.std.proofs.Common.{◌≡◌, ℕ, zero, suc, ◌+◌, ◌-◌, ◌*◌, ◌<◌, ◌≤◌, max, eqb, Bool, true, false, cond, List, [], ◌∷◌, ◌++◌, length, map, refl, sym, ap, subst, ◌∙◌, arith, true≢false, inl, inr, ⊎_elim, append_assoc, append-nil, Result, Ok, Err}
-use Rattle.std.specs.Prelude.{not, ◌&&◌, ◌==◌, nat_le, Option, Some, None, IfSome, IsSomeAnd, is_some, is_ok, IfOk, IfErr, find, option_map, unwrap_or}
-use Rattle.std.specs.List.{list_any, AllByRecursion}
+use Rattle.std.proofs.Common.{◌≡◌, ℕ, zero, suc, ◌+◌, ◌*◌, ◌<◌, ◌≤◌, Bool, true, false, cond, List, [], ◌∷◌, ◌++◌, length, map, refl, sym, ap, subst, ◌∙◌, arith, true≢false, ⊎_elim, append_assoc, append-nil, Result, Ok, Err}
+use Rattle.std.specs.Prelude.{◌&&◌, ◌==◌, nat_le, Option, Some, None, is_some, is_ok, IfOk, IfErr, find, option_map, unwrap_or}
+use Rattle.std.specs.List.{AllByRecursion}
 use Rattle.std.proofs.lemmas.Bool.Decides.{nat_tests}
 use Rattle.std.proofs.lemmas.List.Elements.{filter-append}
 use Rattle.std.proofs.lemmas.Option.{none-some, same_Some}
@@ -16,9 +16,7 @@ use Rattle.qc_model.specs.declared.events.GoneWhy.{GoneWhy}
 use Rattle.qc_model.specs.declared.events.GoneWhy.TheVariants as gone
 use Rattle.qc_model.specs.Agrees.{is_ended}
 use Rattle.qc_model.specs.Cache.{cache, entry_of}
-use Rattle.qc_model.specs.Journal.{Journal, present}
-use Rattle.qc_model.specs.Licence.{IsLawful, IsFilling, MayGiveUp, LacksRoom, unit_words}
-use Rattle.qc_model.specs.Session.{answer}
+use Rattle.qc_model.specs.Licence.{IsLawful, MayGiveUp, LacksRoom, unit_words}
 use Rattle.qc_laws.specs.history.Runs.{IsStarted}
 use Rattle.qc_tiles.specs.declared.blocks.Tile.{Tile}
 use Rattle.qc_tiles.specs.declared.blocks.Block.{Block}
@@ -28,27 +26,26 @@ use Rattle.qc_chain.specs.Words.{words_of}
 use Rattle.qc_chain.proofs.Words.{words_push}
 use Rattle.qc_chain.specs.Chains.{Ranged, Chained}
 use Rattle.qc_dir.specs.declared.entries.Entry.{Entry}
-use Rattle.qc_dir.specs.Directory.{is_idle, oldest_idle}
+use Rattle.qc_dir.specs.Directory.{is_idle}
 use Rattle.qc_turn.specs.declared.task.Task.TheVariants as task
 use Rattle.qc_turn.specs.declared.view.FoundWord.{FoundWord}
-use Rattle.qc_turn.specs.Seats.{Held, holder, words, IsHeld, MayRelease, SameHolder, with_ranges}
+use Rattle.qc_turn.specs.Seats.{Held, holder, MayRelease, SameHolder, with_ranges}
 use Rattle.qc_turn.specs.Tasks.{listed_for, own}
 use Rattle.qc_turn.specs.Views.{of_seat}
 use Rattle.qc_turn.specs.Words.{StartsWith}
 use Rattle.qc_sound.specs.Moment.{at_rest}
 use Rattle.qc_sound.specs.PlainServer.{serial_of}
-use Rattle.qc_sound.specs.Room.{Restless}
 use Rattle.qc_sound.proofs.Grounds.{lacks_room}
 use Rattle.qc_core.specs.declared.grows.Short.{Short}
 use Rattle.qc_core.specs.declared.grows.Short.TheVariants as short
 use Rattle.qc_core.specs.declared.parts.RunningTask.{RunningTask}
 use Rattle.qc_core.specs.declared.parts.Parts.{Parts}
 use Rattle.qc_core.specs.contracts.server.ServerKept.TheImpl.{ghosts}
-use Rattle.qc_core.specs.Whole.{Named, stored, plain, tasks_of, IsWhole, Sound}
-use Rattle.qc_core.specs.Allocates.{PrunesMany, LacksTile}
+use Rattle.qc_core.specs.Whole.{stored, plain, tasks_of, Sound}
+use Rattle.qc_core.specs.Allocates.{LacksTile}
 use Rattle.qc_core.specs.Ends.{EndsBy}
-use Rattle.qc_core.specs.Grows.{FillsOn, Grows, IsShort, TellsGrowth, appended, longer_by}
-use Rattle.qc_core.specs.Overtaken.{IsOvertaken, WasOvertaken}
+use Rattle.qc_core.specs.Grows.{FillsOn, Grows, IsShort, TellsGrowth, longer_by}
+use Rattle.qc_core.specs.Overtaken.{IsOvertaken}
 use Rattle.qc_core.specs.Strikes.{is_of, let_go, with_user_less, without_task_of, rested_from, rested_by, rested}
 use Rattle.qc_core.specs.Sweeps.{swept, ReadsStreams, Finds}
 use Rattle.qc_core.proofs.FillTasks.{IsAfter, pruned_after, still_filling}

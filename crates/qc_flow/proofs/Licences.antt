@@ -1,6 +1,6 @@
 -- A reply that is longer than the limit may be given up, on each server that the seat may meet.
-use Rattle.std.proofs.Common.{◌≡◌, ℕ, ◌+◌, ◌<◌, ◌≤◌, true, List, [], ◌∷◌, ◌++◌, length, length-append, refl, sym, ap, subst, ◌∙◌, arith, append_assoc}
-use Rattle.std.specs.Prelude.{Option, Some, None, option_map, is_some, IsSomeAnd, slice_index}
+use Rattle.std.proofs.Common.{◌≡◌, ℕ, ◌+◌, List, ◌∷◌, ◌++◌, length, length-append, sym, ap, subst, ◌∙◌, arith, append_assoc}
+use Rattle.std.specs.Prelude.{Option, Some, option_map, IsSomeAnd, slice_index}
 use Rattle.std.specs.List.{concat}
 use Rattle.std.proofs.lemmas.List.Folds.{concat-append}
 use Rattle.qc_model.specs.declared.events.Event.{Event}
@@ -9,7 +9,7 @@ use Rattle.qc_model.specs.declared.events.How.TheVariants as how
 use Rattle.qc_model.specs.declared.events.GoneWhy.TheVariants as gone
 use Rattle.qc_model.specs.Cache.{Entry, cache, entry_of}
 use Rattle.qc_model.specs.Journal.{Journal, present}
-use Rattle.qc_model.specs.Licence.{IsLawful, MayGiveUp, prefix_above}
+use Rattle.qc_model.specs.Licence.{prefix_above}
 use Rattle.qc_model.specs.Session.{answer, answer_packets}
 use Rattle.qc_laws.specs.history.Runs.{IsStarted}
 use Rattle.qc_turn.specs.Views.{IsSoundJournal}
@@ -17,12 +17,11 @@ use Rattle.qc_turn.specs.Words.{StartsWith}
 use Rattle.qc_turn.proofs.Tasks.{starts_trans}
 use Rattle.qc_turn.specs.declared.view.View.{View}
 use Rattle.qc_sound.specs.Sound.{FitsFill}
-use Rattle.qc_core.specs.Calls.{MayBeGone}
 use Rattle.qc_core.specs.Whole.{IsSomewhereSound}
 use Rattle.qc_core.specs.contracts.server.ServerKept.TheImpl.{ghosts}
 use Rattle.qc_core.specs.declared.parts.Parts.{Parts}
 use Rattle.qc_core.proofs.Filling.{some_of}
-use Rattle.qc_flow.specs.Fills.{IsNextPacket, limit_of}
+use Rattle.qc_flow.specs.Fills.{IsNextPacket}
 use Rattle.qc_flow.specs.Endings.{IsGrantedFor, IsTooLong}
 use Rattle.qc_flow.specs.Growths.{Wants}
 use Rattle.qc_flow.specs.Seats.{GoesOn}

@@ -1,5 +1,5 @@
 -- An entry that is in the cache has the packets that it had at its start.
-use Rattle.std.proofs.Common.{◌≡◌, ℕ, ◌+◌, ◌<◌, ◌≤◌, arith, length, length-append, Bool, true, false, cond, List, [], ◌∷◌, ◌++◌, refl, sym, ap, subst, ◌∙◌, append_assoc, append-nil, map, Result, Ok, Err, true≢false, eq-eqb, eqb-true}
+use Rattle.std.proofs.Common.{◌≡◌, ℕ, ◌+◌, ◌<◌, ◌≤◌, arith, length, length-append, Bool, true, false, cond, List, [], ◌∷◌, ◌++◌, refl, sym, ap, subst, ◌∙◌, append_assoc, append-nil, map, Result, Ok, Err, true≢false}
 use Rattle.std.specs.Prelude.{Option, Some, None, not, ◌||◌, is_some, option_map, nat_lt, unwrap_or, IfSome, IsSomeAnd}
 use Rattle.std.specs.List.{list_any, AllByRecursion, concat}
 use Rattle.std.proofs.lemmas.Bool.Decides.{nat_tests}
@@ -7,10 +7,8 @@ use Rattle.qc_types.specs.declared.names.TableName.{TableName}
 use Rattle.qc_types.specs.declared.names.Why.{Why}
 use Rattle.qc_types.specs.declared.options.Options.{Options}
 use Rattle.qc_types.specs.declared.sql_error.SqlError.{SqlError}
-use Rattle.qc_sql.specs.declared.statements.Source.{Source}
 use Rattle.qc_sql.specs.declared.statements.Statement.{Statement}
 use Rattle.qc_sql.specs.declared.statements.Statement.TheVariants as statement
-use Rattle.qc_sql.specs.declared.tables.RowOp.{RowOp}
 use Rattle.qc_sql.specs.Database.{Database, table_of, apply, touches}
 use Rattle.qc_sql.specs.Grammar.{meaning, ParseFault}
 use Rattle.qc_sql.specs.Rules.{full_name, why_not}

@@ -1,6 +1,6 @@
 -- A fill that was overtaken has ended: the entry was there, and not complete, when the commit or the reset took it out.
-use Rattle.std.proofs.Common.{◌≡◌, ◌≢◌, ℕ, eqb, eq-eqb, Bool, true, false, cond, List, [], ◌∷◌, ◌++◌, refl, sym, ap, subst, ◌∙◌, true≢false, append_assoc, append-nil}
-use Rattle.std.specs.Prelude.{not, ◌||◌, ◌&&◌, ◌==◌, Option, Some, None, find, option_map, unwrap_or}
+use Rattle.std.proofs.Common.{◌≡◌, ℕ, eq-eqb, Bool, true, false, cond, List, [], ◌∷◌, ◌++◌, refl, sym, ap, subst, ◌∙◌, true≢false, append_assoc, append-nil}
+use Rattle.std.specs.Prelude.{not, ◌||◌, ◌&&◌, ◌==◌, Some, None, find, option_map, unwrap_or}
 use Rattle.std.specs.List.{list_any}
 use Rattle.std.proofs.lemmas.Option.{none-some}
 use Rattle.std.proofs.lemmas.List.Folds.{list_any-append}

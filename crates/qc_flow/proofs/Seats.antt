@@ -1,5 +1,5 @@
 -- What a seat knows after it gave the turn back.
-use Rattle.std.proofs.Common.{◌≡◌, ℕ, ◌+◌, ◌*◌, ◌≤◌, eq-eqb, Bool, true, false, cond, List, [], ◌∷◌, ◌++◌, length, take, map, refl, sym, ap, subst, ◌∙◌, arith, inl, inr, ⊎_elim, append_assoc, append-nil, length-append, length-take}
+use Rattle.std.proofs.Common.{◌≡◌, ℕ, ◌*◌, ◌≤◌, eq-eqb, false, cond, List, [], ◌∷◌, ◌++◌, length, take, map, refl, sym, ap, subst, ◌∙◌, arith, append_assoc, append-nil, length-take}
 use Rattle.std.specs.Prelude.{◌==◌, slice_index}
 use Rattle.std.specs.List.{list_any}
 use Rattle.std.proofs.lemmas.List.{map-append, length-map, take-append-le}
@@ -7,17 +7,15 @@ use Rattle.std.proofs.lemmas.List.Elements.{filter-append}
 use Rattle.qc_model.specs.declared.events.Event.{Event}
 use Rattle.qc_chain.specs.Words.{words_of}
 use Rattle.qc_tiles.specs.declared.blocks.Block.{Block}
-use Rattle.qc_turn.specs.Blocks.{counted, places, spelled}
+use Rattle.qc_turn.specs.Blocks.{places, spelled}
 use Rattle.qc_turn.specs.Bytes.{low_bytes, bytes_of}
 use Rattle.qc_turn.specs.Releases.{SpellsReleased}
 use Rattle.qc_turn.specs.Rules.{ContentRule}
 use Rattle.qc_turn.specs.Steps.{Taken}
 use Rattle.qc_turn.specs.Tasks.{listed_for, own, task_in, blocks_in, released_task, released_blocks}
 use Rattle.qc_turn.specs.Views.{of_seat, bytes_on, content_of, with_word_set, after_release}
-use Rattle.qc_turn.specs.Words.{StartsWith}
 use Rattle.qc_turn.specs.declared.task.Task.{Task}
 use Rattle.qc_turn.specs.declared.task.Task.TheVariants as task
-use Rattle.qc_turn.specs.declared.task.ListedTask.{ListedTask}
 use Rattle.qc_turn.specs.declared.view.Holding.TheVariants.{Free}
 use Rattle.qc_turn.specs.declared.view.View.{View}
 use Rattle.qc_turn.proofs.Tasks.{starts_trans, length_words}

@@ -1,5 +1,5 @@
 -- What a seat that fills knows when it has taken the turn, and what it may release.
-use Rattle.std.proofs.Common.{◌≡◌, ℕ, ◌*◌, ◌≤◌, Bool, true, false, List, [], ◌++◌, length, take, refl, sym, ap, subst, ◌∙◌, arith, true≢false, inl, inr, ⊎_elim}
+use Rattle.std.proofs.Common.{◌≡◌, ℕ, ◌*◌, ◌≤◌, Bool, true, false, List, [], ◌++◌, length, take, sym, ap, subst, ◌∙◌, true≢false, inl, ⊎_elim}
 use Rattle.std.specs.Prelude.{Some, slice_index}
 use Rattle.qc_model.specs.declared.events.Event.{Event}
 use Rattle.qc_tiles.specs.declared.blocks.Block.{Block}
@@ -23,12 +23,15 @@ use Rattle.qc_turn.proofs.Holders.{follows_refl}
 use Rattle.qc_turn.proofs.Tasks.{starts_trans, length_words}
 use Rattle.qc_sound.specs.Sound.{FitsFill}
 use Rattle.qc_core.specs.Calls.{StoresWhole}
-use Rattle.qc_core.specs.Whole.{tasks_of}
+use Rattle.qc_core.specs.Overtaken.{IsOvertaken}
+use Rattle.qc_core.specs.Whole.{IsSomewhereSound, tasks_of}
+use Rattle.qc_core.specs.declared.grows.Short.{Short}
+use Rattle.qc_core.specs.declared.grows.Short.TheVariants as short
 use Rattle.qc_core.specs.contracts.server.ServerKept.TheImpl.{ghosts}
 use Rattle.qc_core.specs.declared.parts.Parts.{Parts}
 use Rattle.qc_flow.specs.Fills.{IsWholeAnswer, size_of, limit_of}
-use Rattle.qc_flow.specs.Growths.{Wants, Onward, settled, Continues, FillsFor}
-use Rattle.qc_flow.specs.Seats.{GoesOn, IsAtRest}
+use Rattle.qc_flow.specs.Growths.{HoldFewer, Widens, WasShort, EndsShort, step_of, Wants, Onward, settled, Continues, FillsFor}
+use Rattle.qc_flow.specs.Seats.{GoesOn, IsAtRest, HasEnded}
 use Rattle.qc_flow.proofs.Licences.{started_in, seen_fits}
 use Rattle.qc_flow.proofs.Seats.{released_on, released_rests, released_fills, fill_spells, longer_front}
 
@@ -156,3 +159,10 @@ module _ (v : View Parts Event) (h k : Held Parts Event ghosts) (ranges : Ranged
         ap (λ u. u.content) is ∙ (r.content ∙ same_content),
         ap (λ u. u.blocks) is ∙ r.blocks,
       )
+
+-- no block was found
+pub widens_short : (serial total : ℕ) (v w : View Parts Event) (k m : Parts) (bs : List Block) (e : Short) → HoldFewer v.blocks total → IsSomewhereSound k → listed_for v.number (tasks_of k) ≡ own v.number (task.Fill serial) bs → StartsWith bs v.blocks → WasShort serial k e × HoldFewer bs total
+    → EndsShort serial k.journal.events m.journal.events e → w.seen ≡ m.journal.events → HasEnded serial w → Widens serial total v w (step_of e)
+widens_short serial total v w k m bs (short.Overtaken by) fewer sound listed longer was ends seen ended = (fewer, ended, subst (λ j. IsOvertaken j serial by) (sym (seen ∙ ends)) was.0.1)
+widens_short serial total v w k m bs (short.NoRoom need largest) fewer sound listed longer was ends seen ended =
+    (ended, record { server = k; sound = sound; events = seen ∙ ends; blocks = bs; listed = listed; longer = longer; fewer = was.1; lacks = was.0.1 })

@@ -1,5 +1,5 @@
 -- What the answer of a call that ends a fill tells.
-use Rattle.std.proofs.Common.{◌≡◌, ℕ, eqb, eq-eqb, true, false, true≢false, List, [], ◌∷◌, ◌++◌, length, refl, sym, ap, subst, ◌∙◌, inl, inr, Result, Ok, Err}
+use Rattle.std.proofs.Common.{◌≡◌, ℕ, eq-eqb, true, false, true≢false, [], length, refl, sym, subst, inl, inr, Result, Ok, Err}
 use Rattle.std.specs.Prelude.{IfOk, IfErr, is_ok, is_some, Option, Some, None, IsSomeAnd}
 use Rattle.qc_model.specs.declared.events.Event.{Event}
 use Rattle.qc_model.specs.declared.events.Event.TheVariants as event

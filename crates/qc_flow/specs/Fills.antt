@@ -1,5 +1,5 @@
 -- The fill of an entry: what is stored of its answer, and what each call makes of it.
-use Rattle.std.specs.Prelude.{◌≡◌, ℕ, ◌+◌, ◌*◌, ◌/◌, ◌%◌, ◌<◌, ◌≤◌, ◌⊎◌, Bool, true, false, List, [], ◌∷◌, ◌++◌, length, drop, Some, slice_index}
+use Rattle.std.specs.Prelude.{◌≡◌, ℕ, ◌+◌, ◌*◌, ◌/◌, ◌%◌, ◌≤◌, ◌⊎◌, Bool, true, false, List, ◌∷◌, ◌++◌, length, drop, Some, slice_index}
 use Rattle.std.specs.List.{concat}
 use Rattle.qc_model.specs.declared.events.Event.{Event}
 use Rattle.qc_model.specs.declared.events.Event.TheVariants as event
@@ -17,8 +17,8 @@ use Rattle.qc_turn.specs.Views.{with_content}
 use Rattle.qc_core.specs.contracts.server.ServerKept.TheImpl.{ghosts}
 use Rattle.qc_core.specs.declared.parts.Parts.{Parts}
 use Rattle.qc_core.specs.Overtaken.{IsOvertaken}
-use Rattle.qc_flow.specs.Seats.{IsAtRest, HasEnded, EndsIn}
-use Rattle.qc_flow.specs.Growths.{HoldFewer, GrowFor}
+use Rattle.qc_flow.specs.Seats.{HasEnded, EndsIn}
+use Rattle.qc_flow.specs.Growths.{HoldFewer, GrowFor, LackedRoom}
 use Rattle.qc_flow.specs.declared.fills.Fill.{Fill}
 use Rattle.qc_flow.specs.declared.fills.FillStep.{FillStep}
 use Rattle.qc_flow.specs.declared.fills.FillStep.TheVariants as step
@@ -79,8 +79,8 @@ Puts f g packet old s step.More = Stores f g packet old s
 -- the packet needed a block, and a commit or a reset had taken the entry out
 Puts f g packet old s (step.Overtaken by) = HoldFewer old.blocks (f.bytes + length packet) × HasEnded f.serial (view s) × IsOvertaken (view s).seen f.serial by
 Puts f g packet old s (step.TooLarge total) = HasEnded f.serial (view s) × (total ≡ f.bytes + length packet) × IsLargeIn f.serial total f.limit (view s).seen
--- the packet needed a block, and the event says that there was no room
-Puts f g packet old s (step.NoRoom need largest) = HoldFewer old.blocks (f.bytes + length packet) × HasEnded f.serial (view s) × EndsIn (event.Gone f.serial (gone.NoRoom need largest)) (view s).seen
+-- the packet needed a block, and there was no room
+Puts f g packet old s (step.NoRoom need largest) = HasEnded f.serial (view s) × LackedRoom f.serial (f.bytes + length packet) need largest old (view s)
 
 -- the entry is done by this event, or was taken out by that one
 abbrev pub Ends : ℕ → View Parts Event → Ended → Type 0

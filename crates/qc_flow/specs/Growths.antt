@@ -1,9 +1,8 @@
 -- A fill gets blocks: what is asked, and what becomes of the holding and of the seat.
-use Rattle.std.specs.Prelude.{◌≡◌, ℕ, ◌*◌, ◌<◌, ◌≤◌, ◌⊎◌, true, false, Some, None, List, [], ◌∷◌, ◌++◌, length}
+use Rattle.std.specs.Prelude.{◌≡◌, ℕ, ◌*◌, ◌<◌, ◌≤◌, ◌⊎◌, Some, None, List, [], ◌∷◌, ◌++◌, length}
 use Rattle.qc_model.specs.declared.events.Event.{Event}
 use Rattle.qc_model.specs.declared.events.Event.TheVariants as event
 use Rattle.qc_model.specs.declared.events.GoneWhy.TheVariants as gone
-use Rattle.qc_model.specs.Agrees.{is_ended}
 use Rattle.qc_model.specs.Cache.{cache, entry_of}
 use Rattle.qc_model.specs.Journal.{Journal, present}
 use Rattle.qc_model.specs.Licence.{IsFilling, unit_words}
@@ -20,12 +19,12 @@ use Rattle.qc_turn.specs.Views.{of_seat}
 use Rattle.qc_turn.specs.Words.{StartsWith}
 use Rattle.qc_core.specs.Allocates.{LacksTile}
 use Rattle.qc_core.specs.Overtaken.{IsOvertaken}
-use Rattle.qc_core.specs.Whole.{tasks_of}
+use Rattle.qc_core.specs.Whole.{IsSomewhereSound, tasks_of}
 use Rattle.qc_core.specs.contracts.server.ServerKept.TheImpl.{ghosts}
 use Rattle.qc_core.specs.declared.grows.Short.{Short}
 use Rattle.qc_core.specs.declared.grows.Short.TheVariants as short
 use Rattle.qc_core.specs.declared.parts.Parts.{Parts}
-use Rattle.qc_flow.specs.Seats.{HasEnded, EndsIn}
+use Rattle.qc_flow.specs.Seats.{HasEnded}
 use Rattle.qc_flow.specs.declared.fills.FillStep.{FillStep}
 use Rattle.qc_flow.specs.declared.fills.FillStep.TheVariants as step
 
@@ -45,12 +44,24 @@ HoldFewer blocks total = 8 * words_of blocks < total
 abbrev pub GrowFor : ℕ → List Block → List Block → Type 0
 GrowFor total old new = (new ≡ old) ⊎ ((front : List Block) × (last : Block) × (new ≡ front ++ last ∷ []) × StartsWith front old × HoldFewer front total)
 
+-- The last event says that the fill found no room. The server before it was sound and listed the fill, whose blocks, with those that it got meanwhile, held
+-- fewer bytes; no free block had a unit, and no idle entry was left to prune.
+pub record LackedRoom (serial total need largest : ℕ) (old new : View Parts Event) : Type 0 where
+  pub server : Parts
+  pub sound : IsSomewhereSound server
+  pub events : new.seen ≡ server.journal.events ++ event.Gone serial (gone.NoRoom need largest) ∷ []
+  pub blocks : List Block
+  pub listed : listed_for old.number (tasks_of server) ≡ own old.number (task.Fill serial) blocks
+  pub longer : StartsWith blocks old.blocks
+  pub fewer : HoldFewer blocks total
+  pub lacks : LacksTile (unit_words server.options) server (record { need = need; largest = largest })
+
 -- the blocks hold so many bytes, or they held fewer, and the fill has ended
 abbrev pub Widens : (serial total : ℕ) → View Parts Event → View Parts Event → FillStep → Type 0
 Widens serial total old new step.More = (new.task ≡ task.Fill serial) × (new.content ≡ old.content) × GrowFor total old.blocks new.blocks × (total ≤ 8 * words_of new.blocks)
 Widens serial total old new (step.Overtaken by) = HoldFewer old.blocks total × HasEnded serial new × IsOvertaken new.seen serial by
 Widens serial total old new (step.TooLarge length) = ⊥
-Widens serial total old new (step.NoRoom need largest) = HoldFewer old.blocks total × HasEnded serial new × EndsIn (event.Gone serial (gone.NoRoom need largest)) new.seen
+Widens serial total old new (step.NoRoom need largest) = HasEnded serial new × LackedRoom serial total need largest old new
 
 -- ---- under the turn
 
@@ -88,9 +99,12 @@ abbrev pub WasShort : ℕ → Parts → Short → Type 0
 WasShort serial s (short.Overtaken by) = (entry_of serial (cache s.journal.events) ≡ None) × IsOvertaken s.journal.events serial by
 WasShort serial s (short.NoRoom need largest) = IsFilling s.journal.events serial × LacksTile (unit_words s.options) s (record { need = need; largest = largest })
 
--- how a fill ended that got no block
-abbrev pub EndsShort : ℕ → Journal → FillStep → Type 0
-EndsShort serial journal step.More = ⊥
-EndsShort serial journal (step.Overtaken by) = IsOvertaken journal serial by
-EndsShort serial journal (step.TooLarge length) = ⊥
-EndsShort serial journal (step.NoRoom need largest) = EndsIn (event.Gone serial (gone.NoRoom need largest)) journal
+-- what is answered then
+abbrev pub step_of : Short → FillStep
+step_of (short.Overtaken by) = step.Overtaken by
+step_of (short.NoRoom need largest) = step.NoRoom need largest
+
+-- the event says that there was no room; of an entry that had left there is none
+abbrev pub EndsShort : ℕ → Journal → Journal → Short → Type 0
+EndsShort serial old new (short.Overtaken by) = new ≡ old
+EndsShort serial old new (short.NoRoom need largest) = new ≡ old ++ event.Gone serial (gone.NoRoom need largest) ∷ []

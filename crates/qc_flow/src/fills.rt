@@ -4,6 +4,7 @@ ghost use Rattle.std.specs.Prelude.{◌≡◌, ℕ, ◌+◌, ◌*◌, ◌<◌, �
 ghost use Rattle.qc_model.specs.Agrees.{is_ended};
 ghost use Rattle.qc_sound.specs.Sound.{FitsFill};
 ghost use Rattle.qc_chain.specs.Words.{words_of};
+ghost use Rattle.qc_turn.specs.declared.task.Task.TheVariants as task;
 ghost use Rattle.qc_turn.specs.Seats.{view, IsSeatOf};
 ghost use Rattle.qc_turn.specs.Views.{with_content};
 ghost use Rattle.qc_turn.specs.Words.{StartsWith};
@@ -114,7 +115,7 @@ impl Fill {
     /// Gives the fill up, for a session that ends. The seat then rests. It takes no memory.
     pub fn abandon<R: Wait>(self, rt: &R, turn: &Turn<Server>, seat: &mut Seat<Server>)
         requires seated { IsSeatOf turn.now seat.old }
-        requires fills { IsFillOf self seat.old }
+        requires fills { (view seat.old).task ≡ task.Fill self.serial }
         ensures seated { IsSeatOf turn.now seat.new × (seat.new.ranges.room ≡ seat.old.ranges.room) }
         ensures goes_on { GoesOn (view seat.old) (view seat.new) }
         ensures rests { IsAtRest (view seat.new) }

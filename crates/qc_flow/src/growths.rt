@@ -11,7 +11,7 @@ ghost use Rattle.qc_core.specs.Calls.{ListsFill};
 ghost use Rattle.qc_core.specs.Whole.{tasks_of};
 ghost use Rattle.qc_flow.specs.Seats.{GoesOn};
 ghost use Rattle.qc_flow.specs.Fills.{size_of};
-ghost use Rattle.qc_flow.specs.Growths.{HoldFewer, GrowFor, Wants, Widens, Continues, FillsFor, WasShort, EndsShort};
+ghost use Rattle.qc_flow.specs.Growths.{HoldFewer, GrowFor, Wants, Widens, Continues, FillsFor, WasShort, EndsShort, step_of};
 
 use crate::fills::FillStep;
 use qc_core::{Server, Short, gone, grow};
@@ -76,7 +76,7 @@ fn grow_to(held: &mut Held<'_, Server>, serial: u64, total: u64) -> Result<(), S
     ensures blocks { GrowFor total held.old.ranges.blocks held.new.ranges.blocks }
     ensures fills { FillsFor serial total held.new }
     ensures ok { OnOk result (total ≤ 8 * words_of held.new.ranges.blocks) }
-    ensures err { IfErr result (λ short. WasShort serial held.new.value short) }
+    ensures err { IfErr result (λ short. WasShort serial held.new.value short × HoldFewer held.new.ranges.blocks total) }
 {
     while !holds(held, total) {
         grow(held, serial)?;
@@ -100,7 +100,8 @@ fn end_short(held: &mut Held<'_, Server>, serial: u64, short: Short) -> FillStep
     ensures stands { MayRelease held.new × Continues held.old held.new }
     ensures rests { listed_for (holder held.old).number (tasks_of held.new.value) ≡ [] }
     ensures ended { is_ended serial [] held.new.value.journal.events ≡ true }
-    ensures step { EndsShort serial held.new.value.journal.events result }
+    ensures step { result ≡ step_of short }
+    ensures events { EndsShort serial held.old.value.journal.events held.new.value.journal.events short }
 {
     match short {
         Short::Overtaken(by) => {

@@ -1,6 +1,6 @@
 use Rattle.std.proofs.Common.{rules, ap}
 use Rattle.qc_model.specs.declared.events.Event.TheVariants as event
-use Rattle.qc_turn.specs.Seats.{view, holder}
+use Rattle.qc_turn.specs.Seats.{view}
 use Rattle.qc_flow.specs.Growths.{settled}
 use Rattle.qc_flow.proofs.Holdings.{quiet_gone}
 use Rattle.qc_flow.proofs.Takings.{took_fill}

@@ -1,4 +1,4 @@
-use Rattle.std.proofs.Common.{◌≡◌, ℕ, Result, Ok, Err, ◌-◌, ◌*◌, ◌<◌, ◌≤◌, ◌∷◌, ◌++◌, [], inl, inr, true, false, refl, ap, sym, subst, ◌∙◌, arith, append-nil}
+use Rattle.std.proofs.Common.{◌≡◌, ℕ, Result, Ok, Err, ◌-◌, ◌*◌, ◌<◌, ◌∷◌, ◌++◌, [], inl, inr, false, refl, ap, sym, subst, ◌∙◌, arith}
 use Rattle.std.specs.Prelude.{nat_le, IfErr}
 use Rattle.std.specs.Result.{IsErrAnd}
 use Rattle.std.proofs.lemmas.Bool.Decides.{nat_tests}
@@ -7,12 +7,11 @@ use Rattle.qc_chain.specs.Words.{words_of}
 use Rattle.qc_turn.specs.Seats.{Held, words, holder, MayRelease}
 use Rattle.qc_turn.specs.Tasks.{listed_for, own}
 use Rattle.qc_turn.specs.declared.task.Task.TheVariants as task
-use Rattle.qc_core.specs.Grows.{FillsOn}
 use Rattle.qc_core.specs.Whole.{tasks_of}
 use Rattle.qc_core.specs.contracts.server.ServerKept.TheImpl.{ghosts}
 use Rattle.qc_core.specs.declared.grows.Short.{Short}
 use Rattle.qc_core.specs.declared.parts.Parts.{Parts}
-use Rattle.qc_flow.specs.Growths.{GrowFor, Continues, FillsFor, WasShort}
+use Rattle.qc_flow.specs.Growths.{HoldFewer, GrowFor, Continues, FillsFor, WasShort}
 use Rattle.qc_flow.proofs.Holdings.{continues_same, continues_both, grew, grew_block, grew_none, grown_front, grew_more, grew_short, fills_on, asks_more}
 use Rattle.qc_flow.proofs.growths.grow_to.Goals as goal
 
@@ -101,5 +100,12 @@ handed_on (Err x) e P h p = subst P (sym h) p
 
 pub returns-in_err-grow-clause-err : goal.returns-in_err-grow-clause-err
 returns-in_err-grow-clause-err c =
-    let short = grew_short c.args.serial c.holds.new.held c.grow.new.held c.grow.result c.in_err-grow.field-0.0 c.in_err-grow.was c.grow.ensures.stands c.grow.ensures.found in
-    handed_on c.from_residual.result c.in_err-grow.field-0.0 (λ e. WasShort c.args.serial c.grow.new.held.value e) c.from_residual.ensures.1 short
+    let k = c.loop-held.held in
+    let m = c.grow.new.held in
+    let n = c.args.serial in
+    let e = c.in_err-grow.field-0.0 in
+    let short = grew_short n c.holds.new.held m c.grow.result e c.in_err-grow.was c.grow.ensures.stands c.grow.ensures.found in
+    let same = subst (λ (z : Held Parts Event ghosts). m.ranges.blocks ≡ z.ranges.blocks) c.holds.ensures.same (grew_none n c.holds.new.held m c.grow.result e c.in_err-grow.was c.grow.ensures.found) in
+    let lacks : nat_le c.args.total (8 * words_of k.ranges.blocks) ≡ false = sym c.holds.ensures.holds ∙ c.loop-held-test.true in
+    let over : 8 * words_of k.ranges.blocks < c.args.total = grind (arith, nat_tests, lacks) in
+    handed_on c.from_residual.result e (λ x. WasShort n m.value x × HoldFewer m.ranges.blocks c.args.total) c.from_residual.ensures.1 (short, subst (λ bs. HoldFewer bs c.args.total) (sym same) over)

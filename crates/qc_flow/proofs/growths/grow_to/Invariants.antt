@@ -1,4 +1,4 @@
-use Rattle.std.proofs.Common.{◌≡◌, ℕ, ◌-◌, ◌*◌}
+use Rattle.std.proofs.Common.{◌≡◌, ◌-◌, ◌*◌}
 use Rattle.qc_chain.specs.Words.{words_of}
 use Rattle.qc_turn.specs.Seats.{words, MayRelease}
 use Rattle.qc_flow.specs.Growths.{GrowFor, Continues, FillsFor}

@@ -1,12 +1,16 @@
-use Rattle.std.proofs.Common.{rules, ◌≡◌, ℕ, true, List, [], ap, sym, subst, ◌∙◌}
+use Rattle.std.proofs.Common.{rules, ◌≡◌, true, [], ap, sym, subst, ◌∙◌}
 use Rattle.std.specs.Prelude.{IfErr}
+use Rattle.qc_model.specs.Agrees.{is_ended}
 use Rattle.qc_chain.specs.Chains.{Ranged}
-use Rattle.qc_turn.specs.Seats.{view, words, holder}
-use Rattle.qc_flow.specs.Growths.{WasShort, settled}
-use Rattle.qc_turn.specs.Tasks.{listed_for}
+use Rattle.qc_turn.specs.Seats.{view, words}
+use Rattle.qc_turn.specs.Tasks.{listed_for, own, HasBlocks}
+use Rattle.qc_turn.specs.Words.{StartsWith}
+use Rattle.qc_turn.specs.declared.task.Task.TheVariants as task
 use Rattle.qc_core.specs.Whole.{tasks_of}
+use Rattle.qc_flow.specs.Growths.{HoldFewer, Widens, WasShort}
 use Rattle.qc_flow.proofs.Holdings.{continues_both, number_on, grown_front}
-use Rattle.qc_flow.proofs.Takings.{took_fill, fills_for, fill_content, seat_fills, seat_rests}
+use Rattle.qc_flow.proofs.Takings.{took_fill, fills_for, fill_content, seat_fills, seat_rests, widens_short}
+use Rattle.qc_flow.proofs.Told.{has_ended}
 use Rattle.qc_flow.proofs.growths.widen.Goals as goal
 
 pub grow_to-requires-clause-stands : goal.grow_to-requires-clause-stands
@@ -57,3 +61,25 @@ returns-clause-goes_on g c =
     let f = took_fill v h n t.held.0 t.taken t.holds c.requires.seated.1 in
     let q = (seat_fills v h k c.args.seat.now.ranges n c.args.total f t.taken c.requires.seated.1 e.stands.1 e.fills _ c.requires.seated.0.free c.release-2.ensures.view).0 in
     search (rules, q)
+
+pub returns-in-Err-clause-step : goal.returns-in-Err-clause-step
+returns-in-Err-clause-step g c =
+    let n = c.args.serial in
+    let t = c.take-held.ensures in
+    let v = view c.args.seat.now in
+    let h = c.take-held.result in
+    let k = c.grow_to.new.held in
+    let m = c.end_short-step.new.held in
+    let e = c.grow_to.ensures in
+    let s = c.end_short-step.ensures in
+    let f = took_fill v h n t.held.0 t.taken t.holds c.requires.seated.1 in
+    let both = continues_both h k m e.stands.1 s.stands.1 in
+    let none = subst (λ i. listed_for i (tasks_of m.value) ≡ []) (number_on h k e.stands.1) s.rests in
+    let q = seat_rests v _ h m n f t.taken c.requires.seated.0.free both.view both.value none c.release.ensures.view in
+    let listed = subst (λ i. listed_for i (tasks_of k.value) ≡ own i (task.Fill n) k.ranges.blocks) (number_on h k e.stands.1 ∙ ap (λ u. u.number) f.view) e.fills.listed in
+    let blocks : h.ranges.blocks ≡ v.blocks = ap (λ (r : Ranged). r.blocks) t.ranges ∙ subst (λ u. HasBlocks u v.blocks c.args.seat.now.ranges.blocks) c.requires.seated.1 c.requires.seated.0.ranges in
+    let longer = subst (λ bs. StartsWith k.ranges.blocks bs) blocks (grown_front c.args.total h.ranges.blocks k.ranges.blocks e.blocks) in
+    let was = subst (λ r. IfErr r (λ x. WasShort n k.value x × HoldFewer k.ranges.blocks c.args.total)) c.in-Err.is e.err in
+    let ended = has_ended n _ q.rests (subst (λ j. is_ended n [] j ≡ true) (sym q.seen) s.ended) in
+    let told = subst (Widens n c.args.total v _) (sym s.step) (widens_short n c.args.total v _ k.value m.value k.ranges.blocks c.in-Err.short c.requires.fewer (words k, e.stands.0.sound) listed longer was s.events q.seen ended) in
+    search (rules, told)

@@ -1,5 +1,4 @@
-use Rattle.std.proofs.Common.{◌≡◌, ℕ, ◌+◌, ◌*◌, ◌≤◌, ◌++◌, List, length}
-use Rattle.qc_chain.specs.Words.{words_of}
+use Rattle.std.proofs.Common.{◌≡◌, ℕ, ◌+◌, ◌++◌, List, length}
 use Rattle.qc_turn.specs.Seats.{view, IsSeatOf}
 use Rattle.qc_turn.specs.Views.{with_content}
 use Rattle.qc_flow.specs.Fills.{IsFillOf}

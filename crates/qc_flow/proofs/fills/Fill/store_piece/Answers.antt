@@ -1,7 +1,6 @@
-use Rattle.std.proofs.Common.{◌≡◌, ℕ, ◌+◌, ◌*◌, ◌/◌, ◌%◌, ◌<◌, ◌≤◌, ◌++◌, List, length, take, drop, ap, sym, subst, ◌∙◌, arith, length-append}
+use Rattle.std.proofs.Common.{◌≡◌, ℕ, ◌+◌, ◌*◌, ◌/◌, ◌%◌, ◌≤◌, ◌++◌, List, length, take, drop, ap, sym, subst, ◌∙◌, arith, length-append}
 use Rattle.std.proofs.lemmas.List.{length-take-le, take-append-drop}
 use Rattle.qc_chain.specs.Chains.{Ranged}
-use Rattle.qc_turn.specs.Bytes.{filled_piece}
 use Rattle.qc_turn.specs.Seats.{view}
 use Rattle.qc_turn.specs.Views.{with_content}
 use Rattle.qc_turn.proofs.Tasks.{length_words}
