@@ -31,6 +31,7 @@ use Rattle.qc_turn.specs.Tasks.{listed_for, own}
 use Rattle.qc_turn.specs.Seats.{Held, SameHolder, holder, taken, with_ranges, words}
 use Rattle.qc_turn.specs.Views.{with_found, with_holding}
 use Rattle.qc_turn.proofs.Holders.{taken_is}
+use Rattle.qc_core.specs.declared.hits.Hit.{Hit}
 use Rattle.qc_core.specs.declared.parts.Parts.{Parts}
 use Rattle.qc_core.specs.Whole.{tasks_of, with_event}
 use Rattle.qc_core.specs.Calls.{HasMoreRoom}
@@ -111,7 +112,7 @@ module _ (seat : ℕ) (who : Who) (key : List ℕ) (select : Select) (asked : As
       by (selected.Plain (reason.Rival n) place own) starts does listed = absurd starts
 
   -- an entry answers
-  pub decided_hit : (new : Parts) (before after : Ranged) (hit : _) → Some hit.serial ≡ option_map (λ entry. entry.serial) (answering_asked old.options asked s old.journal.events key) → new ≡ hit_server who hit.serial seat old
+  pub decided_hit : (new : Parts) (before after : Ranged) (hit : Hit) → Some hit.serial ≡ option_map (λ entry. entry.serial) (answering_asked old.options asked s old.journal.events key) → new ≡ hit_server who hit.serial seat old
       → hit.place ≡ length new.journal.events → hit.bytes ≡ after.bytes → IsChainOf hit.serial new after → hit.bytes ≤ 8 * words_of after.blocks
       → listed_for seat (tasks_of new) ≡ own seat (task.Stream hit.serial) after.blocks → Decided seat who key select asked s old new before after [] (selected.Hit hit)
   decided_hit new before after hit found server place bytes chain within listed = record {

@@ -1,7 +1,6 @@
 -- The key of a text is little longer than the text.
 use Rattle.std.proofs.Common.{◌≡◌, ℕ, ◌+◌, ◌/◌, ◌^◌, ◌<◌, ◌≤◌, Bool, true, false, cond, List, [], ◌∷◌, ◌++◌, length, reverse, arith, length-append, refl}
 use Rattle.std.specs.Prelude.{nat_le, ◌&&◌, ◌||◌, ◌==◌}
-use Rattle.std.proofs.lemmas.Bool.{and_parts}
 use Rattle.std.proofs.lemmas.Bool.Decides.{nat_tests}
 use Rattle.std.proofs.lemmas.List.{length-reverse}
 use Rattle.qc_sql.specs.declared.session.Flags.{Flags}
@@ -33,9 +32,14 @@ trimmed_below text =
 flags_length : (f : Flags) → length (flag_bytes f) ≡ 15
 flags_length f = refl
 
+first_of : (a b c d : Bool) → (a && b && c && d) ≡ true → a ≡ true
+first_of true b c d h = refl
+first_of false b c d h = h
+
 short_name : (s : State) → CanBeKeyed s → length s.db ≤ 64
 short_name s keyed =
-    let some : nat_le (length s.db) 64 ≡ true = (and_parts (nat_le (length s.db) 64) _ keyed.values).0 in
+    let f = flags_of s in
+    let some : nat_le (length s.db) 64 ≡ true = first_of (nat_le (length s.db) 64) (f.charset == 33 || f.charset == 45) (f.protocol_form == 0) (f.row_form == 0) keyed.values in
     grind (arith, nat_tests)
 
 pub key_short : (s : State) (text : List ℕ) → CanBeKeyed s → length text < 2 ^ 32 → words_of_bytes (length (key_of_text s text)) < 2 ^ 32
