@@ -177,9 +177,6 @@ draws_all next words missing n before hand old now all d = record {
 
 -- ---- a need gets none
 
-pub short_same : (needs : List ℕ) (old s t : Parts) (e : NoTile) → s ≡ t → IsShortOf needs old s e → IsShortOf needs old t e
-short_same needs old s t e same h = subst (λ x. IsShortOf needs old x e) same h
-
 module _ (done : List ℕ) (need : ℕ) (rest : List ℕ) (next : Option Event) (words : List ℕ) (missing : List TableName) (others : List Block) (before hand : Hand) (old mid last : Parts) (blocks : List Block) (e : NoTile) (takes : Takes done old blocks mid) (some : PrunesSome need next words missing others before hand mid last) (none : HasNone need last e) (least : least_block ≤ need) (room : KeepsRoom old mid) where
   size_is : e ≡ record { need = need; largest = largest_free last.tiles }
   size_is = none.lacks.answer
@@ -324,6 +321,7 @@ may_take_pair missing bytes hand after s new u t = record {
   key = u.key;
   words = u.words;
   long = u.long;
+  short = u.short;
   starting = subst (λ ts. IsStarting (starts u.who u.number u.key ts) u.words [] [] after new) (sym t.tables) t.starting;
 }
 

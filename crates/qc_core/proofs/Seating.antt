@@ -1,6 +1,6 @@
 -- Lists with one item of a number: an item is put in, or taken out.
 use Rattle.std.proofs.Common.{◌≡◌, ◌≢◌, ℕ, zero, suc, ◌+◌, ◌<◌, eqb, eq-eqb, eqb-true, ne_eqb, true, false, cond, List, [], ◌∷◌, ◌++◌, map, length, refl, sym, ap, subst, ◌∙◌, arith, true≢false, length-append}
-use Rattle.std.specs.Prelude.{not, ◌&&◌, ◌||◌, ◌==◌, Some, slice_get, remove, find}
+use Rattle.std.specs.Prelude.{not, ◌&&◌, ◌||◌, ◌==◌, Option, Some, None, IfSome, IfNone, is_some, slice_get, remove, find}
 use Rattle.std.specs.List.{list_any, filter, AllByRecursion}
 use Rattle.std.proofs.lemmas.Option.{none-some, same_Some}
 use Rattle.qc_laws.specs.history.Runs.{are_distinct}
@@ -92,6 +92,11 @@ distinct_parts n ns d = let parts = both_true (not (list_any (λ m. m == n) ns))
 pub map_same : (xs : List ℕ) → map (λ m. m) xs ≡ xs
 map_same [] = refl
 map_same (x ∷ xs) = ap (λ l. x ∷ l) (map_same xs)
+
+-- a place where the number stands is found exactly where there is one
+pub is_found : (n : ℕ) (xs : List ℕ) (o : Option ℕ) → IfSome o (λ i. slice_get xs i ≡ Some n) → IfNone o (list_any (λ m. m == n) xs ≡ false) → is_some o ≡ list_any (λ m. m == n) xs
+is_found n xs None some none = sym none
+is_found n xs (Some i) some none = sym (subst (λ (l : List ℕ). list_any (λ m. m == n) l ≡ true) (map_same xs) (is_among (λ m. m) n i xs n some refl))
 
 pub all_push : {A : Type 0} (P : A → Type 0) (xs : List A) (x : A) → AllByRecursion P xs → P x → AllByRecursion P (xs ++ x ∷ [])
 all_push P [] x h p = (p, tt)

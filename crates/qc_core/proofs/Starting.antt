@@ -213,6 +213,7 @@ may_take words s who number key tables sound may =
       key = key;
       words = words;
       long = refl;
+      short = may.short;
       starting = record {
         names = sound.0;
         whole = record {
@@ -335,6 +336,7 @@ module _ (who : Who) (serial : ℕ) (key : List ℕ) (tables : List TableName) (
   holds_blocks hand t x size a =
       let o = onto_takes (needs_for h.value.options (without_block h.value.dir.tables tables) (length key)) h.value x (a.blocks ++ t.first ∷ t.text ∷ []) a.takes in
       let k = keeps_value h x (keeps_released h st) (onto_follows h.value x (holder h).number (idle_of (holder h).found) o) in
+      let within = block_within 0 (region_words x.options) x.tiles t.text a.starting.whole.sound.memory.tiles.tiling.covers (text_held who serial key tables hand t (words h) x a.starting) in
       record {
         held = k.held;
         follows = k.follows;
@@ -343,7 +345,7 @@ module _ (who : Who) (serial : ℕ) (key : List ℕ) (tables : List TableName) (
         next = next_value h x who o next;
         room = a.room 2 room;
         may = o.may serial key tables may_at;
-        short = may.short;
+        short = omega (arith, a.sizes.few, within.1, a.starting.whole.sound.region, st.held.width, h.turn.now.small);
         full = subst (λ (q : Options). unit_words q ≤ t.first.words) (sym o.options) a.sizes.full;
         small = subst (λ (q : Options). t.first.words ≤ unit_words q + 63) (sym o.options) a.sizes.small;
         few = omega (arith, a.sizes.few);

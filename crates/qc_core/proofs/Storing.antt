@@ -1,7 +1,8 @@
 -- The bytes of a key are stored, word by word.
-use Rattle.std.proofs.Common.{◌≡◌, ◌≢◌, ℕ, zero, suc, ◌+◌, ◌-◌, ◌*◌, ◌/◌, ◌%◌, ◌^◌, ◌<◌, ◌≤◌, min, eqb, eq-eqb, eqb-true, Bool, true, false, List, [], ◌∷◌, length, take, drop, get_or, set, refl, sym, ap, subst, ◌∙◌, arith, true≢false}
-use Rattle.std.specs.Prelude.{◌&&◌, ◌==◌}
+use Rattle.std.proofs.Common.{◌≡◌, ◌≢◌, ℕ, zero, suc, ◌+◌, ◌-◌, ◌*◌, ◌/◌, ◌%◌, ◌^◌, ◌<◌, ◌≤◌, min, eqb, eq-eqb, eqb-true, Bool, true, false, List, [], ◌∷◌, length, take, drop, get_or, set, refl, sym, ap, subst, ◌∙◌, arith, true≢false, drop-cons}
+use Rattle.std.specs.Prelude.{◌&&◌, ◌==◌, slice_index}
 use Rattle.std.proofs.lemmas.List.{get_or-set_same, get_or-set_other, length-set, drop-drop, drop_at}
+use Rattle.byteorder.specs.Endian.{little_from}
 use Rattle.qc_model.specs.Licence.{words_of_bytes}
 use Rattle.qc_tiles.specs.declared.blocks.Block.{Block}
 use Rattle.qc_turn.specs.declared.kept.Kept.{Ghosts}
@@ -25,22 +26,15 @@ spells_more word byte p low h =
     both : Bool → Bool → Bool
     both a b = a && b
 
-pub drop_step : (l : List ℕ) (k : ℕ) → k < length l → drop k l ≡ get_or l k 0 ∷ drop (k + 1) l
-drop_step [] k h = absurd (omega (arith, h))
-drop_step (x ∷ l) zero h = let e : 0 + 1 ≡ suc 0 = omega arith in refl
-drop_step (x ∷ l) (suc k) h = let e : suc k + 1 ≡ suc (k + 1) = omega arith in drop_step l k (omega (arith, h)) ∙ ap (λ n. get_or l k 0 ∷ drop n (x ∷ l)) (sym e)
-
--- the words that 8 bytes make
-pub few_bits : (i : ℕ) → i < 8 → 256 * 256 ^ i ≤ 2 ^ 64
-few_bits zero h = omega arith
-few_bits (suc zero) h = omega arith
-few_bits (suc (suc zero)) h = omega arith
-few_bits (suc (suc (suc zero))) h = omega arith
-few_bits (suc (suc (suc (suc zero)))) h = omega arith
-few_bits (suc (suc (suc (suc (suc zero))))) h = omega arith
-few_bits (suc (suc (suc (suc (suc (suc zero)))))) h = omega arith
-few_bits (suc (suc (suc (suc (suc (suc (suc zero))))))) h = omega arith
-few_bits (suc (suc (suc (suc (suc (suc (suc (suc n)))))))) h = absurd (omega (arith, h))
+-- a number that was read spells its bytes
+pub read_spells : (n i : ℕ) (xs : List ℕ) → ((k : ℕ) → slice_index xs k < 256) → n + i ≤ length xs → spells (little_from i n xs) (take n (drop i xs)) ≡ true
+read_spells zero i xs h k = refl
+read_spells (suc n) i xs h k =
+    let x = slice_index xs i in
+    let y = little_from (suc i) n xs in
+    let is : y * 256 + x ≡ x + 256 * y = omega arith in
+    let more = spells_more y x (take n (drop (suc i) xs)) (h i) (read_spells n (suc i) xs h (omega (arith, k))) in
+    (λ j. spells (sym is j) (ap (take (suc n)) (drop-cons xs i 0 (omega (arith, k))) j)) ∙ more
 
 -- ---- the words
 

@@ -19,11 +19,12 @@ use Rattle.qc_tiles.specs.declared.blocks.Block.{Block}
 use Rattle.qc_tiles.specs.Tiles.{handed_out, block_of}
 use Rattle.qc_tiles.proofs.Calls.{own_tiling}
 use Rattle.qc_tiles.proofs.Tilings.{length_words, tiling_words}
-use Rattle.qc_chain.specs.Chains.{Chained, chain_at, Begun}
+use Rattle.qc_chain.specs.Chains.{Chained, chain_at, Begun, IsFit}
 use Rattle.qc_chain.specs.Chains.{Chain as Kept}
 use Rattle.qc_dir.specs.declared.entries.Entry.{Entry}
 use Rattle.qc_dir.specs.Directory.{has_serial, entry_at, without, after_enter, after_touch, moved_to_end, IsDirectory, with_entries}
-use Rattle.qc_turn.specs.Tasks.{listed_for}
+use Rattle.qc_turn.specs.declared.task.Task.TheVariants as task
+use Rattle.qc_turn.specs.Tasks.{listed_for, own}
 use Rattle.qc_sound.specs.PlainServer.{StoredEntry, EntryChain, blocks_at, blocks_of}
 use Rattle.qc_sound.specs.PlainServer.{SeatTask}
 use Rattle.qc_sound.specs.Moment.{Moment}
@@ -309,6 +310,14 @@ listed_else cs k ws w ne =
     ∙ (filter-append (λ (t : ListedTask). t.number == k) (map (listed_in cs) ws) (listed_in cs w ∷ [])
     ∙ (ap (λ b. listed_for k (map (listed_in cs) ws) ++ cond b (listed_in cs w ∷ []) []) (ne_eqb w.seat k (λ z. ne (sym z))) ∙ append-nil (listed_for k (map (listed_in cs) ws))))
 
+-- what is listed for the seat
+pub hit_listed : (s : Parts) (who : Who) (n seat room : ℕ) (u : MayUse n s room) → listed_for seat (tasks_of s) ≡ [] → listed_for seat (tasks_of (with_event (event.Run who (how.Hit n)) (used_by seat n u.entry u.held s))) ≡ own seat (task.Stream n) u.held.blocks
+hit_listed s who n seat room u free =
+    let w = streams seat n u.entry in
+    ap (listed_for seat) (map-append (listed_in s.chains) s.tasks.items (w ∷ []))
+    ∙ (filter-append (λ (t : ListedTask). t.number == seat) (tasks_of s) (listed_in s.chains w ∷ [])
+    ∙ ((λ i. free i ++ cond (eq-eqb seat seat refl i) (listed_in s.chains w ∷ []) []) ∙ ap (λ (o : Option Kept). own seat (task.Stream n) (chain_blocks o)) u.begun))
+
 pub hit_follows : (s : Parts) (who : Who) (n seat : ℕ) (e : Entry) (held : Kept) (quiet : List ℕ) → 0 < seat → who.session ≡ seat - 1 → Follows ghosts seat quiet s (with_event (event.Run who (how.Hit n)) (used_by seat n e held s))
 hit_follows s who n seat e held quiet ps is = record {
   journal = (event.Run who (how.Hit n) ∷ [], refl);
@@ -333,6 +342,9 @@ pub hand_pulled : (s v : Parts) (old taken new : Ranged) (n : ℕ) → v ≡ s �
     → new ≡ record { blocks = u.held.blocks; bytes = u.held.bytes; room = old.room }
 hand_pulled s v old taken new n same hand f u =
     subst (λ (p : Parts × Ranged). (u : MayUse n p.0 p.1.room) → new ≡ record { blocks = u.held.blocks; bytes = u.held.bytes; room = p.1.room }) (λ i. (same i, hand i)) f u
+
+pub fit_pulled : (s v : Parts) (old taken : Ranged) (n : ℕ) → v ≡ s → taken ≡ old → ((u : MayUse n v taken.room) → IsFit u.held.blocks u.held.bytes) → (u : MayUse n s old.room) → IsFit u.held.blocks u.held.bytes
+fit_pulled s v old taken n same hand f u = subst (λ (p : Parts × Ranged). (u : MayUse n p.0 p.1.room) → IsFit u.held.blocks u.held.bytes) (λ i. (same i, hand i)) f u
 
 -- the entry is found at the end
 none_without : (n : ℕ) (es : List Entry) (e : Entry) → e.serial ≡ n → entry_at n (without n es ++ e ∷ []) ≡ Some e

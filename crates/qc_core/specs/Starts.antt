@@ -49,7 +49,7 @@ pub record MayBegin (key : List ℕ) (tables : List TableName) (s : Parts) : Typ
   pub may : MayStart s.options s.journal.events (start_count s.journal.events + 1) key tables
   pub few : length tables ≤ 8
   pub once : AreApart same_table tables
-  pub short : length key < 2 ^ 32
+  pub short : words_of_bytes (length key) < 2 ^ 32
 
 -- there is room for the event of a start, and for the two that its entry may have, beside those that other entries may still have
 abbrev pub HasStartRoom : Parts → Type 0

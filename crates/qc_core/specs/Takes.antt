@@ -1,5 +1,5 @@
 -- The blocks of a start are taken, one after another, and the blocks of its own tables are kept for it while entries are pruned.
-use Rattle.std.specs.Prelude.{◌≡◌, ℕ, ◌+◌, ◌<◌, ◌≤◌, true, List, [], ◌∷◌, ◌++◌, map, length, Option, Some, None, IsPermutation}
+use Rattle.std.specs.Prelude.{◌≡◌, ℕ, ◌+◌, ◌^◌, ◌<◌, ◌≤◌, true, List, [], ◌∷◌, ◌++◌, map, length, Option, Some, None, IsPermutation}
 use Rattle.std.specs.List.{AllByRecursion}
 use Rattle.qc_types.specs.declared.names.TableName.{TableName}
 use Rattle.qc_types.specs.declared.options.Options.{Options}
@@ -122,6 +122,7 @@ pub record MayTake (missing : List TableName) (bytes : ℕ) (hand : Hand) (s : P
   pub key : List ℕ
   pub words : List ℕ
   pub long : length key ≡ bytes
+  pub short : words_of_bytes bytes < 2 ^ 32
   pub starting : IsStarting (starts who number key hand.tables) words missing [] hand s
 
 abbrev pub next_of : (missing : List TableName) (bytes : ℕ) (hand : Hand) (s : Parts) → MayTake missing bytes hand s → Option Event

@@ -4,8 +4,13 @@ ghost use Rattle.std.specs.Prelude.{◌≡◌, ◌*◌, ◌≤◌, ◌<◌, ◌�
 ghost use Rattle.qc_model.specs.declared.events.Event.TheVariants as event;
 ghost use Rattle.qc_model.specs.declared.events.How.TheVariants as how;
 ghost use Rattle.qc_model.specs.Licence.{IsComplete};
+ghost use Rattle.qc_chain.specs.Words.{words_of};
+ghost use Rattle.qc_chain.specs.Chains.{IsFit};
 ghost use Rattle.qc_dir.specs.Directory.{IsDirectory};
+ghost use Rattle.qc_turn.specs.declared.task.Task.TheVariants as task;
+ghost use Rattle.qc_turn.specs.Tasks.{listed_for, own};
 ghost use Rattle.qc_turn.specs.Seats.{MayRelease, SameHolder, holder};
+ghost use Rattle.qc_core.specs.Whole.{tasks_of};
 ghost use Rattle.qc_core.specs.Calls.{IsNext, HasSpare};
 ghost use Rattle.qc_core.specs.Hits.{MayUse, used_by, IsChainOf, hit_server};
 
@@ -32,6 +37,7 @@ impl Parts {
         ensures server { (u : MayUse serial self.old ranges.old.room) → self.new ≡ used_by seat serial u.entry u.held self.old }
         ensures valid { IsDirectory self.new.dir }
         ensures ranges { (u : MayUse serial self.old ranges.old.room) → ranges.new ≡ record { blocks = u.held.blocks; bytes = u.held.bytes; room = ranges.old.room } }
+        ensures fit { (u : MayUse serial self.old ranges.old.room) → IsFit u.held.blocks u.held.bytes }
     {
         let Some(entry) = self.dir.entry(serial) else {
             unreachable!()
@@ -56,6 +62,7 @@ impl Server {
         ensures server { (u : MayUse serial self.old ranges.old.room) → self.new ≡ used_by seat serial u.entry u.held self.old }
         ensures valid { IsDirectory self.new.dir }
         ensures ranges { (u : MayUse serial self.old ranges.old.room) → ranges.new ≡ record { blocks = u.held.blocks; bytes = u.held.bytes; room = ranges.old.room } }
+        ensures fit { (u : MayUse serial self.old ranges.old.room) → IsFit u.held.blocks u.held.bytes }
     {
         self.parts.use_entry(seat, serial, ranges);
     }
@@ -72,6 +79,8 @@ pub(crate) fn stream_entry(held: &mut Held<'_, Server>, who: Who, serial: u64) -
     ensures hit { (result.serial ≡ serial) × (result.place ≡ length held.new.value.journal.events) × (result.bytes ≡ held.new.ranges.bytes) }
     ensures server { held.new.value ≡ hit_server who serial (holder held.old).number held.old.value }
     ensures ranges { IsChainOf serial held.new.value held.new.ranges }
+    ensures within { result.bytes ≤ 8 * words_of held.new.ranges.blocks }
+    ensures listed { listed_for (holder held.old).number (tasks_of held.new.value) ≡ own (holder held.old).number (task.Stream serial) held.new.ranges.blocks }
 {
     let seat = held.number();
     let alloc = held.value().alloc();

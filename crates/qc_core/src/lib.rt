@@ -50,3 +50,4 @@ pub use seats::{Full, enter, leave};
 pub use server::Server;
 pub use starts::{Begun, Started, start};
 pub use statuses::status;
+pub use texts::store_text;

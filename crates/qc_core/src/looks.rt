@@ -3,8 +3,12 @@
 ghost use Rattle.std.specs.Prelude.{◌≡◌, ◌*◌, ◌≤◌, ◌<◌, length, option_map, Some, not, ◌&&◌, IsSome, IfSome, IfNone};
 ghost use Rattle.std.specs.List.{list_all};
 ghost use Rattle.qc_model.specs.Choice.{answering, changed_since, is_stale, wrote};
+ghost use Rattle.qc_chain.specs.Words.{words_of};
 ghost use Rattle.qc_dir.specs.Directory.{entry_at};
+ghost use Rattle.qc_turn.specs.declared.task.Task.TheVariants as task;
+ghost use Rattle.qc_turn.specs.Tasks.{listed_for, own};
 ghost use Rattle.qc_turn.specs.Seats.{MayRelease, SameHolder, holder};
+ghost use Rattle.qc_core.specs.Whole.{tasks_of};
 ghost use Rattle.qc_core.specs.Calls.{IsNext, HasSpare, MaySend};
 ghost use Rattle.qc_core.specs.Hits.{IsChainOf, hit_server};
 
@@ -67,6 +71,8 @@ pub fn look(held: &mut Held<'_, Server>, who: Who, key: &[u8], state: &SessionSt
     ensures server { IfSome result (λ hit. held.new.value ≡ hit_server who hit.serial (holder held.old).number held.old.value) }
     ensures hit { IfSome result (λ hit. (hit.place ≡ length held.new.value.journal.events) × (hit.bytes ≡ held.new.ranges.bytes)) }
     ensures ranges { IfSome result (λ hit. IsChainOf hit.serial held.new.value held.new.ranges) }
+    ensures within { IfSome result (λ hit. hit.bytes ≤ 8 * words_of held.new.ranges.blocks) }
+    ensures listed { IfSome result (λ hit. listed_for (holder held.old).number (tasks_of held.new.value) ≡ own (holder held.old).number (task.Stream hit.serial) held.new.ranges.blocks) }
 {
     let Some(serial) = find_entry(held, key) else {
         return None;

@@ -38,6 +38,13 @@ impl Parts {
 }
 
 impl Server {
+    /// Whether the seat with this number is connected. At most 65 are.
+    pub fn is_connected(&self, seat: u32) -> bool
+        ensures { result ≡ is_connected seat self.now }
+    {
+        position(self.parts.connected.items(), seat).is_some()
+    }
+
     /// The seat is connected from now on.
     fn connect(&mut self, seat: u32)
         requires { 0 < self.old.connected.room }

@@ -109,8 +109,8 @@ impl Server {
         self.parts.journal.count(session) + 1
     }
 
-    /// The entry with a serial, borrowed, if any.
-    pub(crate) fn entry(&self, serial: u64) -> Option<&Entry>
+    /// The entry with a serial, borrowed, if any: a removed one is none. Logarithmic in the number of entries.
+    pub fn entry(&self, serial: u64) -> Option<&Entry>
         ensures entry { option_copied result ≡ entry_at serial self.now.dir.entries }
     {
         self.parts.dir.entry(serial)

@@ -158,7 +158,12 @@ impl Server {
     }
 
     /// The same of what is in the box.
-    fn take_blocks(&mut self, hand: &mut Hand, missing: Tables, bytes: u32) -> Result<Taken, NoTile>
+    fn take_blocks(
+        &mut self,
+        hand: &mut Hand,
+        missing: Tables,
+        bytes: usize,
+    ) -> Result<Taken, NoTile>
         requires { MayTake missing bytes hand.old self.old }
         ensures ok { (u : MayTake missing bytes hand.old self.old) → IfOk result (λ taken. TakesAll (next_of missing bytes hand.old self.old u) u.words missing bytes hand.old hand.new self.old taken self.new) }
         ensures err { (u : MayTake missing bytes hand.old self.old) → IfErr result (λ e. Stops (next_of missing bytes hand.old self.old u) u.words (needs_for self.old.options missing bytes) [] self.old self.new e) }
@@ -256,7 +261,7 @@ fn begin(held: &mut Held<'_, Server>, who: Who, key: Text, tables: Tables, ready
         mut hand,
         missing,
     } = ready;
-    let bytes = key.bytes().len() as u32;
+    let bytes = key.bytes().len();
     match held.value().take_blocks(&mut hand, missing, bytes) {
         Ok(taken) => Begun::Started(finish(held, who, serial, key, tables, hand, taken)),
         Err(none) => Begun::NoRoom {

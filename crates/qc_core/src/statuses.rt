@@ -18,8 +18,9 @@ use qc_turn::Held;
 use qc_types::Totals;
 
 impl Server {
-    /// How many blocks there are, how many of them are free, and the words of these. Constant time.
-    pub(crate) fn totals(&self) -> Totals
+    /// How many blocks there are, how many of them are free, and the words of these. The chain of a stream that has ended counts until its end is noticed.
+    /// Constant time.
+    pub fn totals(&self) -> Totals
         ensures { result ≡ totals_of self.now.tiles }
     {
         self.parts.tiles.totals()

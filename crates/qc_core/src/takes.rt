@@ -103,13 +103,13 @@ impl Parts {
     }
 
     /// Takes the first block of a chain, of a unit, and the block of a key of so many bytes. Where there is none for the key, the other is given back.
-    fn take_pair(&mut self, hand: &mut Hand, bytes: u32) -> Result<Taken, NoTile>
+    fn take_pair(&mut self, hand: &mut Hand, bytes: usize) -> Result<Taken, NoTile>
         requires { MayTake [] bytes hand.old self.old }
         ensures ok { (u : MayTake [] bytes hand.old self.old) → IfOk result (λ taken. TakesPair (next_of [] bytes hand.old self.old u) u.words bytes hand.old hand.new self.old taken self.new) }
         ensures err { (u : MayTake [] bytes hand.old self.old) → IfErr result (λ e. Stops (next_of [] bytes hand.old self.old u) u.words (unit_words self.old.options ∷ raised (words_of_bytes bytes) ∷ []) (table_blocks hand.new.fresh) self.old self.new e) }
     {
         let first = self.allocate_keeping(self.options.unit / 8, hand)?;
-        let taken = self.allocate_keeping(bytes.div_ceil(8).max(TABLE_WORDS), hand);
+        let taken = self.allocate_keeping((bytes.div_ceil(8) as u32).max(TABLE_WORDS), hand);
         match taken {
             Ok(text) => Ok(Taken { first, text }),
             Err(none) => {
@@ -120,7 +120,7 @@ impl Parts {
     }
 
     /// Takes the blocks of a start: one for each of these tables, the first one of its chain, and one for its key, of so many bytes.
-    fn take_all(&mut self, hand: &mut Hand, missing: Tables, bytes: u32) -> Result<Taken, NoTile>
+    fn take_all(&mut self, hand: &mut Hand, missing: Tables, bytes: usize) -> Result<Taken, NoTile>
         requires { MayTake missing bytes hand.old self.old }
         ensures ok { (u : MayTake missing bytes hand.old self.old) → IfOk result (λ taken. TakesAll (next_of missing bytes hand.old self.old u) u.words missing bytes hand.old hand.new self.old taken self.new) }
         ensures err { (u : MayTake missing bytes hand.old self.old) → IfErr result (λ e. Stops (next_of missing bytes hand.old self.old u) u.words (needs_for self.old.options missing bytes) (table_blocks hand.new.fresh) self.old self.new e) }
@@ -134,7 +134,7 @@ impl Parts {
         &mut self,
         hand: &mut Hand,
         missing: Tables,
-        bytes: u32,
+        bytes: usize,
     ) -> Result<Taken, NoTile>
         requires { MayTake missing bytes hand.old self.old }
         ensures ok { (u : MayTake missing bytes hand.old self.old) → IfOk result (λ taken. TakesAll (next_of missing bytes hand.old self.old u) u.words missing bytes hand.old hand.new self.old taken self.new) }

@@ -1,28 +1,25 @@
 //! The bytes of a key are stored.
 
-ghost use Rattle.std.specs.Prelude.{◌≡◌, ◌≤◌, length, true};
+ghost use Rattle.std.specs.Prelude.{◌≡◌, ◌<◌, ◌≤◌, length, true};
 ghost use Rattle.qc_core.specs.Spelled.{spells};
 ghost use Rattle.qc_core.specs.Texts.{MayStore, HasStored};
 
 use crate::server::Server;
+use byteorder::{ByteOrder, LittleEndian};
 use qc_tiles::Block;
 use qc_turn::Held;
 
 /// The word whose low bytes are these, and whose others are 0.
 fn word_of(piece: &[u8]) -> u64
-    requires { length piece.now ≤ 8 }
+    requires { (0 < length piece.now) × (length piece.now ≤ 8) }
     ensures { spells result piece.now ≡ true }
 {
-    let mut word = 0;
-    for index in 0..piece.len() {
-        let byte = piece[piece.len() - 1 - index];
-        word = word * 256 + u64::from(byte);
-    }
-    word
+    LittleEndian::read_uint(piece, piece.len())
 }
 
-/// Stores these bytes at the front of a block, eight in a word.
-pub(crate) fn store_text(held: &mut Held<'_, Server>, block: Block, key: &[u8])
+/// Stores these bytes at the front of a block, eight in a word, the first one lowest. The block has room for them, and none of its words is in a task of
+/// another seat. Linear in the bytes.
+pub fn store_text(held: &mut Held<'_, Server>, block: Block, key: &[u8])
     requires { MayStore held.old block (length key.now) }
     ensures { HasStored held.old held.new block key.now }
 {

@@ -1,19 +1,22 @@
-use Rattle.std.proofs.Common.{◌≡◌, ◌<◌, arith, sym, ap, subst, ◌∙◌}
+use Rattle.std.proofs.Common.{◌≡◌, ◌*◌, ◌<◌, ◌≤◌, arith, sym, ap, subst, ◌∙◌}
 use Rattle.qc_key.specs.Hash.{hash}
 use Rattle.qc_model.specs.declared.events.Event.TheVariants as event
 use Rattle.qc_model.specs.declared.events.How.TheVariants as how
+use Rattle.qc_chain.specs.Words.{words_of}
 use Rattle.qc_chain.specs.Chains.{Ranged}
 use Rattle.qc_dir.specs.Directory.{IsDirectory}
+use Rattle.qc_turn.specs.declared.task.Task.TheVariants as task
+use Rattle.qc_turn.specs.Tasks.{listed_for, own}
 use Rattle.qc_turn.specs.Views.{idle_of}
 use Rattle.qc_turn.specs.Seats.{words, holder, MayRelease, SameHolder, with_value, with_ranges}
 use Rattle.qc_sound.specs.Moment.{at_rest}
 use Rattle.qc_sound.proofs.Needs.{needs_push}
 use Rattle.qc_core.specs.declared.parts.Parts.{Parts}
-use Rattle.qc_core.specs.Whole.{with_event}
+use Rattle.qc_core.specs.Whole.{tasks_of, with_event}
 use Rattle.qc_core.specs.Hits.{MayUse, used_by, IsChainOf}
 use Rattle.qc_core.proofs.Standing.{both_stand}
 use Rattle.qc_core.proofs.TaskRoom.{connected_seat, task_room}
-use Rattle.qc_core.proofs.Uses.{may_use, use_pulled, hand_pulled, hit_whole, hit_follows, hit_is, chain_kept}
+use Rattle.qc_core.proofs.Uses.{may_use, use_pulled, hand_pulled, hit_whole, hit_follows, hit_is, hit_listed, chain_kept, fit_pulled}
 use Rattle.qc_core.proofs.hits.stream_entry.Goals as goal
 
 pub use_entry-requires : goal.use_entry-requires
@@ -100,3 +103,36 @@ returns-clause-ranges c =
     let is : c.push-place.new.self ≡ with_event ev (used_by (holder h).number n u.entry u.held s) = c.push-place.ensures.pushed ∙ ap (with_event ev) (c.value-3.ensures.value ∙ used) in
     let r = hand_pulled s c.value-2.result.now h.ranges c.replace-ranges.result c.use_entry.new.ranges n same hand c.use_entry.ensures.ranges u in
     subst (λ x. IsChainOf n x c.use_entry.new.ranges) (sym is) (chain_kept s c.args.who n (holder h).number h.ranges.room u c.use_entry.new.ranges r)
+
+pub returns-clause-within : goal.returns-clause-within
+returns-clause-within c =
+    let h = c.args.held.now in
+    let s = h.value in
+    let n = c.args.serial in
+    let sound = c.requires.stands.sound in
+    let seat_is = connected_seat (at_rest hash) sound.0 (words h) s (holder h).number sound.1 c.requires.next.connected in
+    let u = may_use (at_rest hash) sound.0 (words h) s n h.ranges.room sound.1 c.requires.complete c.requires.ranges (task_room (at_rest hash) sound.0 (words h) s (holder h).number sound.1 seat_is c.requires.next.free) in
+    let same : c.value-2.result.now ≡ s = c.value-2.ensures.value ∙ c.value.ensures.value in
+    let hand : c.replace-ranges.result ≡ h.ranges = c.replace-ranges.ensures.value ∙ c.ranges-2.ensures.value in
+    let r = hand_pulled s c.value-2.result.now h.ranges c.replace-ranges.result c.use_entry.new.ranges n same hand c.use_entry.ensures.ranges u in
+    let fit = fit_pulled s c.value-2.result.now h.ranges c.replace-ranges.result n same hand c.use_entry.ensures.fit u in
+    let within = subst (λ (z : Ranged). z.bytes ≤ 8 * words_of z.blocks) (sym r) fit.within in
+    omega (arith, within, c.bytes-bytes.ensures)
+
+pub returns-clause-listed : goal.returns-clause-listed
+returns-clause-listed c =
+    let h = c.args.held.now in
+    let s = h.value in
+    let n = c.args.serial in
+    let sound = c.requires.stands.sound in
+    let seat_is = connected_seat (at_rest hash) sound.0 (words h) s (holder h).number sound.1 c.requires.next.connected in
+    let u = may_use (at_rest hash) sound.0 (words h) s n h.ranges.room sound.1 c.requires.complete c.requires.ranges (task_room (at_rest hash) sound.0 (words h) s (holder h).number sound.1 seat_is c.requires.next.free) in
+    let same : c.value-2.result.now ≡ s = c.value-2.ensures.value ∙ c.value.ensures.value in
+    let hand : c.replace-ranges.result ≡ h.ranges = c.replace-ranges.ensures.value ∙ c.ranges-2.ensures.value in
+    let seat : c.number-seat.result ≡ (holder h).number = c.number-seat.ensures in
+    let used : c.use_entry.new.self ≡ used_by (holder h).number n u.entry u.held s =
+    use_pulled s c.value-2.result.now c.use_entry.new.self h.ranges c.replace-ranges.result n c.number-seat.result same hand c.use_entry.ensures.server u ∙ ap (λ k. used_by k n u.entry u.held s) seat in
+    let ev = event.Run c.args.who (how.Hit n) in
+    let is : c.push-place.new.self ≡ with_event ev (used_by (holder h).number n u.entry u.held s) = c.push-place.ensures.pushed ∙ ap (with_event ev) (c.value-3.ensures.value ∙ used) in
+    let r = hand_pulled s c.value-2.result.now h.ranges c.replace-ranges.result c.use_entry.new.ranges n same hand c.use_entry.ensures.ranges u in
+    ap (λ (x : Parts). listed_for (holder h).number (tasks_of x)) is ∙ (hit_listed s c.args.who n (holder h).number h.ranges.room u c.requires.next.free ∙ ap (λ (z : Ranged). own (holder h).number (task.Stream n) z.blocks) (sym r))

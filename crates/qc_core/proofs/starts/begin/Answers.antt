@@ -21,7 +21,7 @@ take_blocks-requires c =
     let h = c.args.held.now in
     let r = c.requires in
     subst (λ (q : List TableName × List ℕ × Hand × Parts). MayTake q.0 (length q.1) q.2 q.3)
-    (λ i. (sym (ap (λ (x : Ready). x.missing) r.ready) i, sym c.bytes.ensures i, sym (ap (λ (x : Ready). x.hand) r.ready) i, sym c.value.ensures.value i))
+    (λ i. (sym (ap (λ (x : Ready). x.missing) r.ready) i, sym c.bytes-bytes.ensures i, sym (ap (λ (x : Ready). x.hand) r.ready) i, sym c.value.ensures.value i))
     (taking c.args.who c.args.ready.serial c.args.key c.args.tables h r.stands r.next r.may r.room (ap (λ (x : Ready). x.serial) r.ready))
 
 pub finish-requires : goal.finish-requires
@@ -33,7 +33,7 @@ finish-requires c =
     let x = c.take_blocks.new.self in
     let t = c.in-Ok.taken in
     let a = subst (λ (q : List TableName × List ℕ × Hand × Parts). (u : MayTake q.0 (length q.1) q.2 q.3) → TakesAll (next_of q.0 (length q.1) q.2 q.3 u) u.words q.0 (length q.1) q.2 hand q.3 t x)
-    (λ i. (ap (λ (x : Ready). x.missing) r.ready i, c.bytes.ensures i, ap (λ (x : Ready). x.hand) r.ready i, c.value.ensures.value i)) (c.in-Ok.ensures {u = tt}).ok
+    (λ i. (ap (λ (x : Ready). x.missing) r.ready i, c.bytes-bytes.ensures i, ap (λ (x : Ready). x.hand) r.ready i, c.value.ensures.value i)) (c.in-Ok.ensures {u = tt}).ok
     (taking c.args.who c.args.ready.serial c.args.key c.args.tables h r.stands r.next r.may r.room above) in
     holds_blocks c.args.who c.args.ready.serial c.args.key c.args.tables h r.stands r.next r.may r.room above hand t x r.ranges a
 
@@ -45,7 +45,7 @@ run_without_room-requires c =
     let x = c.take_blocks.new.self in
     let e = c.in-Err.none in
     let a = subst (λ (q : List TableName × List ℕ × Hand × Parts). (u : MayTake q.0 (length q.1) q.2 q.3) → Stops (next_of q.0 (length q.1) q.2 q.3 u) u.words (needs_for q.3.options q.0 (length q.1)) [] q.3 x e)
-    (λ i. (ap (λ (x : Ready). x.missing) r.ready i, c.bytes.ensures i, ap (λ (x : Ready). x.hand) r.ready i, c.value.ensures.value i)) (c.in-Err.ensures {u = tt}).err
+    (λ i. (ap (λ (x : Ready). x.missing) r.ready i, c.bytes-bytes.ensures i, ap (λ (x : Ready). x.hand) r.ready i, c.value.ensures.value i)) (c.in-Err.ensures {u = tt}).err
     (taking c.args.who c.args.ready.serial c.args.key c.args.tables h r.stands r.next r.may r.room above) in
     holds_nothing c.args.who c.args.ready.serial c.args.key c.args.tables h r.stands r.next r.may r.room above (needs_for h.value.options (without_block h.value.dir.tables c.args.tables) (length c.args.key)) x e a
 
@@ -64,7 +64,7 @@ returns-in-Ok-clause-begun c =
     let x = c.take_blocks.new.self in
     let t = c.in-Ok.taken in
     let a = subst (λ (q : List TableName × List ℕ × Hand × Parts). (u : MayTake q.0 (length q.1) q.2 q.3) → TakesAll (next_of q.0 (length q.1) q.2 q.3 u) u.words q.0 (length q.1) q.2 hand q.3 t x)
-    (λ i. (ap (λ (x : Ready). x.missing) r.ready i, c.bytes.ensures i, ap (λ (x : Ready). x.hand) r.ready i, c.value.ensures.value i)) (c.in-Ok.ensures {u = tt}).ok
+    (λ i. (ap (λ (x : Ready). x.missing) r.ready i, c.bytes-bytes.ensures i, ap (λ (x : Ready). x.hand) r.ready i, c.value.ensures.value i)) (c.in-Ok.ensures {u = tt}).ok
     (taking c.args.who c.args.ready.serial c.args.key c.args.tables h r.stands r.next r.may r.room above) in
     record {
       serial = c.finish.ensures.serial ∙ above;
@@ -98,7 +98,7 @@ returns-in-Err-clause-begun c =
     let x = c.take_blocks.new.self in
     let e = c.in-Err.none in
     let a = subst (λ (q : List TableName × List ℕ × Hand × Parts). (u : MayTake q.0 (length q.1) q.2 q.3) → Stops (next_of q.0 (length q.1) q.2 q.3 u) u.words (needs_for q.3.options q.0 (length q.1)) [] q.3 x e)
-    (λ i. (ap (λ (x : Ready). x.missing) r.ready i, c.bytes.ensures i, ap (λ (x : Ready). x.hand) r.ready i, c.value.ensures.value i)) (c.in-Err.ensures {u = tt}).err
+    (λ i. (ap (λ (x : Ready). x.missing) r.ready i, c.bytes-bytes.ensures i, ap (λ (x : Ready). x.hand) r.ready i, c.value.ensures.value i)) (c.in-Err.ensures {u = tt}).err
     (taking c.args.who c.args.ready.serial c.args.key c.args.tables h r.stands r.next r.may r.room above) in
     record {
       mid = x;
