@@ -113,14 +113,14 @@ module _ (seat : ℕ) (who : Who) (key : List ℕ) (select : Select) (asked : As
 
   -- an entry answers
   pub decided_hit : (new : Parts) (before after : Ranged) (hit : Hit) → Some hit.serial ≡ option_map (λ entry. entry.serial) (answering_asked old.options asked s old.journal.events key) → new ≡ hit_server who hit.serial seat old
-      → hit.place ≡ length new.journal.events → hit.bytes ≡ after.bytes → IsChainOf hit.serial new after → hit.bytes ≤ 8 * words_of after.blocks
+      → hit.place ≡ length new.journal.events → hit.bytes ≡ after.bytes → IsChainOf hit.serial new after → hit.bytes ≤ 8 * words_of after.blocks → after.room ≡ before.room
       → listed_for seat (tasks_of new) ≡ own seat (task.Stream hit.serial) after.blocks → Decided seat who key select asked s old new before after [] (selected.Hit hit)
-  decided_hit new before after hit found server place bytes chain within listed = record {
+  decided_hit new before after hit found server place bytes chain within kept listed = record {
     chosen = sym found;
     plan = tt;
     room = old;
     more = more_refl old;
-    does = (refl, server, place, bytes, chain, within);
+    does = (refl, server, place, bytes, chain, within, kept);
     listed = listed;
   }
 
@@ -146,7 +146,7 @@ module _ {K : Ghosts Parts Event} where
     seat = t.seat ∙ s.seat;
     turn = t.turn ∙ s.turn;
     holder = t.holder
-    ∙ (λ i. with_found (with_holding (s.holder i) (Holds (taken k) (words m))) (found ++ (s.holder i).found))
-    ∙ ap (λ b. with_found (with_holding (holder h) (Holds b (words m))) (found ++ (holder h).found)) (taken_is h k s);
+        ∙ (λ i. with_found (with_holding (s.holder i) (Holds (taken k) (words m))) (found ++ (s.holder i).found))
+        ∙ ap (λ b. with_found (with_holding (holder h) (Holds b (words m))) (found ++ (holder h).found)) (taken_is h k s);
     ranges = refl;
   }

@@ -139,15 +139,15 @@ module _ (who : Who) (key : List ℕ) (select : Select) (asked : Asked) (s : Sta
 
   -- an entry answers
   hit_at : (h m : H) (hit : Hit) → SameHolder h m → Some hit.serial ≡ option_map (λ entry. entry.serial) (answering_asked h.value.options asked s h.value.journal.events key)
-      → m.value ≡ hit_server who hit.serial (holder h).number h.value → (hit.place ≡ length m.value.journal.events) × (hit.bytes ≡ m.ranges.bytes) → IsChainOf hit.serial m.value m.ranges → hit.bytes ≤ 8 * words_of m.ranges.blocks
+      → m.value ≡ hit_server who hit.serial (holder h).number h.value → (hit.place ≡ length m.value.journal.events) × (hit.bytes ≡ m.ranges.bytes) → IsChainOf hit.serial m.value m.ranges → hit.bytes ≤ 8 * words_of m.ranges.blocks → m.ranges.room ≡ h.ranges.room
       → listed_for (holder h).number (tasks_of m.value) ≡ own (holder h).number (task.Stream hit.serial) m.ranges.blocks → IsDecided h m (selected.Hit hit)
-  hit_at h m hit same found server place chain within listed = ([], finds_none h m same, decided_hit (holder h).number who key select asked s h.value m.value h.ranges m.ranges hit found server place.0 place.1 chain within listed)
+  hit_at h m hit same found server place chain within kept listed = ([], finds_none h m same, decided_hit (holder h).number who key select asked s h.value m.value h.ranges m.ranges hit found server place.0 place.1 chain within kept listed)
 
   pub hit_decided : (h k m : H) (o : Option Hit) (hit : Hit) → o ≡ Some hit → IsBehind h k → SameHolder k m → option_map (λ hit. hit.serial) o ≡ option_map (λ entry. entry.serial) (answering_asked k.value.options asked s k.value.journal.events key)
       → IfSome o (λ hit. m.value ≡ hit_server who hit.serial (holder k).number k.value) → IfSome o (λ hit. (hit.place ≡ length m.value.journal.events) × (hit.bytes ≡ m.ranges.bytes)) → IfSome o (λ hit. IsChainOf hit.serial m.value m.ranges)
-      → IfSome o (λ hit. hit.bytes ≤ 8 * words_of m.ranges.blocks) → IfSome o (λ hit. listed_for (holder k).number (tasks_of m.value) ≡ own (holder k).number (task.Stream hit.serial) m.ranges.blocks) → IsDecided h m (selected.Hit hit)
-  hit_decided h k m None hit is b same found server place chain within listed = absurd (none-some hit is)
-  hit_decided h k m (Some x) hit is b same found server place chain within listed = subst (λ y. IsDecided h m (selected.Hit y)) (same_Some x hit is) (one_behind h k m (selected.Hit x) b (hit_at k m x same found server place chain within listed))
+      → IfSome o (λ hit. hit.bytes ≤ 8 * words_of m.ranges.blocks) → IfSome o (λ hit. m.ranges.room ≡ k.ranges.room) → IfSome o (λ hit. listed_for (holder k).number (tasks_of m.value) ≡ own (holder k).number (task.Stream hit.serial) m.ranges.blocks) → IsDecided h m (selected.Hit hit)
+  hit_decided h k m None hit is b same found server place chain within kept listed = absurd (none-some hit is)
+  hit_decided h k m (Some x) hit is b same found server place chain within kept listed = subst (λ y. IsDecided h m (selected.Hit y)) (same_Some x hit is) (one_behind h k m (selected.Hit x) b (hit_at k m x same found server place chain within kept listed))
 
   -- it is refused
   pub refused_decided : (h k m : H) (e : SqlError) (x : Selected) → IsNext h who → IsUnanswered (holder h).number who key select asked s h.value → ◌≡◌ {A = Result PlanView SqlError} (Err e) (planned (given s h.value.journal.events select)) → SameHolder h k → k.value ≡ h.value → SameHolder k m
@@ -179,7 +179,7 @@ module _ (who : Who) (key : List ℕ) (select : Select) (asked : Asked) (s : Sta
     b.0,
     finds_behind h k m b.0 same b.1,
     decided_begins (holder h).number who key select asked s h.value m.value h.ranges m.ranges b.0 plan x none is out
-    (subst (λ (p : ℕ × Parts × Ranged × List TableName). Begins p.0 who key p.3 plan p.1 m.value p.2 m.ranges b.0 x) (λ i. (number_is h k same i, value i, ranges i, named i)) b.2),
+        (subst (λ (p : ℕ × Parts × Ranged × List TableName). Begins p.0 who key p.3 plan p.1 m.value p.2 m.ranges b.0 x) (λ i. (number_is h k same i, value i, ranges i, named i)) b.2),
   )
 
 pub err_plain : {A E : Type 0} (r : Result A E) (h k m : H) → SameHolder h k → k.value ≡ h.value → SameHolder k m → OnErr r (m.value ≡ k.value) → m.ranges ≡ h.ranges → OnErr r (SameHolder h m × HasMoreRoom h.value m.value × (m.ranges ≡ h.ranges))

@@ -109,7 +109,7 @@ HasPlan r (selected.Plain why place plan) = plan ≡ planned r
 -- The event was pushed, with what belongs to it: a hit streams the entry; a start first strikes off the streams that others have ended, as their words were read, and then begins the entry, or falls short; any other plain run changes nothing.
 abbrev pub Does : ℕ → Who → List ℕ → List TableName → Parts → Parts → Ranged → Ranged → List FoundWord → Selected → Type 0
 Does seat who key tables old new before after found (selected.Hit hit) =
-    (found ≡ []) × (new ≡ hit_server who hit.serial seat old) × (hit.place ≡ length new.journal.events) × (hit.bytes ≡ after.bytes) × IsChainOf hit.serial new after × (hit.bytes ≤ 8 * words_of after.blocks)
+    (found ≡ []) × (new ≡ hit_server who hit.serial seat old) × (hit.place ≡ length new.journal.events) × (hit.bytes ≡ after.bytes) × IsChainOf hit.serial new after × (hit.bytes ≤ 8 * words_of after.blocks) × (after.room ≡ before.room)
 Does seat who key tables old new before after found (selected.Start serial place plan) =
     ReadsStreams seat old found × IsBegun seat who key tables (swept found old) new before after (begun.Started (record { serial = serial; place = place }))
 Does seat who key tables old new before after found (selected.Plain (reason.NoRoom need largest) place plan) =

@@ -88,6 +88,7 @@ fn look_where_asked(
     ensures ranges { IfSome result (λ hit. IsChainOf hit.serial held.new.value held.new.ranges) }
     ensures within { IfSome result (λ hit. hit.bytes ≤ 8 * words_of held.new.ranges.blocks) }
     ensures listed { IfSome result (λ hit. listed_for (holder held.old).number (tasks_of held.new.value) ≡ own (holder held.old).number (task.Stream hit.serial) held.new.ranges.blocks) }
+    ensures same_room { IfSome result (λ hit. held.new.ranges.room ≡ held.old.ranges.room) }
 {
     if held.value().options().size == 0 || !is_asked(asked) {
         return None;
@@ -166,7 +167,15 @@ fn offer(
         × Decided (holder held.old).number who key select.now asked state.now.state held.old.value held.new.value held.old.ranges held.new.ranges found x) }
 {
     let tables = tables(alloc, select, state.db())?;
-    let reason = outside_reason(held, alloc, key.bytes(), select, tables.items(), asked, state)?;
+    let reason = outside_reason(
+        held,
+        alloc,
+        key.bytes(),
+        select,
+        tables.items(),
+        asked,
+        state,
+    )?;
     match reason {
         Some(reason) => run_plain(held, alloc, who, reason, plan),
         None => begin(held, alloc, who, key, tables, plan),

@@ -30,7 +30,7 @@ returns-in-Some-clause-decided c =
     let b = behind_reserve h k c.args.who c.requires.next c.reserve.ensures.stands.1 c.reserve.ensures.same c.reserve.ensures.ranges in
     let looked = c.look_where_asked.ensures in
     hit_decided c.args.who c.args.key c.args.select.now c.args.asked s h k c.look_where_asked.new.held c.look_where_asked.result c.in-Some.hit c.in-Some.is b looked.stands.1
-    (looked.found ∙ ap (λ (key : List ℕ). option_map (λ (entry : Entry). entry.serial) (answering_asked k.value.options c.args.asked s k.value.journal.events key)) c.bytes.ensures) looked.server looked.hit looked.ranges looked.within looked.listed
+    (looked.found ∙ ap (λ (key : List ℕ). option_map (λ (entry : Entry). entry.serial) (answering_asked k.value.options c.args.asked s k.value.journal.events key)) c.bytes.ensures) looked.server looked.hit looked.ranges looked.within looked.same_room looked.listed
 
 pub returns-in-Some-clause-decides : goal.returns-in-Some-clause-decides
 returns-in-Some-clause-decides c text t =
