@@ -81,6 +81,7 @@ pub(crate) fn stream_entry(held: &mut Held<'_, Server>, who: Who, serial: u64) -
     ensures ranges { IsChainOf serial held.new.value held.new.ranges }
     ensures within { result.bytes ≤ 8 * words_of held.new.ranges.blocks }
     ensures listed { listed_for (holder held.old).number (tasks_of held.new.value) ≡ own (holder held.old).number (task.Stream serial) held.new.ranges.blocks }
+    ensures same_room { held.new.ranges.room ≡ held.old.ranges.room }
 {
     let seat = held.number();
     let alloc = held.value().alloc();

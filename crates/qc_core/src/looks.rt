@@ -73,6 +73,7 @@ pub fn look(held: &mut Held<'_, Server>, who: Who, key: &[u8], state: &SessionSt
     ensures ranges { IfSome result (λ hit. IsChainOf hit.serial held.new.value held.new.ranges) }
     ensures within { IfSome result (λ hit. hit.bytes ≤ 8 * words_of held.new.ranges.blocks) }
     ensures listed { IfSome result (λ hit. listed_for (holder held.old).number (tasks_of held.new.value) ≡ own (holder held.old).number (task.Stream hit.serial) held.new.ranges.blocks) }
+    ensures same_room { IfSome result (λ hit. held.new.ranges.room ≡ held.old.ranges.room) }
 {
     let Some(serial) = find_entry(held, key) else {
         return None;

@@ -136,3 +136,15 @@ returns-clause-listed c =
     let is : c.push-place.new.self ≡ with_event ev (used_by (holder h).number n u.entry u.held s) = c.push-place.ensures.pushed ∙ ap (with_event ev) (c.value-3.ensures.value ∙ used) in
     let r = hand_pulled s c.value-2.result.now h.ranges c.replace-ranges.result c.use_entry.new.ranges n same hand c.use_entry.ensures.ranges u in
     ap (λ (x : Parts). listed_for (holder h).number (tasks_of x)) is ∙ (hit_listed s c.args.who n (holder h).number h.ranges.room u c.requires.next.free ∙ ap (λ (z : Ranged). own (holder h).number (task.Stream n) z.blocks) (sym r))
+
+pub returns-clause-same_room : goal.returns-clause-same_room
+returns-clause-same_room c =
+    let h = c.args.held.now in
+    let s = h.value in
+    let n = c.args.serial in
+    let sound = c.requires.stands.sound in
+    let seat_is = connected_seat (at_rest hash) sound.0 (words h) s (holder h).number sound.1 c.requires.next.connected in
+    let u = may_use (at_rest hash) sound.0 (words h) s n h.ranges.room sound.1 c.requires.complete c.requires.ranges (task_room (at_rest hash) sound.0 (words h) s (holder h).number sound.1 seat_is c.requires.next.free) in
+    let same : c.value-2.result.now ≡ s = c.value-2.ensures.value ∙ c.value.ensures.value in
+    let hand : c.replace-ranges.result ≡ h.ranges = c.replace-ranges.ensures.value ∙ c.ranges-2.ensures.value in
+    ap (λ (z : Ranged). z.room) (hand_pulled s c.value-2.result.now h.ranges c.replace-ranges.result c.use_entry.new.ranges n same hand c.use_entry.ensures.ranges u)

@@ -1,0 +1,81 @@
+-- A rival is filled by another session.
+use Rattle.std.proofs.Common.{◌≡◌, ◌≢◌, ℕ, zero, suc, ◌+◌, ◌-◌, ◌<◌, Bool, true, false, cond, List, [], ◌∷◌, map, refl, sym, ap, subst, ◌∙◌, true≢false, eqb, eqb-true, eq-eqb, arith}
+use Rattle.std.specs.Prelude.{Option, Some, None, not, ◌&&◌, ◌||◌, ◌==◌, find, count_by, IsSomeAnd}
+use Rattle.std.specs.List.{list_any, AllByRecursion}
+use Rattle.std.proofs.lemmas.Option.{none-some, same_Some}
+use Rattle.std.proofs.lemmas.Bool.{and_parts}
+use Rattle.qc_key.specs.Hash.{hash}
+use Rattle.qc_model.specs.declared.events.Who.{Who}
+use Rattle.qc_model.specs.declared.events.Event.TheVariants as event
+use Rattle.qc_model.specs.Journal.{Journal, event_count, last_event}
+use Rattle.qc_model.specs.Cache.{cache, entry_of}
+use Rattle.qc_model.specs.Cache.{Entry as Cached}
+use Rattle.qc_model.specs.Choice.{has_key, rival}
+use Rattle.qc_model.specs.Licence.{IsRivalOf, starts_serial}
+use Rattle.qc_laws.specs.history.Fillings.{IsFilled}
+use Rattle.qc_laws.specs.history.Runs.{are_distinct, serials}
+use Rattle.qc_laws.proofs.history.Events.{found_all}
+use Rattle.qc_laws.proofs.history.Fillings.{fills_are_last}
+use Rattle.qc_laws.proofs.history.Serials.{neither, opposite, serials_apart}
+use Rattle.qc_turn.specs.Tasks.{listed_for}
+use Rattle.qc_sound.specs.Moment.{at_rest}
+use Rattle.qc_core.specs.declared.parts.Parts.{Parts}
+use Rattle.qc_core.specs.Whole.{Sound, tasks_of}
+use Rattle.qc_core.proofs.Noting.{alone}
+
+-- ---- an entry that is found stands under its serial
+
+any_serial : (n : ℕ) (ys : List Cached) (y : Cached) → entry_of n ys ≡ Some y → list_any (λ m. m == n) (serials ys) ≡ true
+any_serial n [] y f = absurd (none-some y f)
+any_serial n (x ∷ ys) y f = elim (eqb x.serial n) as (λ b. cond b (Some x) (entry_of n ys) ≡ Some y → (b || list_any (λ m. m == n) (serials ys)) ≡ true) [
+  | true ↦ λ g. refl
+  | false ↦ λ g. any_serial n ys y g
+] f
+
+pub own_serial : (p : Cached → Bool) (ys : List Cached) (y : Cached) → are_distinct (serials ys) ≡ true → find p ys ≡ Some y → (entry_of y.serial ys ≡ Some y) × (p y ≡ true)
+own_serial p [] y d f = absurd (none-some y f)
+own_serial p (x ∷ ys) y d f =
+    let parts = and_parts (not (list_any (λ m. m == x.serial) (serials ys))) (are_distinct (serials ys)) d in
+    elim (p x) as (λ b. p x ≡ b → cond b (Some x) (find p ys) ≡ Some y → (entry_of y.serial (x ∷ ys) ≡ Some y) × (p y ≡ true)) [
+      | true ↦ λ e g. let is : x ≡ y = same_Some x y g in subst (λ z. (entry_of z.serial (x ∷ ys) ≡ Some z) × (p z ≡ true)) is (ap (λ b. cond b (Some x) (entry_of x.serial ys)) (eq-eqb x.serial x.serial refl), e)
+      | false ↦ λ e g.
+          let t = own_serial p ys y parts.1 g in (
+            elim (eqb x.serial y.serial) as (λ b. eqb x.serial y.serial ≡ b → cond b (Some x) (entry_of y.serial ys) ≡ Some y) [
+              | true ↦ λ q. absurd (true≢false (sym (any_serial y.serial ys y t.0) ∙ subst (λ n. list_any (λ m. m == n) (serials ys) ≡ false) (eqb-true x.serial y.serial q) (opposite _ parts.0)))
+              | false ↦ λ q. t.0
+            ] refl,
+            t.1,
+          )
+    ] refl f
+
+-- ---- its session is another one
+
+none_each : {A : Type 0} (p : A → Bool) (xs : List A) → list_any p xs ≡ false → AllByRecursion (λ x. p x ≡ false) xs
+none_each p [] h = tt
+none_each p (x ∷ xs) h = let parts = neither (p x) (list_any p xs) h in (parts.0, none_each p xs parts.1)
+
+both : (a b : Bool) → a ≡ false → b ≡ true → (not a && b) ≡ true
+both false true h k = refl
+both false false h k = absurd (true≢false (sym k))
+both true b h k = absurd (true≢false h)
+
+pub is_rival : (words : List ℕ) (s : Parts) (who : Who) (seat : ℕ) (key : List ℕ) (y : Cached) → Sound words s → 0 < seat → who.session ≡ seat - 1 → who.number ≡ event_count s.journal.events who.session + 1
+    → listed_for seat (tasks_of s) ≡ [] → rival s.journal.events key ≡ Some y → IsRivalOf s.journal.events who y.serial
+is_rival words s who seat key y sound ps is number free found =
+    let w = sound.1 in
+    let J = s.journal.events in
+    let own = own_serial (λ e. not e.complete && has_key key e) (cache J) y (serials_apart s.options J w.sound.journal.lawful) found in
+    let parts = and_parts (not y.complete) (has_key key y) own.1 in
+    let incomplete : y.complete ≡ false = opposite y.complete parts.0 in
+    let a = alone words sound.0 (at_rest hash) s who (event.Reset who) seat w ps refl is number free in
+    let test : Cached → Bool = λ e. not e.complete && has_key key e in
+    let filled = (found_all (IsFilled J) test (cache J) y (fills_are_last s.options J w.sound.journal.lawful) found).0 incomplete in
+    let else : (not y.complete && starts_serial y.serial (last_event J who.session)) ≡ false = (found_all _ test (cache J) y (none_each (λ e. not e.complete && starts_serial e.serial (last_event J who.session)) (cache J) a.decides.not_filling) found).0 in
+    record {
+      filling = subst (λ o. IsSomeAnd o (λ (e : Cached). e.complete ≡ false)) (sym own.0) incomplete;
+      other = (
+        filled.0,
+        λ same. true≢false (sym (both y.complete _ incomplete (subst (λ k. starts_serial y.serial (last_event J k) ≡ true) same filled.1)) ∙ else),
+        filled.1,
+      );
+    }

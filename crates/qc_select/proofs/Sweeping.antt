@@ -1,0 +1,53 @@
+-- What stays when streams are struck off.
+use Rattle.std.proofs.Common.{◌≡◌, ℕ, Bool, true, false, cond, List, [], ◌∷◌, ◌++◌, refl, sym, ap, ◌∙◌}
+use Rattle.std.specs.Prelude.{Option, Some, None, is_some, if◌then◌else◌}
+use Rattle.std.specs.List.{list_any, find}
+use Rattle.qc_model.specs.declared.events.Event.{Event}
+use Rattle.qc_turn.specs.declared.kept.Kept.{Ghosts}
+use Rattle.qc_turn.specs.declared.view.FoundWord.{FoundWord}
+use Rattle.qc_turn.specs.Seats.{Held, SameHolder, with_ranges}
+use Rattle.qc_dir.specs.Directory.{entry_at}
+use Rattle.qc_sound.specs.PlainServer.{serial_of}
+use Rattle.qc_core.specs.declared.parts.RunningTask.{RunningTask}
+use Rattle.qc_core.specs.declared.parts.Parts.{Parts}
+use Rattle.qc_core.specs.Strikes.{after_end, is_of, is_on, let_go, rested, rested_by, rested_from, with_user_less, without_task_of}
+use Rattle.qc_core.specs.Sweeps.{Finds, swept}
+
+-- the same journal and the same options
+pub record Keeps (old new : Parts) : Type 0 where
+  pub journal : new.journal ≡ old.journal
+  pub options : new.options ≡ old.options
+
+let_go_keeps : (on there : Bool) (number : ℕ) (s : Parts) → Keeps s (let_go on there number s)
+let_go_keeps true there number s = record { journal = refl; options = refl }
+let_go_keeps false true number s = record { journal = refl; options = refl }
+let_go_keeps false false number s = record { journal = refl; options = refl }
+
+from_keeps : (seat number : ℕ) (o : Option ℕ) (s : Parts) → Keeps s (rested_from seat number o s)
+from_keeps seat number None s = record { journal = refl; options = refl }
+from_keeps seat number (Some n) s =
+    let t = without_task_of seat s in
+    let k = let_go_keeps (list_any (is_on n) t.tasks.items) (is_some (entry_at n t.dir.entries)) number (with_user_less n t) in
+    record { journal = k.journal; options = k.options }
+
+rested_keeps : (seat : ℕ) (s : Parts) → Keeps s (rested seat s)
+rested_keeps seat s = by (find (is_of seat) s.tasks.items)
+  where
+    by : (o : Option RunningTask) → Keeps s (rested_by seat o s)
+    by None = record { journal = refl; options = refl }
+    by (Some w) = from_keeps seat w.chain.number (serial_of w.task) s
+
+pub swept_keeps : (found : List FoundWord) (s : Parts) → Keeps s (swept found s)
+swept_keeps [] s = record { journal = refl; options = refl }
+swept_keeps (f ∷ fs) s =
+    let rest = swept_keeps fs s in
+    let one = rested_keeps f.seat (swept fs s) in
+    elim f.set as (λ b. Keeps s (if b then swept fs s else rested f.seat (swept fs s))) [
+      | true ↦ rest
+      | false ↦ record { journal = one.journal ∙ rest.journal; options = one.options ∙ rest.options }
+    ]
+
+module _ {K : Ghosts Parts Event} where
+  -- nothing was read
+  pub finds_none : (h k : Held Parts Event K) → SameHolder h k → Finds h (with_ranges k h.ranges) []
+  finds_none h k same = record { seat = same.seat; turn = same.turn; holder = same.holder; ranges = refl }

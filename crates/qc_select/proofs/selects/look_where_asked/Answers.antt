@@ -1,0 +1,1 @@
+use Rattle.qc_select.proofs.selects.look_where_asked.Goals as goal

@@ -1,0 +1,1 @@
+use Rattle.qc_select.proofs.selects.run_plain.Goals as goal
