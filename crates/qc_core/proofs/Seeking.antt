@@ -175,7 +175,7 @@ sought_found words s key n y h of same =
     all_unit (y ∷ ys) = (tt, all_unit ys)
 
 -- an entry that is found stands under its serial
-own_serial : (p : Cached → Bool) (ys : List Cached) (y : Cached) → are_distinct (serials ys) ≡ true → find p ys ≡ Some y → (entry_of y.serial ys ≡ Some y) × (p y ≡ true)
+pub own_serial : (p : Cached → Bool) (ys : List Cached) (y : Cached) → are_distinct (serials ys) ≡ true → find p ys ≡ Some y → (entry_of y.serial ys ≡ Some y) × (p y ≡ true)
 own_serial p [] y d f = absurd (none-some y f)
 own_serial p (x ∷ ys) y d f =
     let parts = both_true (not (list_any (λ m. m == x.serial) (serials ys))) (are_distinct (serials ys)) d in

@@ -73,6 +73,11 @@ outside_early old v s asked select ts key o why same is some =
     subst (λ (p : Parts). Some why ≡ outside_by p.options s asked select p.journal.events ts key) same
     (early (rule_by v.options s asked select) (unseen_reason s v.journal.events ts) (option_map (λ (e : Entry). reason.Rival e.serial) (rival v.journal.events key)) why (sym is ∙ some))
 
+-- the reason that was found, for the tables of the select and the bytes of the key
+pub outside_of : (h : H) (s : State) (asked : Asked) (select : Select) (ts : List TableName) (key k : List ℕ) (o why : Option Reason) → ts ≡ select_tables s.db select → k ≡ key → o ≡ outside_by h.value.options s asked select h.value.journal.events ts k → o ≡ why
+    → outside_by h.value.options s asked select h.value.journal.events (select_tables s.db select) key ≡ why
+outside_of h s asked select ts key k o why named same is found = sym (is ∙ λ i. outside_by h.value.options s asked select h.value.journal.events (named i) (same i)) ∙ found
+
 -- ---- a holding behind another
 
 pub record IsBehind (h k : H) : Type 0 where
@@ -91,8 +96,11 @@ behind_look (Some x) h k l is b same none = absurd (none-some x (sym is))
 pub behind_reserve : (h k : H) (who : Who) → IsNext h who → SameHolder h k → HasMoreRoom (rested (holder h).number h.value) k.value → k.ranges ≡ h.ranges → IsBehind h k
 behind_reserve h k who next same more ranges = record { same = same; more = more_rested (holder h).number h.value k.value next.free more; ranges = ranges }
 
-pub more_same : (a b : Parts) → b ≡ a → HasMoreRoom a b
+more_same : (a b : Parts) → b ≡ a → HasMoreRoom a b
 more_same a b e = subst (HasMoreRoom a) (sym e) (more_refl a)
+
+pub behind_same : (h k : H) → SameHolder h k → k.value ≡ h.value → k.ranges ≡ h.ranges → IsBehind h k
+behind_same h k same value ranges = record { same = same; more = more_same h.value k.value value; ranges = ranges }
 
 -- the same may be said of an error
 pub at_error : {A E P : Type 0} (r : Result A E) → P → OnErr r P

@@ -42,7 +42,7 @@ use Rattle.qc_core.specs.Calls.{HasMoreRoom}
 use Rattle.qc_core.specs.Hits.{hit_entry, hit_server}
 use Rattle.qc_core.specs.Starts.{IsBegun, LacksRoomFor, Starts}
 use Rattle.qc_core.specs.Sweeps.{swept}
-use Rattle.qc_core.proofs.Seeking.{pair_of}
+use Rattle.qc_core.proofs.Seeking.{own_serial, pair_of}
 use Rattle.qc_select.specs.declared.selected.Selected.{Selected}
 use Rattle.qc_select.specs.declared.selected.Selected.TheVariants as selected
 use Rattle.qc_select.specs.Settled.{state_at}
@@ -52,7 +52,6 @@ use Rattle.qc_select.proofs.Choosing.{asked_entry, else_allowed, hit_allowed, pl
 use Rattle.qc_select.proofs.Needing.{is_own_prune, own_are_prunes, own_needs}
 use Rattle.qc_select.proofs.Permitting.{asked_as, reason_as}
 use Rattle.qc_select.proofs.NoReasons.{rows_alike}
-use Rattle.qc_select.proofs.Rivals.{own_serial}
 use Rattle.qc_select.proofs.Seeing.{reached}
 use Rattle.qc_select.proofs.Settling.{settles}
 use Rattle.qc_select.proofs.Sweeping.{swept_keeps}

@@ -22,33 +22,7 @@ use Rattle.qc_sound.specs.Moment.{at_rest}
 use Rattle.qc_core.specs.declared.parts.Parts.{Parts}
 use Rattle.qc_core.specs.Whole.{Sound, tasks_of}
 use Rattle.qc_core.proofs.Noting.{alone}
-
--- ---- an entry that is found stands under its serial
-
-any_serial : (n : ℕ) (ys : List Cached) (y : Cached) → entry_of n ys ≡ Some y → list_any (λ m. m == n) (serials ys) ≡ true
-any_serial n [] y f = absurd (none-some y f)
-any_serial n (x ∷ ys) y f = elim (eqb x.serial n) as (λ b. cond b (Some x) (entry_of n ys) ≡ Some y → (b || list_any (λ m. m == n) (serials ys)) ≡ true) [
-  | true ↦ λ g. refl
-  | false ↦ λ g. any_serial n ys y g
-] f
-
-pub own_serial : (p : Cached → Bool) (ys : List Cached) (y : Cached) → are_distinct (serials ys) ≡ true → find p ys ≡ Some y → (entry_of y.serial ys ≡ Some y) × (p y ≡ true)
-own_serial p [] y d f = absurd (none-some y f)
-own_serial p (x ∷ ys) y d f =
-    let parts = and_parts (not (list_any (λ m. m == x.serial) (serials ys))) (are_distinct (serials ys)) d in
-    elim (p x) as (λ b. p x ≡ b → cond b (Some x) (find p ys) ≡ Some y → (entry_of y.serial (x ∷ ys) ≡ Some y) × (p y ≡ true)) [
-      | true ↦ λ e g. let is : x ≡ y = same_Some x y g in subst (λ z. (entry_of z.serial (x ∷ ys) ≡ Some z) × (p z ≡ true)) is (ap (λ b. cond b (Some x) (entry_of x.serial ys)) (eq-eqb x.serial x.serial refl), e)
-      | false ↦ λ e g.
-          let t = own_serial p ys y parts.1 g in (
-            elim (eqb x.serial y.serial) as (λ b. eqb x.serial y.serial ≡ b → cond b (Some x) (entry_of y.serial ys) ≡ Some y) [
-              | true ↦ λ q. absurd (true≢false (sym (any_serial y.serial ys y t.0) ∙ subst (λ n. list_any (λ m. m == n) (serials ys) ≡ false) (eqb-true x.serial y.serial q) (opposite _ parts.0)))
-              | false ↦ λ q. t.0
-            ] refl,
-            t.1,
-          )
-    ] refl f
-
--- ---- its session is another one
+use Rattle.qc_core.proofs.Seeking.{own_serial}
 
 none_each : {A : Type 0} (p : A → Bool) (xs : List A) → list_any p xs ≡ false → AllByRecursion (λ x. p x ≡ false) xs
 none_each p [] h = tt

@@ -1,14 +1,13 @@
-use Rattle.std.proofs.Common.{◌≡◌, ◌∙◌, sym, ap, subst, refl, ℕ, List}
-use Rattle.std.specs.Prelude.{Option, Some, None}
+use Rattle.std.proofs.Common.{◌∙◌, sym, ap, subst, List}
+use Rattle.std.specs.Prelude.{Some, None}
 use Rattle.qc_types.specs.declared.names.TableName.{TableName}
 use Rattle.qc_sql.specs.Rules.{select_tables}
 use Rattle.qc_turn.specs.Seats.{words}
 use Rattle.qc_core.specs.declared.parts.Parts.{Parts}
 use Rattle.qc_core.specs.Plains.{MayRunPlain}
 use Rattle.qc_core.specs.Starts.{MayBegin}
-use Rattle.qc_select.specs.Selects.{outside_by}
 use Rattle.qc_select.proofs.Answering.{outside_first}
-use Rattle.qc_select.proofs.Composing.{begins_decided, err_behind, err_plain, go_on, more_same, next_behind, plain_decided}
+use Rattle.qc_select.proofs.Composing.{begins_decided, behind_same, err_behind, err_plain, go_on, next_behind, outside_of, plain_decided}
 use Rattle.qc_select.proofs.Permitting.{may_begin, outside_may}
 use Rattle.qc_select.proofs.selects.offer.Goals as goal
 
@@ -17,7 +16,7 @@ run_plain-requires-clause-next c =
     let h = c.args.held.now in
     let k = c.outside_reason.new.held in
     let same = c.outside_reason.ensures.same in
-    next_behind h k c.args.who (record { same = c.outside_reason.ensures.stands.1; more = more_same h.value k.value same.0; ranges = same.1 }) c.requires.next
+    next_behind h k c.args.who (behind_same h k c.outside_reason.ensures.stands.1 same.0 same.1) c.requires.next
 
 pub run_plain-requires-clause-may : goal.run_plain-requires-clause-may
 run_plain-requires-clause-may c =
@@ -25,9 +24,9 @@ run_plain-requires-clause-may c =
     let s = c.args.state.now.state in
     let select = c.args.select.now in
     let same = c.outside_reason.ensures.same in
-    let named : c.items.result.now ≡ select_tables s.db select = c.items.ensures ∙ c.in_ok-tables.ensures ∙ ap (λ d. select_tables d select) c.db.ensures in
-    let out : outside_by h.value.options s c.args.asked select h.value.journal.events (select_tables s.db select) c.args.key ≡ Some c.in-Some.reason =
-    (λ i. outside_by h.value.options s c.args.asked select h.value.journal.events (sym named i) (sym c.bytes.ensures i)) ∙ sym c.in_ok-reason.ensures.reason ∙ c.in-Some.is in
+    let tables = c.in_ok-tables.ensures ∙ ap (λ d. select_tables d select) c.db.ensures in
+    let named = c.items.ensures ∙ tables in
+    let out = outside_of h s c.args.asked select c.items.result.now c.args.key c.bytes.result.now c.in_ok-reason.reason (Some c.in-Some.reason) named c.bytes.ensures c.in_ok-reason.ensures.reason c.in-Some.is in
     subst (λ (p : Parts). MayRunPlain p c.args.who c.in-Some.reason) (sym same.0) (outside_may h.value c.args.who (go_on h c.args.who c.requires.stands c.requires.next) s c.args.asked select (select_tables s.db select) c.args.key c.in-Some.reason out)
 
 pub returns-in-Some-clause-decided : goal.returns-in-Some-clause-decided
@@ -38,9 +37,9 @@ returns-in-Some-clause-decided c =
     let s = c.args.state.now.state in
     let select = c.args.select.now in
     let same = c.outside_reason.ensures.same in
-    let named : c.items.result.now ≡ select_tables s.db select = c.items.ensures ∙ c.in_ok-tables.ensures ∙ ap (λ d. select_tables d select) c.db.ensures in
-    let out : outside_by h.value.options s c.args.asked select h.value.journal.events (select_tables s.db select) c.args.key ≡ Some c.in-Some.reason =
-    (λ i. outside_by h.value.options s c.args.asked select h.value.journal.events (sym named i) (sym c.bytes.ensures i)) ∙ sym c.in_ok-reason.ensures.reason ∙ c.in-Some.is in
+    let tables = c.in_ok-tables.ensures ∙ ap (λ d. select_tables d select) c.db.ensures in
+    let named = c.items.ensures ∙ tables in
+    let out = outside_of h s c.args.asked select c.items.result.now c.args.key c.bytes.result.now c.in_ok-reason.reason (Some c.in-Some.reason) named c.bytes.ensures c.in_ok-reason.ensures.reason c.in-Some.is in
     let may = outside_may h.value c.args.who (go_on h c.args.who c.requires.stands c.requires.next) s c.args.asked select (select_tables s.db select) c.args.key c.in-Some.reason out in
     plain_decided c.args.who c.args.key select c.args.asked s c.run_plain.result h k m c.in-Some.reason c.args.plan c.requires.next c.requires.none c.requires.plan out may c.outside_reason.ensures.stands.1 same.0 c.run_plain.ensures.stands.1 c.run_plain.ensures.selected c.run_plain.ensures.pushed (c.run_plain.ensures.ranges ∙ same.1)
 
@@ -54,7 +53,7 @@ begin-requires-clause-next c =
     let h = c.args.held.now in
     let k = c.outside_reason.new.held in
     let same = c.outside_reason.ensures.same in
-    next_behind h k c.args.who (record { same = c.outside_reason.ensures.stands.1; more = more_same h.value k.value same.0; ranges = same.1 }) c.requires.next
+    next_behind h k c.args.who (behind_same h k c.outside_reason.ensures.stands.1 same.0 same.1) c.requires.next
 
 pub begin-requires-clause-may : goal.begin-requires-clause-may
 begin-requires-clause-may c =
@@ -62,12 +61,12 @@ begin-requires-clause-may c =
     let s = c.args.state.now.state in
     let select = c.args.select.now in
     let same = c.outside_reason.ensures.same in
-    let named : c.items.result.now ≡ select_tables s.db select = c.items.ensures ∙ c.in_ok-tables.ensures ∙ ap (λ d. select_tables d select) c.db.ensures in
-    let out : outside_by h.value.options s c.args.asked select h.value.journal.events (select_tables s.db select) c.args.key ≡ None =
-    (λ i. outside_by h.value.options s c.args.asked select h.value.journal.events (sym named i) (sym c.bytes.ensures i)) ∙ sym c.in_ok-reason.ensures.reason ∙ c.in-None.is in
+    let tables = c.in_ok-tables.ensures ∙ ap (λ d. select_tables d select) c.db.ensures in
+    let named = c.items.ensures ∙ tables in
+    let out = outside_of h s c.args.asked select c.items.result.now c.args.key c.bytes.result.now c.in_ok-reason.reason None named c.bytes.ensures c.in_ok-reason.ensures.reason c.in-None.is in
     let first = outside_first 0 c.args.who c.args.key select c.args.asked s h.value c.args.plan c.requires.plan in
     let own = may_begin (words h) h.value c.args.state.now c.args.key select c.args.asked c.requires.text.0 c.requires.stands.sound c.requires.state c.requires.text.1 c.requires.text.2 c.requires.none (first ∙ out) in
-    subst (λ (ts : List TableName). MayBegin c.args.key ts c.outside_reason.new.held.value) (sym (c.in_ok-tables.ensures ∙ ap (λ d. select_tables d select) c.db.ensures)) (subst (λ (p : Parts). MayBegin c.args.key (select_tables s.db select) p) (sym same.0) own)
+    subst (λ (ts : List TableName). MayBegin c.args.key ts c.outside_reason.new.held.value) (sym tables) (subst (λ (p : Parts). MayBegin c.args.key (select_tables s.db select) p) (sym same.0) own)
 
 pub returns-in-None-clause-decided : goal.returns-in-None-clause-decided
 returns-in-None-clause-decided c =
@@ -77,14 +76,14 @@ returns-in-None-clause-decided c =
     let s = c.args.state.now.state in
     let select = c.args.select.now in
     let same = c.outside_reason.ensures.same in
-    let named : c.items.result.now ≡ select_tables s.db select = c.items.ensures ∙ c.in_ok-tables.ensures ∙ ap (λ d. select_tables d select) c.db.ensures in
-    let out : outside_by h.value.options s c.args.asked select h.value.journal.events (select_tables s.db select) c.args.key ≡ None =
-    (λ i. outside_by h.value.options s c.args.asked select h.value.journal.events (sym named i) (sym c.bytes.ensures i)) ∙ sym c.in_ok-reason.ensures.reason ∙ c.in-None.is in
-    begins_decided c.args.who c.args.key select c.args.asked s c.begin.result h k m c.args.plan c.in_ok-tables.tables c.requires.none c.requires.plan out (c.in_ok-tables.ensures ∙ ap (λ d. select_tables d select) c.db.ensures) c.outside_reason.ensures.stands.1 same.0 same.1 c.begin.ensures.begun
+    let tables = c.in_ok-tables.ensures ∙ ap (λ d. select_tables d select) c.db.ensures in
+    let named = c.items.ensures ∙ tables in
+    let out = outside_of h s c.args.asked select c.items.result.now c.args.key c.bytes.result.now c.in_ok-reason.reason None named c.bytes.ensures c.in_ok-reason.ensures.reason c.in-None.is in
+    begins_decided c.args.who c.args.key select c.args.asked s c.begin.result h k m c.args.plan c.in_ok-tables.tables c.requires.none c.requires.plan out tables c.outside_reason.ensures.stands.1 same.0 same.1 c.begin.ensures.begun
 
 pub returns-in-None-clause-memory : goal.returns-in-None-clause-memory
 returns-in-None-clause-memory c =
     let h = c.args.held.now in
     let k = c.outside_reason.new.held in
     let same = c.outside_reason.ensures.same in
-    err_behind c.begin.result h k c.begin.new.held (record { same = c.outside_reason.ensures.stands.1; more = more_same h.value k.value same.0; ranges = same.1 }) c.begin.ensures.memory
+    err_behind c.begin.result h k c.begin.new.held (behind_same h k c.outside_reason.ensures.stands.1 same.0 same.1) c.begin.ensures.memory
