@@ -1,4 +1,4 @@
--- The fill of an entry begins, and goes on from packet to packet.
+-- The fill of an entry begins and goes on from packet to packet, and its entry answers what it stored.
 use Rattle.std.proofs.Common.{◌≡◌, ℕ, ◌*◌, ◌/◌, ◌%◌, ◌≤◌, false, List, [], ◌∷◌, ◌++◌, length, drop, refl, sym, ap, subst, ◌∙◌, arith, append_assoc, append-nil}
 use Rattle.std.specs.Prelude.{Some, option_map, slice_index}
 use Rattle.std.specs.List.{concat}
@@ -12,8 +12,9 @@ use Rattle.qc_turn.specs.Views.{bytes_on, content_of, with_word_set, after_relea
 use Rattle.qc_turn.specs.declared.view.View.{View}
 use Rattle.qc_core.specs.contracts.server.ServerKept.TheImpl.{ghosts}
 use Rattle.qc_core.specs.declared.parts.Parts.{Parts}
-use Rattle.qc_flow.specs.Begins.{FillsBegin, PacketsFollow}
+use Rattle.qc_flow.specs.Begins.{FillsBegin, PacketsFollow, FillsAnswer}
 use Rattle.qc_flow.proofs.Licences.{started_in}
+use Rattle.qc_flow.proofs.Packets.{answer_now}
 
 pub fills_begin : FillsBegin
 fills_begin h f s b =
@@ -55,3 +56,8 @@ packets_follow serial packet old new now goes content =
         refl,
       );
     }
+
+pub fills_answer : FillsAnswer
+fills_answer serial v s e whole sound begins there =
+    let j = s.journal.events in
+    answer_now s.options j serial (started_in j v.seen serial begins whole.start) v.content e sound.1.1.sound.journal.lawful whole.answered there

@@ -205,6 +205,16 @@ first_above limit ps p qs low high =
     let e : 0 + length (concat ps) + length p ≡ length (concat ps) + length p = omega arith in
     prefix_is limit 0 ps p qs (omega (arith, low)) (omega (arith, high)) ∙ e
 
+-- the answer that the key of an entry has now, where it is there
+pub answer_now : (o : Options) (j : Journal) (n : ℕ) (s : IsStarted j n) (all : List ℕ) (x : Entry) → IsLawful o j → answer s.key (present s.earlier) ≡ Some all → entry_of n (cache j) ≡ Some x → answer x.key (present j) ≡ Some all
+answer_now o j n s all x h is found =
+    let t = found_all (IsKept j) (is_entry n) (cache j) x (answers_stay o j h) found in
+    let k = t.0 in
+    let serial = is_serial n x t.1 in
+    let mine : IsStarted j n = record { who = k.start.who; key = k.start.key; tables = k.start.tables; earlier = k.start.earlier; later = k.start.later; split = k.start.split ∙ (λ i. k.start.earlier ++ event.Run k.start.who (how.Start (serial i) k.start.key k.start.tables) ∷ k.start.later) } in
+    let once = starts_once o j n mine s h in
+    k.now ∙ (sym k.at_start ∙ ((λ i. answer ((sym k.key ∙ once.2) i) (present (once.0 i))) ∙ is))
+
 -- a beginning of the answer fits
 pub front_fits : (o : Options) (j : Journal) (n : ℕ) (s : IsStarted j n) (all bytes : List ℕ) → IsLawful o j → answer s.key (present s.earlier) ≡ Some all → StartsWith all bytes → FitsFill j n bytes
 front_fits o j n s all bytes h is begins = record {
@@ -215,11 +225,4 @@ front_fits o j n s all bytes h is begins = record {
   where
     by : (x : Option Entry) → entry_of n (cache j) ≡ x → IfSome x (λ entry. IsSomeAnd (answer entry.key (present j)) (λ all. StartsWith all bytes))
     by None e = tt
-    by (Some x) e =
-        let t = found_all (IsKept j) (is_entry n) (cache j) x (answers_stay o j h) e in
-        let k = t.0 in
-        let serial = is_serial n x t.1 in
-        let mine : IsStarted j n = record { who = k.start.who; key = k.start.key; tables = k.start.tables; earlier = k.start.earlier; later = k.start.later; split = k.start.split ∙ (λ i. k.start.earlier ++ event.Run k.start.who (how.Start (serial i) k.start.key k.start.tables) ∷ k.start.later) } in
-        let once = starts_once o j n mine s h in
-        let now : answer x.key (present j) ≡ Some all = k.now ∙ (sym k.at_start ∙ ((λ i. answer ((sym k.key ∙ once.2) i) (present (once.0 i))) ∙ is)) in
-        subst (λ (y : Option (List ℕ)). IsSomeAnd y (λ a. StartsWith a bytes)) (sym now) begins
+    by (Some x) e = subst (λ (y : Option (List ℕ)). IsSomeAnd y (λ a. StartsWith a bytes)) (sym (answer_now o j n s all x h is e)) begins

@@ -1,13 +1,17 @@
--- How the fill of an entry begins that was just started, and how it goes on from packet to packet.
-use Rattle.std.specs.Prelude.{◌≡◌, ℕ, ◌*◌, ◌≤◌, false, List, [], ◌∷◌, ◌++◌}
+-- How the fill of an entry begins that was just started, how it goes on from packet to packet, and what its entry then answers.
+use Rattle.std.specs.Prelude.{◌≡◌, ℕ, ◌*◌, ◌≤◌, false, List, [], ◌∷◌, ◌++◌, Some}
 use Rattle.qc_model.specs.declared.events.Event.{Event}
+use Rattle.qc_model.specs.Cache.{Entry, cache, entry_of}
+use Rattle.qc_model.specs.Journal.{present}
+use Rattle.qc_model.specs.Session.{answer}
 use Rattle.qc_turn.specs.Seats.{Held, holder, words, view}
 use Rattle.qc_turn.specs.Tasks.{listed_for, own}
 use Rattle.qc_turn.specs.Views.{with_word_set, after_release}
+use Rattle.qc_turn.specs.Words.{StartsWith}
 use Rattle.qc_turn.specs.declared.seat.Seat.{Seat}
 use Rattle.qc_turn.specs.declared.task.Task.TheVariants as task
 use Rattle.qc_turn.specs.declared.view.View.{View}
-use Rattle.qc_core.specs.Whole.{tasks_of}
+use Rattle.qc_core.specs.Whole.{IsSomewhereSound, tasks_of}
 use Rattle.qc_core.specs.contracts.server.ServerKept.TheImpl.{ghosts}
 use Rattle.qc_core.specs.declared.parts.Parts.{Parts}
 use Rattle.qc_flow.specs.Fills.{IsFillOf, IsNextPacket, IsWholeAnswer}
@@ -36,3 +40,7 @@ pub record Follows (serial : ℕ) (packet : List ℕ) (old new : View Parts Even
 
 abbrev pub PacketsFollow : Type 0
 PacketsFollow = (serial : ℕ) (packet : List ℕ) (old new : View Parts Event) (now : IsNextPacket serial packet old) → GoesOn old new → new.content ≡ old.content ++ packet → Follows serial packet old new now
+
+-- what a fill stored whole is what the key of its entry answers, on each sound server with a journal that goes on from there, while the entry is in the cache
+abbrev pub FillsAnswer : Type 0
+FillsAnswer = (serial : ℕ) (v : View Parts Event) (s : Parts) (e : Entry) → IsWholeAnswer serial v → IsSomewhereSound s → StartsWith s.journal.events v.seen → entry_of serial (cache s.journal.events) ≡ Some e → answer e.key (present s.journal.events) ≡ Some v.content

@@ -1,6 +1,6 @@
 //! Laws of hits and fills: functions with no code, of which the contract is the law.
 
-ghost use Rattle.qc_flow.specs.Begins.{FillsBegin, PacketsFollow};
+ghost use Rattle.qc_flow.specs.Begins.{FillsAnswer, FillsBegin, PacketsFollow};
 ghost use Rattle.qc_flow.specs.Hits.{HitsAnswer, StreamsBegin};
 
 /// The words that a hit has in hand spell what its key answers, and its stream is listed for the seat.
@@ -21,4 +21,9 @@ pub fn fills_begin()
 /// Once a packet of the answer is stored, the one behind it comes next, and behind the last one the answer is whole.
 pub fn packets_follow()
     ensures { PacketsFollow }
+{}
+
+/// What a fill stored whole is what its entry answers for as long as it is in the cache.
+pub fn fills_answer()
+    ensures { FillsAnswer }
 {}

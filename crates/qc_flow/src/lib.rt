@@ -9,5 +9,5 @@ mod packs;
 mod streams;
 
 pub use fills::{Ended, Fill, FillStep};
-pub use laws::{fills_begin, hits_answer, packets_follow, streams_begin};
+pub use laws::{fills_answer, fills_begin, hits_answer, packets_follow, streams_begin};
 pub use streams::Stream;
