@@ -9,6 +9,8 @@ pub mod Keys
 pub mod Ranges
 pub mod Levels
 pub mod Members
+pub mod Alone
+pub mod Hopes
 pub mod Folds
 pub mod SortKeys
 pub mod Spans

@@ -19,3 +19,4 @@ pub mod Buffers
 pub mod Plans
 pub mod Truths
 pub mod Ranges
+pub mod Alone

@@ -6,6 +6,7 @@ mod comparison;
 mod filters;
 mod gathered;
 mod gathering;
+mod hope;
 mod item;
 mod joined;
 mod leading;

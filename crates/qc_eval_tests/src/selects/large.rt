@@ -81,6 +81,17 @@ SELECT COUNT(*), SUM(h.id) FROM m a, m b, m c, m d, m e, m f, m g, m h WHERE a.i
     COUNT(*), SUM(h.id): 32, 528
 SELECT h.id FROM m a, m b, m c, m d, m e, m f, m g, m h WHERE a.id = 32 AND b.id = a.id AND c.id = b.id AND d.id = c.id AND e.id = d.id AND f.id = e.id AND g.id = f.id ORDER BY h.id DESC LIMIT 2
     id: 32 | 31
+; a condition that speaks of a later source alone
+SELECT COUNT(*) FROM m a, m b, m c, m d, m e, m f, m g, m h WHERE h.id > 32
+    COUNT(*): 0
+SELECT COUNT(*), MAX(h.id) FROM m a, m b, m c, m d, m e, m f, m g, m h WHERE LENGTH(h.id) = 3
+    COUNT(*), MAX(h.id): 0, NULL
+SELECT a.id FROM m a, m b, m c, m d, m e, m f, m g, m h WHERE h.id < 10 AND LENGTH(h.id) = 2 AND a.id > 0
+    id:
+SELECT a.id FROM m a, m b, m c, m d, m e, m f, m g, m h WHERE (d.id = 33 OR d.id IN (NULL, 0)) AND a.id = h.id ORDER BY a.id
+    id:
+SELECT g.id, h.id FROM m a, m b, m c, m d, m e, m f, m g, m h WHERE LENGTH(h.id) = 2 AND g.id > 31 LIMIT 2
+    id, id: 32, 10 | 32, 11
 "#;
 
 /// At most 64 columns.
