@@ -33,8 +33,8 @@ none_asked false x h = refl
 
 module _ (options : Options) (J q : Journal) (s o : State) (text : List ℕ) (select : Select) (g : Settles J q s o) where
   -- the same entry answers, where it is found among the same entries
-  entry_alike : (found : Option Entry) → ((p : Entry → Bool) → find p (cache (J ++ q)) ≡ find p (cache J)) → asked_entry options o text (J ++ q) ≡ asked_entry options s text J
-  entry_alike found same =
+  entry_alike : ((p : Entry → Bool) → find p (cache (J ++ q)) ≡ find p (cache J)) → asked_entry options o text (J ++ q) ≡ asked_entry options s text J
+  entry_alike same =
       (λ i. if asked_alike J q s o g options text i then find (λ e. e.complete && has_key (key_alike J q s o g text i) e && visible_alike J q s o g e i) (cache (J ++ q)) else None)
       ∙ ap (λ x. if is_asked_for options s text then x else None) (same (λ e. e.complete && has_key (key_of_text s text) e && is_visible s J e))
 
@@ -75,14 +75,14 @@ pub hit_allowed : (options : Options) (J : Journal) (s : State) (text : List ℕ
 hit_allowed options J s text select entry n r is same =
     let g = settles J [] select s refl r in
     let o = state_next J select s in
-    allows_hit options J [] s o text select g entry n (entry_alike options J [] s o text select g None (same_found J) ∙ is) same
+    allows_hit options J [] s o text select g entry n (entry_alike options J [] s o text select g (same_found J) ∙ is) same
 
 pub plain_allowed : (options : Options) (J : Journal) (s : State) (text : List ℕ) (select : Select) (why : Reason) → IsReached J (snapshot_of s) → asked_entry options s text J ≡ None → plain_reason options s text select J ≡ Some why
     → Allows options (state_next J select s) text select (J ++ []) (how.Plain why)
 plain_allowed options J s text select why r none is =
     let g = settles J [] select s refl r in
     let o = state_next J select s in
-    allows_plain options J [] s o text select g why (entry_alike options J [] s o text select g None (same_found J) ∙ none)
+    allows_plain options J [] s o text select g why (entry_alike options J [] s o text select g (same_found J) ∙ none)
     (plain_alike J [] s o g options text select (ap (λ j. rival j (key_of_text s text)) (append-nil J)) ∙ is)
 
 -- behind some prunes

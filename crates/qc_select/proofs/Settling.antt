@@ -92,7 +92,6 @@ pub record Settles (J q : Journal) (s o : State) : Type 0 where
   pub db_is : o.db ≡ s.db
   pub kind_is : o.kind ≡ s.kind
   pub session_is : o.session ≡ s.session
-  pub ansi_is : o.ansi ≡ s.ansi
 
 -- the reason that a stale table gives
 reason_alike : (J q : Journal) (s o : State) (t : TableName) (p : Option ℕ) → snapshot_of s ≡ p → SeesAlike J q (snapshot_of s) (snapshot_of o) → list_all is_prune q ≡ true → is_stale s J t ≡ true
@@ -115,7 +114,6 @@ settles_by J q s None f h a = let k = kept J q None h tt in record {
   db_is = refl;
   kind_is = refl;
   session_is = refl;
-  ansi_is = refl;
 }
 settles_by J q s (Some x) f h a = let both = a x refl in let k = both.1 in record {
   wrote_is = λ t. ap (λ ops. wrote (with_transaction s (Some (record { snapshot = None; operations = ops }))) t) both.0;
@@ -126,7 +124,6 @@ settles_by J q s (Some x) f h a = let both = a x refl in let k = both.1 in recor
   db_is = refl;
   kind_is = refl;
   session_is = refl;
-  ansi_is = refl;
 }
 
 same_option : (o : Option Transaction) → option_map (λ t. t) o ≡ o

@@ -2,7 +2,7 @@ use Rattle.std.proofs.Common.{◌∙◌, sym, ap, subst, List}
 use Rattle.std.specs.Prelude.{Some, None}
 use Rattle.qc_types.specs.declared.names.TableName.{TableName}
 use Rattle.qc_sql.specs.Rules.{select_tables}
-use Rattle.qc_turn.specs.Seats.{words}
+use Rattle.qc_turn.specs.Seats.{holder, words}
 use Rattle.qc_core.specs.declared.parts.Parts.{Parts}
 use Rattle.qc_core.specs.Plains.{MayRunPlain}
 use Rattle.qc_core.specs.Starts.{MayBegin}
@@ -64,7 +64,7 @@ begin-requires-clause-may c =
     let tables = c.in_ok-tables.ensures ∙ ap (λ d. select_tables d select) c.db.ensures in
     let named = c.items.ensures ∙ tables in
     let out = outside_of h s c.args.asked select c.items.result.now c.args.key c.bytes.result.now c.in_ok-reason.reason None named c.bytes.ensures c.in_ok-reason.ensures.reason c.in-None.is in
-    let first = outside_first 0 c.args.who c.args.key select c.args.asked s h.value c.args.plan c.requires.plan in
+    let first = outside_first (holder h).number c.args.who c.args.key select c.args.asked s h.value c.args.plan c.requires.plan in
     let own = may_begin (words h) h.value c.args.state.now c.args.key select c.args.asked c.requires.text.0 c.requires.stands.sound c.requires.state c.requires.text.1 c.requires.text.2 c.requires.none (first ∙ out) in
     subst (λ (ts : List TableName). MayBegin c.args.key ts c.outside_reason.new.held.value) (sym tables) (subst (λ (p : Parts). MayBegin c.args.key (select_tables s.db select) p) (sym same.0) own)
 
