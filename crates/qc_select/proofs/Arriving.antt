@@ -1,5 +1,5 @@
 -- The state at the place is the one that arrives there.
-use Rattle.std.proofs.Common.{◌≡◌, ℕ, ◌≤◌, Bool, true, false, List, refl, sym, ap, ◌∙◌, arith}
+use Rattle.std.proofs.Common.{◌≡◌, ℕ, ◌≤◌, Bool, true, false, List, refl, ap, ◌∙◌, arith}
 use Rattle.std.specs.Prelude.{Option, Some, None, IfSome, nat_lt, option_map, length, if◌then◌else◌}
 use Rattle.std.proofs.lemmas.Bool.Decides.{nat_tests}
 use Rattle.qc_sql.specs.declared.tables.RowOp.{RowOp}
@@ -7,7 +7,7 @@ use Rattle.qc_sql.specs.declared.statements.Select.{Select}
 use Rattle.qc_sql.specs.declared.statements.Statement.TheVariants as statement
 use Rattle.qc_model.specs.Journal.{Journal}
 use Rattle.qc_model.specs.Session.{State, Transaction, arrived, just_opened, opened, snapshot_of, snapshot_taken, uses_rows, with_transaction}
-use Rattle.qc_select.specs.Settled.{settled, settled_place, state_at}
+use Rattle.qc_select.specs.Settled.{settled, state_at}
 
 within : (end n : ℕ) → n ≤ end → nat_lt end n ≡ false
 within end n h = grind (arith, nat_tests)

@@ -1,6 +1,6 @@
 -- The events of a start.
-use Rattle.std.proofs.Common.{◌≡◌, ℕ, zero, suc, ◌+◌, ◌≤◌, max, Bool, true, false, cond, List, [], ◌∷◌, ◌++◌, map, length, refl, sym, ap, subst, ◌∙◌, true≢false, arith, append_assoc, append-nil, eq-eqb}
-use Rattle.std.specs.Prelude.{Option, Some, None, ◌&&◌, ◌||◌, ◌==◌}
+use Rattle.std.proofs.Common.{◌≡◌, ℕ, zero, suc, ◌≤◌, Bool, true, false, List, [], ◌∷◌, ◌++◌, map, length, refl, sym, ap, subst, ◌∙◌, true≢false, arith, append_assoc, append-nil, eq-eqb}
+use Rattle.std.specs.Prelude.{◌||◌, ◌==◌}
 use Rattle.std.specs.List.{list_all}
 use Rattle.std.proofs.lemmas.Bool.{and_parts, and_from}
 use Rattle.std.proofs.lemmas.List.Folds.{list_all-append}
@@ -12,19 +12,17 @@ use Rattle.qc_tiles.specs.declared.blocks.NoTile.{NoTile}
 use Rattle.qc_tiles.specs.Tiles.{largest_free}
 use Rattle.qc_chain.specs.Chains.{Ranged}
 use Rattle.qc_model.specs.declared.events.Who.{Who}
-use Rattle.qc_model.specs.declared.events.Event.{Event}
 use Rattle.qc_model.specs.declared.events.Event.TheVariants as event
 use Rattle.qc_model.specs.declared.events.How.{How}
 use Rattle.qc_model.specs.declared.events.How.TheVariants as how
 use Rattle.qc_model.specs.declared.events.Reason.TheVariants as reason
-use Rattle.qc_model.specs.Choice.{start_count}
 use Rattle.qc_model.specs.Journal.{Journal}
 use Rattle.qc_model.specs.Licence.{unit_words, words_of_bytes}
 use Rattle.qc_model.specs.Needs.{is_need}
 use Rattle.qc_core.specs.declared.parts.Parts.{Parts}
 use Rattle.qc_core.specs.declared.starts.Started.{Started}
 use Rattle.qc_core.specs.Allocates.{PrunesMany}
-use Rattle.qc_core.specs.Starts.{IsShortOf, LacksRoomFor, Starts, Takes, needs_of, without_block}
+use Rattle.qc_core.specs.Starts.{LacksRoomFor, Starts, Takes, needs_of, without_block}
 use Rattle.qc_select.proofs.Needing.{is_own_prune}
 
 -- ---- prunes for needs of a key

@@ -1,8 +1,7 @@
 -- What a select may have as its event, once the place of the event is known.
-use Rattle.std.proofs.Common.{◌≡◌, ◌⊎◌, inl, inr, ℕ, ◌+◌, ◌≤◌, Bool, true, false, cond, List, [], ◌∷◌, ◌++◌, length, refl, sym, ap, subst, ◌∙◌, true≢false, append-nil}
+use Rattle.std.proofs.Common.{◌≡◌, ◌⊎◌, inl, inr, ℕ, ◌+◌, Bool, true, false, List, [], ◌++◌, length, refl, sym, ap, subst, ◌∙◌, append-nil}
 use Rattle.std.specs.Prelude.{Option, Some, None, not, ◌&&◌, ◌==◌, find, if◌then◌else◌, MatchOption}
 use Rattle.std.specs.List.{list_all}
-use Rattle.std.proofs.lemmas.Option.{none-some}
 use Rattle.qc_types.specs.declared.options.Options.{Options}
 use Rattle.qc_sql.specs.declared.statements.Select.{Select}
 use Rattle.qc_sql.specs.Grammar.{head_of, trimmed}
@@ -16,7 +15,7 @@ use Rattle.qc_model.specs.Choice.{Allows, IsNoRoom, answering, has_key, is_asked
 use Rattle.qc_model.specs.Session.{State, key_of_text, snapshot_of}
 use Rattle.qc_select.specs.Settled.{state_at}
 use Rattle.qc_select.proofs.Pruned.{none_stays, starts_stay}
-use Rattle.qc_select.proofs.NoReasons.{NoReason, no_reason, plain_alike, key_alike, tables_alike, visible_alike, asked_alike}
+use Rattle.qc_select.proofs.NoReasons.{no_reason, plain_alike, key_alike, tables_alike, visible_alike, asked_alike}
 use Rattle.qc_select.proofs.Settling.{IsReached, Settles, settles}
 
 -- whether the cache is asked for a text

@@ -1,9 +1,8 @@
 -- One part of the call behind another.
-use Rattle.std.proofs.Common.{◌≡◌, ℕ, ◌+◌, ◌-◌, ◌*◌, ◌<◌, ◌≤◌, Bool, true, false, List, [], ◌∷◌, ◌++◌, length, refl, sym, ap, subst, ◌∙◌, arith}
+use Rattle.std.proofs.Common.{◌≡◌, ℕ, ◌*◌, ◌≤◌, List, [], length, sym, ap, subst, ◌∙◌, arith}
 use Rattle.std.specs.Prelude.{Option, Some, None, Result, Ok, Err, IfNone, IfOk, IfSome, OnErr, option_map}
 use Rattle.std.proofs.lemmas.Option.{none-some, same_Some}
 use Rattle.qc_types.specs.declared.names.TableName.{TableName}
-use Rattle.qc_types.specs.declared.options.Options.{Options}
 use Rattle.qc_types.specs.declared.sql_error.SqlError.{SqlError}
 use Rattle.qc_sql.specs.declared.session.Asked.{Asked}
 use Rattle.qc_sql.specs.declared.statements.Select.{Select}
@@ -21,7 +20,6 @@ use Rattle.qc_model.specs.declared.events.How.TheVariants as how
 use Rattle.qc_model.specs.declared.events.Reason.{Reason}
 use Rattle.qc_model.specs.declared.events.Reason.TheVariants as reason
 use Rattle.qc_model.specs.Choice.{rival, unseen_reason}
-use Rattle.qc_model.specs.Journal.{Journal}
 use Rattle.qc_model.specs.Cache.{Entry}
 use Rattle.qc_model.specs.Session.{State, flags_of}
 use Rattle.qc_trx.specs.SnapshotStates.{IsSnapshotState, SnapshotState, seen_on}
@@ -44,7 +42,7 @@ use Rattle.qc_select.specs.declared.selected.Selected.TheVariants as selected
 use Rattle.qc_select.specs.Selects.{Begins, Decided, Decides, IsOfText, MayAsk, answering_asked, given, outside_by, planned, rule_by}
 use Rattle.qc_select.proofs.Answering.{IsUnanswered, decided_begins, decided_hit, decided_more, decided_outside, decided_refused, finds_behind}
 use Rattle.qc_select.proofs.Deciding.{decides}
-use Rattle.qc_select.proofs.Permitting.{MayGoOn, outside_may}
+use Rattle.qc_select.proofs.Permitting.{MayGoOn}
 use Rattle.qc_select.proofs.Rooms.{more_refl, more_rested, more_trans, next_more}
 use Rattle.qc_select.proofs.Seeing.{seen_is}
 use Rattle.qc_select.proofs.Sweeping.{finds_none}

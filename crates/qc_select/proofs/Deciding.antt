@@ -1,15 +1,11 @@
 -- What was decided is what a select may have at the place of its event.
-use Rattle.std.proofs.Common.{◌≡◌, ◌⊎◌, inl, inr, ℕ, ◌+◌, ◌≤◌, Bool, true, false, cond, List, [], ◌∷◌, ◌++◌, length, refl, sym, ap, subst, ◌∙◌, true≢false, arith, length-append, append-nil}
-use Rattle.std.specs.Prelude.{Option, Some, None, Result, Ok, Err, option_map, ◌&&◌, not, find}
+use Rattle.std.proofs.Common.{◌≡◌, ◌⊎◌, inl, inr, ℕ, ◌+◌, ◌≤◌, Bool, true, false, cond, List, [], ◌∷◌, ◌++◌, length, refl, sym, ap, subst, ◌∙◌, arith, length-append}
+use Rattle.std.specs.Prelude.{Option, Some, None, option_map, ◌&&◌}
 use Rattle.std.specs.List.{list_all}
 use Rattle.std.proofs.lemmas.Option.{none-some, same_Some}
-use Rattle.std.proofs.lemmas.Bool.{and_parts}
 use Rattle.qc_types.specs.declared.options.Options.{Options}
-use Rattle.qc_types.specs.declared.sql_error.SqlError.{SqlError}
-use Rattle.qc_types.specs.declared.names.TableName.{TableName}
 use Rattle.qc_sql.specs.declared.session.Asked.{Asked}
 use Rattle.qc_sql.specs.declared.statements.Select.{Select}
-use Rattle.qc_sql.specs.Rows.{Rows}
 use Rattle.qc_sql.specs.Rules.{select_tables}
 use Rattle.qc_key.specs.Hash.{hash}
 use Rattle.qc_chain.specs.Chains.{Ranged}
@@ -27,27 +23,25 @@ use Rattle.qc_model.specs.declared.events.Reason.TheVariants as reason
 use Rattle.qc_model.specs.Journal.{Journal}
 use Rattle.qc_model.specs.Cache.{cache, is_prune}
 use Rattle.qc_model.specs.Cache.{Entry as Cached}
-use Rattle.qc_model.specs.Choice.{Allows, IsNoRoom, answering, has_key, is_asked, is_visible, plain_reason, start_count}
+use Rattle.qc_model.specs.Choice.{Allows, IsNoRoom, answering, has_key, is_visible, start_count}
 use Rattle.qc_model.specs.Licence.{unit_words}
 use Rattle.qc_model.specs.Needs.{HasNeeds, HasOwnNeeds, is_need}
-use Rattle.qc_model.specs.Session.{State, key_of_text, snapshot_of}
+use Rattle.qc_model.specs.Session.{State, key_of_text}
 use Rattle.qc_laws.proofs.history.Serials.{serials_apart}
 use Rattle.qc_trx.specs.SnapshotStates.{SnapshotState}
 use Rattle.qc_sound.specs.Moment.{at_rest}
 use Rattle.qc_sound.proofs.Needs.{needs_are}
 use Rattle.qc_core.specs.declared.parts.Parts.{Parts}
-use Rattle.qc_core.specs.declared.starts.Begun.TheVariants as begun
 use Rattle.qc_core.specs.Whole.{Sound, with_event}
 use Rattle.qc_core.specs.Calls.{HasMoreRoom}
-use Rattle.qc_core.specs.Hits.{hit_entry, hit_server}
-use Rattle.qc_core.specs.Starts.{IsBegun, LacksRoomFor, Starts}
+use Rattle.qc_core.specs.Hits.{hit_entry}
 use Rattle.qc_core.specs.Sweeps.{swept}
 use Rattle.qc_core.proofs.Seeking.{own_serial, pair_of}
 use Rattle.qc_select.specs.declared.selected.Selected.{Selected}
 use Rattle.qc_select.specs.declared.selected.Selected.TheVariants as selected
 use Rattle.qc_select.specs.Settled.{state_at}
-use Rattle.qc_select.specs.Selects.{Decided, Decides, Does, HasPlan, IsChosen, IsOfText, MayAsk, answering_asked, given, how_of, place_of, planned, reason_by}
-use Rattle.qc_select.proofs.Beginning.{Runs, RunsShort, short_runs, started_runs}
+use Rattle.qc_select.specs.Selects.{Decided, Decides, HasPlan, IsOfText, MayAsk, answering_asked, given, how_of, place_of, planned, reason_by}
+use Rattle.qc_select.proofs.Beginning.{Runs, short_runs, started_runs}
 use Rattle.qc_select.proofs.Choosing.{asked_entry, else_allowed, hit_allowed, plain_allowed}
 use Rattle.qc_select.proofs.Needing.{is_own_prune, own_are_prunes, own_needs}
 use Rattle.qc_select.proofs.Permitting.{asked_as, reason_as}

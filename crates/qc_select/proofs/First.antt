@@ -1,7 +1,7 @@
 -- The first of some tables that passes a test.
 use Rattle.std.proofs.Math.Seq.{drop-cons}
 use Rattle.std.proofs.Common.{◌≡◌, ◌+◌, ◌<◌, ℕ, suc, drop, get_or, Bool, true, false, cond, List, ◌∷◌, length, sym, ap, subst, ◌∙◌, arith}
-use Rattle.std.specs.Prelude.{Option, Some, find}
+use Rattle.std.specs.Prelude.{Some, find}
 use Rattle.qc_types.specs.declared.names.TableName.{TableName}
 
 pub passes_on : (p : TableName → Bool) (ts : List TableName) (i : ℕ) (t : TableName) → i < length ts → t ≡ get_or ts i t → p t ≡ false → find p (drop i ts) ≡ find p ts → find p (drop (i + 1) ts) ≡ find p ts

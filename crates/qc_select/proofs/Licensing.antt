@@ -1,8 +1,7 @@
 -- What a select's event asks of the journal.
-use Rattle.std.proofs.Common.{◌≡◌, ◌⊎◌, inl, inr, ℕ, ◌+◌, ◌<◌, Bool, true, false, cond, List, [], ◌∷◌, ◌++◌, length, refl, sym, ap, subst, ◌∙◌, true≢false, arith}
-use Rattle.std.specs.Prelude.{Option, Some, None, not, ◌&&◌, ◌||◌, ◌==◌, find, is_some, nat_lt, option_map, if◌then◌else◌}
+use Rattle.std.proofs.Common.{◌≡◌, ℕ, ◌+◌, ◌<◌, Bool, true, false, cond, List, [], ◌∷◌, refl, sym, ap, subst, ◌∙◌, true≢false}
+use Rattle.std.specs.Prelude.{Some, None, not, ◌&&◌, ◌||◌, find, is_some, option_map, if◌then◌else◌}
 use Rattle.std.specs.List.{list_all, list_any, AllByRecursion, concat}
-use Rattle.std.proofs.lemmas.Bool.Decides.{nat_tests}
 use Rattle.std.proofs.lemmas.Option.{none-some}
 use Rattle.std.proofs.lemmas.Slice.Eq.{bytes_eq-Decides}
 use Rattle.qc_types.specs.declared.names.TableName.{TableName}
@@ -12,9 +11,9 @@ use Rattle.qc_sql.specs.declared.statements.Statement.TheVariants as statement
 use Rattle.qc_sql.specs.Grammar.{meaning, trimmed}
 use Rattle.qc_sql.specs.Rules.{select_tables}
 use Rattle.std.specs.Prelude.{Ok}
-use Rattle.qc_model.specs.Journal.{Journal, last_change}
+use Rattle.qc_model.specs.Journal.{Journal}
 use Rattle.qc_model.specs.Cache.{Entry, cache}
-use Rattle.qc_model.specs.Choice.{answering, changed_since, has_key, is_visible, plain_reason, rival, start_count}
+use Rattle.qc_model.specs.Choice.{answering, has_key, is_visible, plain_reason, start_count}
 use Rattle.qc_model.specs.Licence.{IsLawful, MayStart, region_words, tables_of_key}
 use Rattle.qc_model.specs.Session.{State, key_of_text, snapshot_of}
 use Rattle.qc_laws.specs.history.Answers.{CanBeKeyed, IsKeyOfRows}
@@ -23,7 +22,7 @@ use Rattle.qc_laws.specs.history.Seen.{is_current, IsPlace}
 use Rattle.qc_laws.proofs.history.Answers.{starts_answer}
 use Rattle.qc_laws.proofs.history.Stays.{answers_stay}
 use Rattle.qc_select.proofs.Choosing.{asked_entry}
-use Rattle.qc_select.proofs.NoReasons.{NoReason, no_reason}
+use Rattle.qc_select.proofs.NoReasons.{no_reason}
 
 -- ---- no entry has the key
 

@@ -1,11 +1,10 @@
 -- The reasons of a plain run, before the place of its event is known and once it is.
-use Rattle.std.proofs.Common.{◌≡◌, ◌⊎◌, inl, inr, ℕ, ◌+◌, ◌<◌, Bool, true, false, cond, List, [], ◌∷◌, ◌++◌, length, refl, sym, ap, subst, ◌∙◌, true≢false}
-use Rattle.std.specs.Prelude.{Option, Some, None, Result, Ok, Err, not, ◌&&◌, ◌||◌, ◌==◌, find, nat_lt, option_map, if◌then◌else◌, MatchOption}
-use Rattle.std.specs.List.{list_all, list_any}
+use Rattle.std.proofs.Common.{◌≡◌, ℕ, Bool, true, false, cond, List, [], ◌∷◌, ◌++◌, refl, sym, ap, subst, ◌∙◌, true≢false}
+use Rattle.std.specs.Prelude.{Option, Some, None, Result, Ok, Err, not, ◌&&◌, ◌||◌, ◌==◌, find, option_map}
+use Rattle.std.specs.List.{list_all}
 use Rattle.std.proofs.lemmas.Bool.{and_from}
 use Rattle.std.proofs.lemmas.Option.{none-some, same_Some}
 use Rattle.qc_types.specs.declared.names.TableName.{TableName}
-use Rattle.qc_types.specs.declared.names.Why.{Why}
 use Rattle.qc_types.specs.declared.options.Options.{Options}
 use Rattle.qc_types.specs.declared.sql_error.SqlError.{SqlError}
 use Rattle.qc_sql.specs.declared.statements.Select.{Select}
@@ -17,8 +16,8 @@ use Rattle.qc_sql.specs.Words.{◌or_else◌, when}
 use Rattle.qc_model.specs.declared.events.Reason.{Reason}
 use Rattle.qc_model.specs.declared.events.Reason.TheVariants as reason
 use Rattle.qc_model.specs.Journal.{Journal, last_change}
-use Rattle.qc_model.specs.Cache.{Entry, cache}
-use Rattle.qc_model.specs.Choice.{answering, changed_since, has_key, is_asked, is_stale, is_visible, plain_reason, refusal_reason, rival, rule_reason, stale_reason, unseen_reason, wrote}
+use Rattle.qc_model.specs.Cache.{Entry}
+use Rattle.qc_model.specs.Choice.{changed_since, is_asked, is_stale, is_visible, plain_reason, refusal_reason, rival, rule_reason, stale_reason, unseen_reason, wrote}
 use Rattle.qc_model.specs.Session.{State, base, flags_of, key_of_text, snapshot_of}
 use Rattle.qc_laws.specs.history.Seen.{is_current}
 use Rattle.qc_select.proofs.Settling.{Settles}

@@ -1,10 +1,9 @@
 -- What is chosen may be done.
-use Rattle.std.proofs.Common.{◌≡◌, ◌≢◌, ℕ, zero, suc, ◌+◌, ◌-◌, ◌*◌, ◌^◌, ◌<◌, ◌≤◌, Bool, true, false, cond, List, [], ◌∷◌, length, refl, sym, ap, subst, ◌∙◌, true≢false, arith, eq-eqb}
-use Rattle.std.specs.Prelude.{Option, Some, None, Result, Ok, Err, ◌==◌, ◌||◌, not, find, nat_lt, option_map}
+use Rattle.std.proofs.Common.{◌≡◌, ℕ, zero, suc, ◌+◌, ◌-◌, ◌*◌, ◌^◌, ◌<◌, Bool, true, false, List, [], length, refl, sym, ap, subst, ◌∙◌, true≢false, arith, eq-eqb}
+use Rattle.std.specs.Prelude.{Option, Some, None, ◌==◌, ◌||◌, not, find, nat_lt, option_map}
 use Rattle.std.proofs.lemmas.Option.{none-some, same_Some}
 use Rattle.std.proofs.lemmas.Bool.Decides.{nat_tests}
 use Rattle.qc_types.specs.declared.names.TableName.{TableName}
-use Rattle.qc_types.specs.declared.names.Why.{Why}
 use Rattle.qc_types.specs.declared.options.Options.{Options}
 use Rattle.qc_sql.specs.declared.session.Asked.{Asked}
 use Rattle.qc_sql.specs.declared.statements.Select.{Select}
@@ -30,7 +29,7 @@ use Rattle.qc_select.specs.Selects.{IsOfText, MayAsk, answering_asked, outside_b
 use Rattle.qc_select.proofs.Choosing.{asked_entry}
 use Rattle.qc_select.proofs.Lengths.{key_short}
 use Rattle.qc_select.proofs.Licensing.{may_start}
-use Rattle.qc_select.proofs.NoReasons.{NoReason, found_test, no_reason}
+use Rattle.qc_select.proofs.NoReasons.{found_test, no_reason}
 use Rattle.qc_select.proofs.Rivals.{is_rival}
 
 -- ---- a plain run

@@ -1,6 +1,6 @@
 -- A journal with prunes behind it.
-use Rattle.std.proofs.Common.{◌≡◌, ◌≢◌, ℕ, ◌+◌, Bool, true, false, cond, List, [], ◌∷◌, ◌++◌, length, refl, sym, ap, subst, ◌∙◌, true≢false, arith}
-use Rattle.std.specs.Prelude.{Option, Some, None, not, ◌&&◌, ◌||◌, count_by, if◌then◌else◌}
+use Rattle.std.proofs.Common.{◌≡◌, ℕ, ◌+◌, Bool, true, false, cond, List, [], ◌∷◌, ◌++◌, refl, sym, ap, ◌∙◌, true≢false, arith}
+use Rattle.std.specs.Prelude.{Some, None, not}
 use Rattle.std.specs.List.{list_all, list_any, filter, find}
 use Rattle.std.proofs.lemmas.List.Sums.{sum_by-append, sum_by-cons}
 use Rattle.std.proofs.lemmas.Bool.{and_parts}
@@ -10,7 +10,7 @@ use Rattle.qc_sql.specs.Database.{Database, empty_database, apply, touches}
 use Rattle.qc_model.specs.declared.events.Event.{Event}
 use Rattle.qc_model.specs.declared.events.Event.TheVariants as event
 use Rattle.qc_model.specs.Journal.{Journal, operations, database_after, present, touches_table, last_number, last_change}
-use Rattle.qc_model.specs.Cache.{Entry, after_event, cache, entries_after, is_prune, is_run, is_start, without, is_entry}
+use Rattle.qc_model.specs.Cache.{Entry, after_event, cache, entries_after, is_prune, is_run, is_start, is_entry}
 use Rattle.qc_model.specs.Choice.{start_count}
 use Rattle.qc_laws.proofs.history.Events.{database_append}
 

@@ -1,19 +1,17 @@
 -- A rival is filled by another session.
-use Rattle.std.proofs.Common.{◌≡◌, ◌≢◌, ℕ, zero, suc, ◌+◌, ◌-◌, ◌<◌, Bool, true, false, cond, List, [], ◌∷◌, map, refl, sym, ap, subst, ◌∙◌, true≢false, eqb, eqb-true, eq-eqb, arith}
-use Rattle.std.specs.Prelude.{Option, Some, None, not, ◌&&◌, ◌||◌, ◌==◌, find, count_by, IsSomeAnd}
+use Rattle.std.proofs.Common.{◌≡◌, ℕ, ◌+◌, ◌-◌, ◌<◌, Bool, true, false, List, [], ◌∷◌, refl, sym, subst, ◌∙◌, true≢false}
+use Rattle.std.specs.Prelude.{Some, not, ◌&&◌, IsSomeAnd}
 use Rattle.std.specs.List.{list_any, AllByRecursion}
-use Rattle.std.proofs.lemmas.Option.{none-some, same_Some}
 use Rattle.std.proofs.lemmas.Bool.{and_parts}
 use Rattle.qc_key.specs.Hash.{hash}
 use Rattle.qc_model.specs.declared.events.Who.{Who}
 use Rattle.qc_model.specs.declared.events.Event.TheVariants as event
-use Rattle.qc_model.specs.Journal.{Journal, event_count, last_event}
-use Rattle.qc_model.specs.Cache.{cache, entry_of}
+use Rattle.qc_model.specs.Journal.{event_count, last_event}
+use Rattle.qc_model.specs.Cache.{cache}
 use Rattle.qc_model.specs.Cache.{Entry as Cached}
 use Rattle.qc_model.specs.Choice.{has_key, rival}
 use Rattle.qc_model.specs.Licence.{IsRivalOf, starts_serial}
 use Rattle.qc_laws.specs.history.Fillings.{IsFilled}
-use Rattle.qc_laws.specs.history.Runs.{are_distinct, serials}
 use Rattle.qc_laws.proofs.history.Events.{found_all}
 use Rattle.qc_laws.proofs.history.Fillings.{fills_are_last}
 use Rattle.qc_laws.proofs.history.Serials.{neither, opposite, serials_apart}

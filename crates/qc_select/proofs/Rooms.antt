@@ -1,12 +1,12 @@
 -- A server with more room in its journal.
-use Rattle.std.proofs.Common.{◌≡◌, ℕ, ◌+◌, ◌-◌, ◌≤◌, Bool, true, false, cond, List, [], ◌∷◌, map, refl, sym, ap, subst, ◌∙◌, arith, true≢false}
-use Rattle.std.specs.Prelude.{Option, Some, None, ◌==◌, find}
+use Rattle.std.proofs.Common.{◌≡◌, ℕ, ◌+◌, ◌-◌, true, false, cond, List, [], ◌∷◌, map, refl, sym, ap, subst, ◌∙◌, arith}
+use Rattle.std.specs.Prelude.{Some, None, ◌==◌, find}
 use Rattle.qc_chain.specs.Chains.{Chained}
 use Rattle.qc_model.specs.declared.events.Who.{Who}
 use Rattle.qc_model.specs.Journal.{event_count}
 use Rattle.qc_model.specs.declared.events.Event.{Event}
 use Rattle.qc_turn.specs.declared.kept.Kept.{Ghosts}
-use Rattle.qc_turn.specs.Seats.{Held, holder, SameHolder}
+use Rattle.qc_turn.specs.Seats.{Held, SameHolder}
 use Rattle.qc_turn.specs.Tasks.{listed_for}
 use Rattle.qc_turn.proofs.Holders.{number_is}
 use Rattle.qc_core.specs.declared.parts.RunningTask.{RunningTask}

@@ -1,21 +1,19 @@
 -- What a select sees is the same before the place of its event is known and once it is.
-use Rattle.std.proofs.Common.{◌≡◌, ◌⊎◌, ℕ, ◌+◌, ◌-◌, ◌<◌, ◌≤◌, Bool, true, false, cond, List, [], ◌∷◌, ◌++◌, take, length, refl, sym, ap, subst, ◌∙◌, true≢false, arith, length-append}
-use Rattle.std.specs.Prelude.{Option, Some, None, not, ◌&&◌, nat_lt, option_map, IfSome, if◌then◌else◌}
+use Rattle.std.proofs.Common.{◌≡◌, ℕ, ◌+◌, ◌-◌, ◌≤◌, Bool, true, false, cond, [], ◌∷◌, ◌++◌, take, length, refl, sym, ap, subst, ◌∙◌, true≢false, arith}
+use Rattle.std.specs.Prelude.{Option, Some, None, nat_lt, option_map, IfSome}
 use Rattle.std.specs.List.{list_all}
 use Rattle.std.proofs.lemmas.List.{take-append-le}
 use Rattle.std.proofs.lemmas.Bool.Decides.{nat_tests}
-use Rattle.std.proofs.lemmas.Option.{none-some, same_Some}
 use Rattle.qc_types.specs.declared.names.TableName.{TableName}
-use Rattle.qc_sql.specs.declared.session.Flags.{Flags}
 use Rattle.qc_sql.specs.declared.statements.Select.{Select}
 use Rattle.qc_sql.specs.declared.statements.Statement.TheVariants as statement
-use Rattle.qc_sql.specs.Database.{Name, Database, apply}
+use Rattle.qc_sql.specs.Database.{apply}
 use Rattle.qc_model.specs.declared.events.Event.{Event}
 use Rattle.qc_model.specs.declared.events.Reason.TheVariants as reason
 use Rattle.qc_model.specs.Journal.{Journal, present, before, last_change, last_number, touches_table}
 use Rattle.qc_model.specs.Cache.{is_prune}
 use Rattle.qc_model.specs.Choice.{changed_since, is_stale, stale_reason, wrote}
-use Rattle.qc_model.specs.Session.{State, Transaction, at_snapshot, base, flags_of, seen_in, snapshot_of, uses_rows, with_transaction}
+use Rattle.qc_model.specs.Session.{State, Transaction, at_snapshot, base, flags_of, snapshot_of, uses_rows, with_transaction}
 use Rattle.qc_select.specs.Settled.{settled, settled_place, state_at}
 use Rattle.qc_select.proofs.Pruned.{change_stays, present_stays}
 

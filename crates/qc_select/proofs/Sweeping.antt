@@ -1,5 +1,5 @@
 -- What stays when streams are struck off.
-use Rattle.std.proofs.Common.{◌≡◌, ℕ, Bool, true, false, cond, List, [], ◌∷◌, ◌++◌, refl, sym, ap, ◌∙◌}
+use Rattle.std.proofs.Common.{◌≡◌, ℕ, Bool, true, false, List, [], ◌∷◌, refl, ◌∙◌}
 use Rattle.std.specs.Prelude.{Option, Some, None, is_some, if◌then◌else◌}
 use Rattle.std.specs.List.{list_any, find}
 use Rattle.qc_model.specs.declared.events.Event.{Event}
@@ -10,7 +10,7 @@ use Rattle.qc_dir.specs.Directory.{entry_at}
 use Rattle.qc_sound.specs.PlainServer.{serial_of}
 use Rattle.qc_core.specs.declared.parts.RunningTask.{RunningTask}
 use Rattle.qc_core.specs.declared.parts.Parts.{Parts}
-use Rattle.qc_core.specs.Strikes.{after_end, is_of, is_on, let_go, rested, rested_by, rested_from, with_user_less, without_task_of}
+use Rattle.qc_core.specs.Strikes.{is_of, is_on, let_go, rested, rested_by, rested_from, with_user_less, without_task_of}
 use Rattle.qc_core.specs.Sweeps.{Finds, swept}
 
 -- the same journal and the same options

@@ -1,5 +1,5 @@
 -- The state in which a select is validated, once the place of its event is known.
-use Rattle.std.specs.Prelude.{ℕ, List, length, Option, Some, None, nat_lt, if◌then◌else◌, option_map}
+use Rattle.std.specs.Prelude.{ℕ, length, Option, Some, None, nat_lt, if◌then◌else◌, option_map}
 use Rattle.qc_sql.specs.declared.statements.Select.{Select}
 use Rattle.qc_sql.specs.declared.statements.Statement.TheVariants as statement
 use Rattle.qc_model.specs.Journal.{Journal}

@@ -1,1 +1,0 @@
-use Rattle.qc_select.proofs.selects.run_plain.Goals as goal
