@@ -29,7 +29,7 @@ use Rattle.qc_dir.specs.declared.entries.Entry.{Entry}
 use Rattle.qc_dir.specs.Directory.{is_idle}
 use Rattle.qc_turn.specs.declared.task.Task.TheVariants as task
 use Rattle.qc_turn.specs.declared.view.FoundWord.{FoundWord}
-use Rattle.qc_turn.specs.Seats.{Held, holder, MayRelease, SameHolder, with_ranges}
+use Rattle.qc_turn.specs.Seats.{Held, holder, MayRelease, with_ranges}
 use Rattle.qc_turn.specs.Tasks.{listed_for, own}
 use Rattle.qc_turn.specs.Views.{of_seat}
 use Rattle.qc_turn.specs.Words.{StartsWith}
@@ -124,9 +124,6 @@ continues_same h = record { seat = refl; turn = refl; view = refl; value = onwar
 
 pub continues_both : (h k m : Held Parts Event ghosts) → Continues h k → Continues k m → Continues h m
 continues_both h k m p q = record { seat = q.seat ∙ p.seat; turn = q.turn ∙ p.turn; view = q.view ∙ p.view; value = onward_both h.value k.value m.value p.value q.value; room = q.room ∙ p.room }
-
-pub continues_holder : (h k : Held Parts Event ghosts) → SameHolder h k → Onward h.value k.value → k.ranges ≡ h.ranges → Continues h k
-continues_holder h k s o r = record { seat = s.seat; turn = s.turn; view = ap settled s.holder; value = o; room = ap (λ (x : Ranged). x.room) r }
 
 told_value : (n : ℕ) (s t : Parts) (q r : Ranged) (told : Result Block Short) → TellsGrowth n s q t r told → Onward s t × (r.room ≡ q.room)
 told_value n s t q r (Ok b) g = (onward_grown n s t b g.ok.0, ap (λ (x : Ranged). x.room) g.ok.1)

@@ -179,9 +179,6 @@ packets_now o j n s ps x h is found =
     let once = starts_once o j n mine s h in
     k.now ∙ (sym k.at_start ∙ ((λ i. answer_packets ((sym k.key ∙ once.2) i) (present (once.0 i))) ∙ is))
 
-answer_of : (key : List ℕ) (d : Database) (ps : List (List ℕ)) → answer_packets key d ≡ Some ps → answer key d ≡ Some (concat ps)
-answer_of key d ps h = ap (option_map concat) h
-
 prefix_is : (limit sum : ℕ) (ps : List (List ℕ)) (p : List ℕ) (qs : List (List ℕ)) → sum + length (concat ps) ≤ limit → limit < sum + length (concat ps) + length p → prefix_above limit sum (ps ++ p ∷ qs) ≡ sum + length (concat ps) + length p
 prefix_is limit sum [] p qs low high =
     let none : nat_lt limit sum ≡ false = grind (arith, nat_tests, low) in

@@ -47,9 +47,6 @@ take_less (suc n) zero l h = absurd (omega (arith, h))
 take_less (suc n) (suc m) [] h = refl
 take_less (suc n) (suc m) (x ∷ l) h = ap (λ z. x ∷ z) (take_less n m l (omega (arith, h)))
 
-pub take_zero : (l : List ℕ) → take 0 l ≡ []
-take_zero l = refl
-
 pub drop_twice : (a b : ℕ) (l : List ℕ) → drop a (drop b l) ≡ drop (b + a) l
 drop_twice a zero l = let e : 0 + a ≡ a = omega arith in ap (λ n. drop n l) (sym e)
 drop_twice a (suc b) [] = drop-nil a ∙ sym (drop-nil (suc b + a))

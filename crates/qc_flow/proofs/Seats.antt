@@ -1,11 +1,10 @@
 -- What a seat knows after it gave the turn back.
-use Rattle.std.proofs.Common.{◌≡◌, ℕ, ◌*◌, ◌≤◌, eq-eqb, false, cond, List, [], ◌∷◌, ◌++◌, length, take, map, refl, sym, ap, subst, ◌∙◌, arith, append_assoc, append-nil, length-take}
+use Rattle.std.proofs.Common.{◌≡◌, ℕ, ◌≤◌, eq-eqb, false, cond, List, [], ◌∷◌, ◌++◌, length, take, map, refl, sym, ap, subst, ◌∙◌, arith, append_assoc, append-nil, length-take}
 use Rattle.std.specs.Prelude.{◌==◌, slice_index}
 use Rattle.std.specs.List.{list_any}
-use Rattle.std.proofs.lemmas.List.{map-append, length-map, take-append-le}
+use Rattle.std.proofs.lemmas.List.{map-append, take-append-le}
 use Rattle.std.proofs.lemmas.List.Elements.{filter-append}
 use Rattle.qc_model.specs.declared.events.Event.{Event}
-use Rattle.qc_chain.specs.Words.{words_of}
 use Rattle.qc_tiles.specs.declared.blocks.Block.{Block}
 use Rattle.qc_turn.specs.Blocks.{places, spelled}
 use Rattle.qc_turn.specs.Bytes.{low_bytes, bytes_of}
@@ -18,7 +17,7 @@ use Rattle.qc_turn.specs.declared.task.Task.{Task}
 use Rattle.qc_turn.specs.declared.task.Task.TheVariants as task
 use Rattle.qc_turn.specs.declared.view.Holding.TheVariants.{Free}
 use Rattle.qc_turn.specs.declared.view.View.{View}
-use Rattle.qc_turn.proofs.Tasks.{starts_trans, length_words}
+use Rattle.qc_turn.proofs.Tasks.{starts_trans}
 use Rattle.qc_sound.specs.Sound.{FitsFill}
 use Rattle.qc_sound.proofs.Counts.{places_append}
 use Rattle.qc_core.specs.Whole.{tasks_of}
@@ -26,7 +25,6 @@ use Rattle.qc_core.specs.contracts.server.ServerKept.TheImpl.{ghosts}
 use Rattle.qc_core.specs.declared.parts.Parts.{Parts}
 use Rattle.qc_flow.specs.Growths.{Onward, settled}
 use Rattle.qc_flow.specs.Seats.{GoesOn, IsAtRest}
-use Rattle.qc_flow.proofs.Pieces.{length_bytes}
 
 -- ---- what stays
 
@@ -54,10 +52,6 @@ released_rests w x us none = record {
   blocks = ap (λ ts. released_blocks (released_task false (task_in ts)) (blocks_in ts)) none;
   content = ap (λ ts. content_of ghosts us w.task w.content (released_task false (task_in ts)) (released_blocks (released_task false (task_in ts)) (blocks_in ts))) none;
 }
-
-pub rest_spells : (w : View Parts Event) (x : Parts) (us : List ℕ) → listed_for w.number (tasks_of x) ≡ [] → SpellsReleased ghosts (with_word_set w false) x us
-rest_spells w x us none =
-    subst (λ ts. ContentRule ghosts x us (released_task false (task_in ts)) (released_blocks (released_task false (task_in ts)) (blocks_in ts)) (content_of ghosts us w.task w.content (released_task false (task_in ts)) (released_blocks (released_task false (task_in ts)) (blocks_in ts)))) (sym none) tt
 
 -- ---- the fill goes on
 
@@ -96,12 +90,3 @@ longer_front us content bs more h =
     let few : length content ≤ length (bytes_of (spelled us bs)) = omega (arith, cut, same) in
     let split : bytes_of (spelled us (bs ++ more)) ≡ bytes_of (spelled us bs) ++ bytes_of (spelled us more) = ap (λ l. bytes_of (map look l)) (places_append bs more) ∙ (ap bytes_of (map-append look (places bs) (places more)) ∙ bytes_join (spelled us bs) (spelled us more)) in
     h ∙ sym (ap (take (length content)) split ∙ take-append-le (length content) (bytes_of (spelled us bs)) (bytes_of (spelled us more)) few)
-
-pub fill_held : (us content : List ℕ) (bs : List Block) → content ≡ take (length content) (bytes_of (spelled us bs)) → length content ≤ 8 * words_of bs
-fill_held us content bs h =
-    let cut = length-take (length content) (bytes_of (spelled us bs)) in
-    let same = ap (λ (l : List ℕ). length l) h in
-    let long = length_bytes (spelled us bs) in
-    let words = length-map (places bs) (λ i. slice_index us i) in
-    let all = length_words bs in
-    omega (arith, cut, same, long, words, all)

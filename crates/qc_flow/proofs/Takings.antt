@@ -1,5 +1,5 @@
 -- What a seat that fills knows when it has taken the turn, and what it may release.
-use Rattle.std.proofs.Common.{◌≡◌, ℕ, ◌*◌, ◌≤◌, Bool, true, false, List, [], ◌++◌, length, take, sym, ap, subst, ◌∙◌, true≢false, inl, ⊎_elim}
+use Rattle.std.proofs.Common.{◌≡◌, ℕ, ◌*◌, ◌≤◌, false, List, [], ◌++◌, length, take, sym, ap, subst, ◌∙◌, ⊎_elim}
 use Rattle.std.specs.Prelude.{Some, slice_index}
 use Rattle.qc_model.specs.declared.events.Event.{Event}
 use Rattle.qc_tiles.specs.declared.blocks.Block.{Block}
@@ -72,16 +72,6 @@ took_fill v h serial held t holds fill =
       unset = t.word_set ∙ ap is_stream fill;
       front = (stored_front h.value (words h) v.task serial v.blocks v.content fill t.content).0;
     }
-
--- no task word is set
-pub never_set : (w v : View Parts Event) (x : Bool) → settled w ≡ settled v → v.word_set ≡ false → w.word_set ≡ true → x ≡ true
-never_set w v x same unset set = absurd (true≢false (sym set ∙ (ap (λ u. u.word_set) same ∙ unset)))
-
-pub rest_listed : (n : ℕ) (bs : List Block) (ts : List ListedTask) → ts ≡ [] → IsListed n task.Rest bs ts
-rest_listed n bs ts none = inl none
-
-pub fill_listed : (n serial : ℕ) (bs : List Block) (ts : List ListedTask) → ts ≡ own n (task.Fill serial) bs → IsListed n (task.Fill serial) bs ts
-fill_listed n serial bs ts one = inl one
 
 -- what is stored is the whole answer, so the entry may be completed
 pub stores_whole : (v : View Parts Event) (h : Held Parts Event ghosts) (serial bytes : ℕ) → TookFill v h serial → Taken ghosts v h.value (words h) → IsWholeAnswer serial v → (bytes ≡ length v.content) × (bytes ≤ 8 * words_of v.blocks) × (bytes ≤ limit_of v) → StoresWhole serial bytes h
