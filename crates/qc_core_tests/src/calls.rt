@@ -26,7 +26,7 @@ pub(crate) enum Step<'a> {
 }
 
 /// Makes a step under the turn.
-fn make(held: &mut Held<'_, Server>, alloc: Global, step: Step<'_>) -> Result<(), Stop>
+pub(crate) fn make(held: &mut Held<'_, Server>, alloc: Global, step: Step<'_>) -> Result<(), Stop>
     requires { IsIdle held.old }
     ensures { MayRest held.new × IsSameHolder held.old held.new }
 {

@@ -35,7 +35,7 @@ fn new_server(alloc: Global, options: Options) -> Result<Server, Stop>
 }
 
 /// A turn over it, and the first seat.
-fn open(alloc: Global, options: Options) -> Result<(Turn<Server>, Seat<Server>), Stop>
+pub(crate) fn open(alloc: Global, options: Options) -> Result<(Turn<Server>, Seat<Server>), Stop>
     ensures first { IfOk result (λ made. IsFirst made.0 made.1 × (made.1.made ≡ 1)) }
     ensures none { IfOk result (λ made. (view made.1).registry ≡ []) }
 {

@@ -8,8 +8,8 @@ ghost use Rattle.qc_core_tests.specs.Seats.{IsIdle, IsReady, MayRest, IsSameHold
 
 use crate::changes::{Change, change_on};
 use crate::stop::Stop;
-use qc_core::{Server, commit, enter, flush, leave, note, reserve, reset, status};
-use qc_model::events::{How, Who};
+use qc_core::{Server, commit, enter, flush, gone, leave, note, reserve, reset, status};
+use qc_model::events::{GoneWhy, How, Who};
 use qc_sql::tables::{Ops, RowOp};
 use qc_turn::Held;
 use qc_types::NoMemory;
@@ -156,4 +156,10 @@ fn commit_one(held: &mut Held<'_, Server>, alloc: Global, who: Who, op: RowOp) -
         Ok(_) => Ok(()),
         Err(_) => Err(Stop::Change),
     }
+}
+
+/// Gives the seat's fill up.
+pub(crate) fn give_up(held: &mut Held<'_, Server>, serial: u64) -> Result<(), Stop> {
+    let _ = gone(held, serial, GoneWhy::Ended);
+    Ok(())
 }

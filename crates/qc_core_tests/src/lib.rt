@@ -1,11 +1,16 @@
 //! The shared server by its public calls, as seats of one turn make them.
 #![tactic(auto)]
 
+mod blocks;
 mod calls;
 mod changes;
 mod hall;
 mod holding;
 mod lines;
+mod moves;
+mod plain;
+mod selects;
 mod stop;
+mod turns;
 #[cfg(test)]
 mod tests;

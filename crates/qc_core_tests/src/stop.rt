@@ -18,6 +18,8 @@ pub enum Stop {
     Text,
     /// The answer doesn't fit the entry's blocks.
     Blocks,
+    /// The seat has another task.
+    Task,
 }
 
 impl From<NoMemory> for Stop {

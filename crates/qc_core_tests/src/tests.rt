@@ -1,6 +1,9 @@
 use crate::calls::Step::{self, Flush, Join, Make, Part, Pass, Reset, Status};
 use crate::changes::Change::{Database, Row, Table};
 use crate::hall::{join_all, play_all};
+use crate::moves::Move::{self, Ask, Begin, Count, End, GiveUp, Take};
+use crate::moves::play_moves;
+use crate::turns::play_random;
 use qc_types::Options;
 use std::test::Fail;
 
@@ -82,6 +85,259 @@ fn each_step_has_its_events(rt: HostRuntime) -> Result<(), Fail> {
         for (line, wanted) in told.as_slice().iter().zip(wanted.iter()) {
             assert!(rt; line.as_str() == *wanted, "{line} for {wanted}");
         }
+    }
+    Ok(())
+}
+
+const S1: Move<'static> = Ask("SELECT id FROM t WHERE id = 1");
+
+const S2: Move<'static> = Ask("SELECT id FROM t WHERE id = 2");
+
+const S3: Move<'static> = Ask("SELECT id FROM t WHERE id = 3");
+
+/// What base does: a database, a table with one row.
+const BASE: [(u32, Move<'static>); 4] = [
+    (2, Take(Join)),
+    (2, Take(Make(Database))),
+    (2, Take(Make(Table(b"t")))),
+    (2, Take(Make(Row(b"t", 7)))),
+];
+
+/// Moves of the first and the second seat behind base, on a region of so many bytes whose chains grow by so many, and what each tells.
+const MOVES: &[(u32, u32, &[(u32, Move<'static>)], &[&str])] = &[
+    // a hit, and the totals of one entry: its table, its result cut to 64 words with the words cut off, its text, and the rest
+    (
+        1_048_576,
+        4096,
+        &[
+            (2, Ask("SELECT id FROM t")),
+            (2, Ask("SELECT id FROM t")),
+            (2, End),
+            (2, Take(Status)),
+            (2, Count),
+        ],
+        &["start 1, done 1", "hit 1", "whole", "status 5 2 130880", "1 1 1 0 0 1"],
+    ),
+    // the one entry of a small region goes for the next
+    (
+        2048,
+        512,
+        &[(2, S1), (2, S2), (2, Take(Status)), (2, Count)],
+        &["start 1, done 1", "prune 1 64 0, start 2, done 2", "status 4 1 64", "2 0 2 0 1 1"],
+    ),
+    // the text of the third entry finds no room, and the entry goes that was used longest ago
+    (
+        3072,
+        512,
+        &[(2, S1), (2, S2), (2, S3), (2, Take(Status)), (2, Count)],
+        &[
+            "start 1, done 1",
+            "start 2, done 2",
+            "prune 1 64 0, start 3, done 3",
+            "status 6 1 64",
+            "3 0 3 0 1 2",
+        ],
+    ),
+    (
+        3072,
+        512,
+        &[(2, S1), (2, S2), (2, S1), (2, End), (2, S3), (2, S1), (2, End), (2, Take(Status))],
+        &[
+            "start 1, done 1",
+            "start 2, done 2",
+            "hit 1",
+            "whole",
+            "prune 2 64 0, start 3, done 3",
+            "hit 1",
+            "whole",
+            "status 6 1 64",
+        ],
+    ),
+    // one that is streamed stays
+    (
+        3072,
+        512,
+        &[(2, S1), (2, S2), (1, Take(Join)), (1, S1), (2, S2), (2, End), (2, S3), (1, End)],
+        &[
+            "start 1, done 1",
+            "start 2, done 2",
+            "",
+            "hit 1",
+            "hit 2",
+            "whole",
+            "prune 2 64 0, start 3, done 3",
+            "whole",
+        ],
+    ),
+    // a table and a result fill the region
+    (
+        1024,
+        512,
+        &[(2, Ask("SELECT id FROM t")), (2, Take(Status)), (2, Count)],
+        &["noroom 64 0", "status 1 1 128", "1 0 0 1 0 0"],
+    ),
+    // a commit takes the entries out that use its table
+    (
+        65_536,
+        512,
+        &[
+            (2, Take(Make(Table(b"u")))),
+            (2, Ask("SELECT id FROM t")),
+            (2, Ask("SELECT t.id FROM t JOIN u ON t.id = u.id")),
+            (2, Ask("SELECT id FROM u")),
+            (2, Count),
+            (2, Take(Make(Row(b"t", 8)))),
+            (2, Count),
+            (2, Ask("SELECT id FROM u")),
+            (2, End),
+            (2, Ask("SELECT t.id FROM t JOIN u ON t.id = u.id")),
+            (2, Ask("SELECT id FROM t")),
+        ],
+        &[
+            "commit",
+            "start 1, done 1",
+            "start 2, done 2",
+            "start 3, done 3",
+            "3 0 3 0 0 3",
+            "commit",
+            "3 0 3 0 0 1",
+            "hit 3",
+            "whole",
+            "start 4, done 4",
+            "start 5, done 5",
+        ],
+    ),
+    // blocks move down, but for one that is streamed; then none is left, twice
+    (
+        8192,
+        512,
+        &[
+            (1, Take(Join)),
+            (2, Take(Make(Table(b"u")))),
+            (2, Take(Make(Row(b"u", 5)))),
+            (2, Ask("SELECT id FROM t")),
+            (2, Ask("SELECT id FROM u")),
+            (2, Ask("SELECT id FROM t WHERE id = 7")),
+            (1, Ask("SELECT id FROM u")),
+            (2, Take(Make(Row(b"t", 8)))),
+            (2, Take(Status)),
+            (2, Take(Flush)),
+            (2, Take(Status)),
+            (2, Ask("SELECT id FROM u")),
+            (2, End),
+            (1, End),
+            (2, Take(Flush)),
+            (2, Take(Status)),
+            (2, Ask("SELECT id FROM u")),
+            (2, End),
+            (2, Take(Reset)),
+            (2, Take(Status)),
+            (2, Take(Reset)),
+            (2, Take(Status)),
+        ],
+        &[
+            "",
+            "commit",
+            "commit",
+            "start 1, done 1",
+            "start 2, done 2",
+            "start 3, done 3",
+            "hit 2",
+            "commit",
+            "status 5 2 832",
+            "flush",
+            "status 5 2 832",
+            "hit 2",
+            "whole",
+            "whole",
+            "flush",
+            "status 4 1 832",
+            "hit 2",
+            "whole",
+            "reset",
+            "status 1 1 1024",
+            "reset",
+            "status 1 1 1024",
+        ],
+    ),
+    // an entry that is filled is a rival; a commit overtakes its fill, whose blocks come back when it ends
+    (
+        8192,
+        512,
+        &[
+            (1, Take(Join)),
+            (1, Begin("SELECT id FROM t")),
+            (2, Ask("SELECT id FROM t")),
+            (2, Take(Make(Row(b"t", 8)))),
+            (2, Take(Status)),
+            (2, Ask("SELECT id FROM t")),
+            (1, GiveUp),
+            (2, Take(Status)),
+            (1, Begin("SELECT id FROM t WHERE id = 1")),
+            (1, GiveUp),
+            (2, Count),
+        ],
+        &[
+            "",
+            "start 1",
+            "rival 1",
+            "commit",
+            "status 3 2 960",
+            "start 2, done 2",
+            "",
+            "status 5 2 832",
+            "start 3",
+            "gone 3 ended",
+            "4 0 3 1 0 1",
+        ],
+    ),
+];
+
+#[test]
+fn each_move_tells_what_it_should(rt: HostRuntime) -> Result<(), Fail> {
+    for (size, unit, moves, wanted) in MOVES {
+        let options = Options {
+            size: *size,
+            limit: 1_048_576,
+            unit: *unit,
+            kind: 1,
+        };
+        let mut all = Vec::new(rt.alloc());
+        all.extend_from_slice(&BASE)?;
+        all.extend_from_slice(moves)?;
+        let told = play_moves(&rt, rt.alloc(), options, all.as_slice()).map_err(|_| "stopped")?;
+        assert!(rt; told.len() == wanted.len() + 4);
+        for (line, wanted) in told.as_slice()[4..].iter().zip(wanted.iter()) {
+            assert!(rt; line.as_str() == *wanted, "{size}: {line} for {wanted}");
+        }
+    }
+    Ok(())
+}
+
+/// Regions of so many bytes, whose chains grow by so many, and how many turns are taken there.
+const REGIONS: &[(u32, u32, u32)] = &[
+    (1024, 512, 500),
+    (2048, 512, 1000),
+    (3072, 512, 1000),
+    (4096, 1024, 1000),
+    (8192, 512, 1000),
+    (8192, 1024, 1000),
+    (16_384, 4096, 1000),
+    (16_384, 512, 1000),
+];
+
+#[test]
+fn random_turns_agree_with_the_plain_server(rt: HostRuntime) -> Result<(), Fail> {
+    for (size, unit, turns) in REGIONS {
+        let options = Options {
+            size: *size,
+            limit: 1_048_576,
+            unit: *unit,
+            kind: 1,
+        };
+        let seed = u64::from(*size) + u64::from(*unit);
+        let found = play_random(&rt, rt.alloc(), options, seed, *turns).map_err(|_| "stopped")?;
+        assert!(rt; found.is_empty(), "{size} {unit}: {found}");
     }
     Ok(())
 }

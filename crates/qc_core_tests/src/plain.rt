@@ -1,0 +1,504 @@
+//! A server as the rules of the cache describe it, in lists alone.
+
+use crate::blocks::Blocks;
+use std::alloc::{AllocError, Global};
+
+/// A SELECT as the model knows it: the tables that it names, and the words of its key.
+#[derive(Clone, Copy, Debug)]
+pub(crate) struct Query<'a> {
+    pub(crate) tables: &'a [u32],
+    pub(crate) key_words: u32,
+}
+
+/// An entry: which SELECT it is of, and the block of its text.
+#[derive(Clone, Copy, Debug)]
+struct PlainEntry {
+    serial: u64,
+    query: usize,
+    complete: bool,
+    text: u32,
+}
+
+/// A task of a seat on the chain of an entry.
+#[derive(Clone, Copy, Debug)]
+struct PlainTask {
+    seat: u32,
+    serial: u64,
+}
+
+/// A block with the serial of its entry, or the number of its table.
+#[derive(Clone, Copy, Debug)]
+struct Owned {
+    owner: u64,
+    block: u32,
+}
+
+/// How many events there are of each kind that counts.
+#[derive(Clone, Copy, Debug, PartialEq, Eq)]
+pub(crate) struct Counts {
+    pub(crate) com_select: u64,
+    pub(crate) hits: u64,
+    pub(crate) inserts: u64,
+    pub(crate) not_cached: u64,
+    pub(crate) lowmem_prunes: u64,
+}
+
+/// What a SELECT comes to.
+#[derive(Clone, Copy, Debug, PartialEq, Eq)]
+pub(crate) enum Choice {
+    Hit,
+    Start,
+    Plain,
+}
+
+/// The server: entries from the least to the most recently used one, the blocks of tables and of chains, the tasks, and the events in words since the last
+/// look.
+#[derive(Drop)]
+pub(crate) struct Plain<'a> {
+    alloc: Global,
+    queries: &'a [Query<'a>],
+    unit: u32,
+    blocks: Blocks,
+    entries: Vec<PlainEntry>,
+    tables: Vec<Owned>,
+    chains: Vec<Owned>,
+    tasks: Vec<PlainTask>,
+    counts: Counts,
+    lines: String,
+}
+
+impl<'a> Plain<'a> {
+    /// A server with a region of so many words, whose chains grow by so many, and nothing in it.
+    pub(crate) fn new(
+        alloc: Global,
+        queries: &'a [Query<'a>],
+        words: u32,
+        unit: u32,
+    ) -> Result<Plain<'a>, AllocError> {
+        Ok(Plain {
+            alloc,
+            queries,
+            unit,
+            blocks: Blocks::new(alloc, words)?,
+            entries: Vec::new(alloc),
+            tables: Vec::new(alloc),
+            chains: Vec::new(alloc),
+            tasks: Vec::new(alloc),
+            counts: Counts {
+                com_select: 0,
+                hits: 0,
+                inserts: 0,
+                not_cached: 0,
+                lowmem_prunes: 0,
+            },
+            lines: String::new(alloc),
+        })
+    }
+
+    /// Puts an event down.
+    fn tell(&mut self, line: &str) -> Result<(), AllocError> {
+        if !self.lines.is_empty() {
+            self.lines.push_str(", ")?;
+        }
+        self.lines.push_str(line)
+    }
+
+    /// The events in words since the last call of this.
+    pub(crate) fn take_lines(&mut self) -> String {
+        let alloc = self.alloc;
+        std::mem::replace(&mut self.lines, String::new(alloc))
+    }
+
+    pub(crate) fn counts(&self) -> Counts {
+        self.counts
+    }
+
+    pub(crate) fn entries(&self) -> u64 {
+        self.entries.len() as u64
+    }
+
+    /// The blocks, the free ones, and the words of these.
+    pub(crate) fn totals(&self) -> (u32, u32, u32) {
+        self.blocks.totals()
+    }
+
+    /// Whether there is an entry with this serial, and whether it is complete.
+    pub(crate) fn entry(&self, serial: u64) -> Option<bool> {
+        for entry in self.entries.as_slice() {
+            if entry.serial == serial {
+                return Some(entry.complete);
+            }
+        }
+        None
+    }
+
+    /// The tables of a SELECT.
+    fn tables_of(&self, query: usize) -> &'a [u32] {
+        match self.queries.get(query) {
+            Some(query) => query.tables,
+            None => &[],
+        }
+    }
+
+    fn is_used(&self, serial: u64) -> bool {
+        self.tasks.as_slice().iter().any(|task| task.serial == serial)
+    }
+
+    /// Whether an entry names a table.
+    fn is_named(&self, table: u32) -> bool {
+        for entry in self.entries.as_slice() {
+            if self.tables_of(entry.query).contains(&table) {
+                return true;
+            }
+        }
+        false
+    }
+
+    /// Gives the blocks of tables back that no entry names, but for these.
+    fn sweep_tables(&mut self, kept: &[u32]) -> Result<(), AllocError> {
+        let mut left = Vec::new(self.alloc);
+        let mut gone = Vec::new(self.alloc);
+        for table in self.tables.as_slice() {
+            let number = table.owner as u32;
+            if kept.contains(&number) || self.is_named(number) {
+                left.push(*table)?;
+            } else {
+                gone.push(table.block)?;
+            }
+        }
+        self.tables = left;
+        for block in gone.as_slice() {
+            self.blocks.give_back(*block)?;
+        }
+        Ok(())
+    }
+
+    /// Gives the blocks of chains back that no entry has and no task is on.
+    fn sweep_chains(&mut self) -> Result<(), AllocError> {
+        let mut left = Vec::new(self.alloc);
+        let mut gone = Vec::new(self.alloc);
+        for part in self.chains.as_slice() {
+            if self.entry(part.owner).is_some() || self.is_used(part.owner) {
+                left.push(*part)?;
+            } else {
+                gone.push(part.block)?;
+            }
+        }
+        self.chains = left;
+        for block in gone.as_slice() {
+            self.blocks.give_back(*block)?;
+        }
+        Ok(())
+    }
+
+    /// Takes an entry out, and gives back what nothing else needs. The blocks of these tables stay.
+    fn drop_entry(&mut self, serial: u64, kept: &[u32]) -> Result<(), AllocError> {
+        let mut left = Vec::new(self.alloc);
+        let mut text = 0;
+        for entry in self.entries.as_slice() {
+            if entry.serial == serial {
+                text = entry.text;
+            } else {
+                left.push(*entry)?;
+            }
+        }
+        self.entries = left;
+        self.blocks.give_back(text)?;
+        self.sweep_tables(kept)?;
+        self.sweep_chains()
+    }
+
+    /// The serial of the least recently used entry that is complete and that no task is on.
+    fn oldest_idle(&self) -> Option<u64> {
+        for entry in self.entries.as_slice() {
+            if entry.complete && !self.is_used(entry.serial) {
+                return Some(entry.serial);
+            }
+        }
+        None
+    }
+
+    /// Prunes until a free block holds the need, and takes it, or finds that none is left to prune. The blocks of these tables stay.
+    fn allocate(&mut self, need: u32, kept: &[u32]) -> Result<Option<u32>, AllocError> {
+        for _ in 0..10_000 {
+            if let Some(block) = self.blocks.take(need)? {
+                return Ok(Some(block));
+            }
+            let Some(serial) = self.oldest_idle() else {
+                return Ok(None);
+            };
+            let largest = self.blocks.largest();
+            self.drop_entry(serial, kept)?;
+            self.counts.lowmem_prunes = self.counts.lowmem_prunes.wrapping_add(1);
+            let line = format!(in self.alloc; "prune {serial} {need} {largest}")?;
+            self.tell(&line)?;
+        }
+        Ok(None)
+    }
+
+    fn has_table(&self, table: u32) -> bool {
+        self.tables
+            .as_slice()
+            .iter()
+            .any(|owned| owned.owner == u64::from(table))
+    }
+
+    /// Takes the blocks of a start: the first of its chain, and its text's. Where one can't be had, nothing but the need, and the largest free block then.
+    fn allocate_all(
+        &mut self,
+        query: Query<'a>,
+    ) -> Result<Result<(u32, u32), (u32, u32)>, AllocError> {
+        for table in query.tables {
+            if !self.has_table(*table) {
+                match self.allocate(64, query.tables)? {
+                    Some(block) => self.tables.push(Owned {
+                        owner: u64::from(*table),
+                        block,
+                    })?,
+                    None => return Ok(Err((64, self.blocks.largest()))),
+                }
+            }
+        }
+        let unit = self.unit;
+        let Some(first) = self.allocate(unit, query.tables)? else {
+            return Ok(Err((unit, self.blocks.largest())));
+        };
+        let need = query.key_words.max(64);
+        match self.allocate(need, query.tables)? {
+            Some(text) => Ok(Ok((first, text))),
+            None => {
+                let largest = self.blocks.largest();
+                self.blocks.give_back(first)?;
+                Ok(Err((need, largest)))
+            }
+        }
+    }
+
+    /// The entry of a SELECT, if any.
+    fn entry_of(&self, query: usize) -> Option<PlainEntry> {
+        for entry in self.entries.as_slice() {
+            if entry.query == query {
+                return Some(*entry);
+            }
+        }
+        None
+    }
+
+    /// A seat sends a SELECT of which the cache is asked.
+    pub(crate) fn select(&mut self, seat: u32, query: usize) -> Result<Choice, AllocError> {
+        match self.entry_of(query) {
+            Some(entry) if entry.complete => self.hit(seat, entry.serial),
+            Some(entry) => {
+                let line = format!(in self.alloc; "rival {}", entry.serial)?;
+                self.run_plain(&line)
+            }
+            None => self.start(seat, query),
+        }
+    }
+
+    fn run_plain(&mut self, line: &str) -> Result<Choice, AllocError> {
+        self.counts.com_select = self.counts.com_select.wrapping_add(1);
+        self.counts.not_cached = self.counts.not_cached.wrapping_add(1);
+        self.tell(line)?;
+        Ok(Choice::Plain)
+    }
+
+    fn hit(&mut self, seat: u32, serial: u64) -> Result<Choice, AllocError> {
+        self.touch(serial)?;
+        self.tasks.push(PlainTask { seat, serial })?;
+        self.pin(serial, true);
+        self.counts.hits = self.counts.hits.wrapping_add(1);
+        let line = format!(in self.alloc; "hit {serial}")?;
+        self.tell(&line)?;
+        Ok(Choice::Hit)
+    }
+
+    fn start(&mut self, seat: u32, query: usize) -> Result<Choice, AllocError> {
+        let Some(asked) = self.queries.get(query).copied() else {
+            return Ok(Choice::Plain);
+        };
+        match self.allocate_all(asked)? {
+            Ok((first, text)) => {
+                self.counts.com_select = self.counts.com_select.wrapping_add(1);
+                self.counts.inserts = self.counts.inserts.wrapping_add(1);
+                let serial = self.counts.inserts;
+                self.entries.push(PlainEntry {
+                    serial,
+                    query,
+                    complete: false,
+                    text,
+                })?;
+                self.chains.push(Owned {
+                    owner: serial,
+                    block: first,
+                })?;
+                self.tasks.push(PlainTask { seat, serial })?;
+                self.pin(serial, true);
+                let line = format!(in self.alloc; "start {serial}")?;
+                self.tell(&line)?;
+                Ok(Choice::Start)
+            }
+            Err((need, largest)) => {
+                self.sweep_tables(&[])?;
+                let line = format!(in self.alloc; "noroom {need} {largest}")?;
+                self.run_plain(&line)
+            }
+        }
+    }
+
+    /// Pins or unpins the blocks of a chain.
+    fn pin(&mut self, serial: u64, pinned: bool) {
+        for part in self.chains.as_slice() {
+            if part.owner == serial {
+                self.blocks.pin(part.block, pinned);
+            }
+        }
+    }
+
+    /// Makes an entry the most recently used one.
+    fn touch(&mut self, serial: u64) -> Result<(), AllocError> {
+        let mut left = Vec::new(self.alloc);
+        let mut last = None;
+        for entry in self.entries.as_slice() {
+            if entry.serial == serial {
+                last = Some(*entry);
+            } else {
+                left.push(*entry)?;
+            }
+        }
+        if let Some(entry) = last {
+            left.push(entry)?;
+        }
+        self.entries = left;
+        Ok(())
+    }
+
+    /// The seat has no task any more.
+    pub(crate) fn rest(&mut self, seat: u32) -> Result<(), AllocError> {
+        let mut left = Vec::new(self.alloc);
+        let mut ended = None;
+        for task in self.tasks.as_slice() {
+            if task.seat == seat {
+                ended = Some(task.serial);
+            } else {
+                left.push(*task)?;
+            }
+        }
+        self.tasks = left;
+        if let Some(serial) = ended {
+            if !self.is_used(serial) {
+                self.pin(serial, false);
+            }
+        }
+        self.sweep_chains()
+    }
+
+    /// The serial that a seat streams or fills.
+    pub(crate) fn task(&self, seat: u32) -> Option<u64> {
+        for task in self.tasks.as_slice() {
+            if task.seat == seat {
+                return Some(task.serial);
+            }
+        }
+        None
+    }
+
+    /// The seat has filled its entry with so many bytes, which its one block holds.
+    pub(crate) fn done(&mut self, seat: u32, bytes: u32) -> Result<(), AllocError> {
+        let Some(serial) = self.task(seat) else {
+            return Ok(());
+        };
+        if self.entry(serial).is_none() {
+            return self.rest(seat);
+        }
+        self.rest(seat)?;
+        let mut last = 0;
+        for part in self.chains.as_slice() {
+            if part.owner == serial {
+                last = part.block;
+            }
+        }
+        self.blocks.trim(last, bytes.div_ceil(8))?;
+        self.complete(serial)?;
+        self.touch(serial)?;
+        let line = format!(in self.alloc; "done {serial}")?;
+        self.tell(&line)
+    }
+
+    fn complete(&mut self, serial: u64) -> Result<(), AllocError> {
+        let mut all = Vec::new(self.alloc);
+        for entry in self.entries.as_slice() {
+            let mut entry = *entry;
+            if entry.serial == serial {
+                entry.complete = true;
+            }
+            all.push(entry)?;
+        }
+        self.entries = all;
+        Ok(())
+    }
+
+    /// The seat gives its fill up.
+    pub(crate) fn gone(&mut self, seat: u32) -> Result<(), AllocError> {
+        let Some(serial) = self.task(seat) else {
+            return Ok(());
+        };
+        let there = self.entry(serial).is_some();
+        if there {
+            self.drop_entry(serial, &[])?;
+        }
+        self.rest(seat)?;
+        if there {
+            let line = format!(in self.alloc; "gone {serial} ended")?;
+            self.tell(&line)?;
+        }
+        Ok(())
+    }
+
+    /// A commit on one table.
+    pub(crate) fn commit(&mut self, table: u32) -> Result<(), AllocError> {
+        for _ in 0..10_000 {
+            match self.first_on(table) {
+                Some(serial) => self.drop_entry(serial, &[])?,
+                None => break,
+            }
+        }
+        self.tell("commit")
+    }
+
+    fn first_on(&self, table: u32) -> Option<u64> {
+        for entry in self.entries.as_slice() {
+            if self.tables_of(entry.query).contains(&table) {
+                return Some(entry.serial);
+            }
+        }
+        None
+    }
+
+    /// All entries leave.
+    pub(crate) fn reset(&mut self) -> Result<(), AllocError> {
+        for _ in 0..10_000 {
+            match self.entries.as_slice().first() {
+                Some(entry) => {
+                    let serial = entry.serial;
+                    self.drop_entry(serial, &[])?;
+                }
+                None => break,
+            }
+        }
+        self.tell("reset")
+    }
+
+    /// Blocks move down.
+    pub(crate) fn flush(&mut self) -> Result<(), AllocError> {
+        self.blocks.compact()?;
+        self.tell("flush")
+    }
+
+    /// The totals are told.
+    pub(crate) fn status(&mut self) -> Result<(), AllocError> {
+        let (all, free, words) = self.totals();
+        let line = format!(in self.alloc; "status {all} {free} {words}")?;
+        self.tell(&line)
+    }
+}
