@@ -1,0 +1,6 @@
+pub mod Calls
+pub mod Told
+pub mod Sizes
+pub mod Trimmed
+pub mod Packets
+pub mod Values
