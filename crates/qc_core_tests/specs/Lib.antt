@@ -1,1 +1,3 @@
 pub mod Seats
+pub mod Selects
+pub mod Fillings

@@ -1,5 +1,6 @@
 -- What a seat of the tests knows between two calls, and while it holds the turn.
-use Rattle.std.specs.Prelude.{◌≡◌, false, Option, List, [], ◌++◌}
+use Rattle.std.specs.Prelude.{◌≡◌, ℕ, ◌*◌, ◌≤◌, true, false, None, Option, List, [], ◌∷◌, ◌++◌, Some}
+use Rattle.std.specs.List.{concat}
 use Rattle.qc_model.specs.declared.events.Event.{Event}
 use Rattle.qc_model.specs.declared.events.Who.{Who}
 use Rattle.qc_turn.specs.declared.seat.Seat.{Seat}
@@ -7,8 +8,17 @@ use Rattle.qc_turn.specs.declared.turn.Turn.{Turn}
 use Rattle.qc_turn.specs.declared.task.Task.TheVariants as task
 use Rattle.qc_turn.specs.declared.view.MetSeat.{MetSeat}
 use Rattle.qc_turn.specs.Seats.{Held, IsSeatOf, MayRelease, holder, view}
-use Rattle.qc_turn.specs.Tasks.{listed_for}
+use Rattle.qc_turn.specs.Tasks.{listed_for, own, is_stream}
+use Rattle.qc_turn.specs.declared.task.Task.{Task}
 use Rattle.qc_turn.specs.Views.{AllMet}
+use Rattle.qc_turn.specs.Words.{word_seats}
+use Rattle.qc_laws.specs.history.Answers.{CanBeKeyed}
+use Rattle.qc_laws.specs.sizes.Names.{is_short}
+use Rattle.qc_model.specs.Journal.{Journal, present}
+use Rattle.qc_model.specs.Session.{answer_packets}
+use Rattle.qc_laws.specs.history.Runs.{IsStarted}
+use Rattle.qc_sound.specs.Sound.{FitsFill}
+use Rattle.qc_trx.specs.SnapshotStates.{SnapshotState}
 use Rattle.qc_core.specs.contracts.server.ServerKept.TheImpl.{ghosts}
 use Rattle.qc_core.specs.declared.parts.Parts.{Parts}
 use Rattle.qc_core.specs.Calls.{HasSpare, IsNext, Rests}
@@ -46,6 +56,7 @@ pub record IsSameHolder (h k : Held Parts Event ghosts) : Type 0 where
   pub number : (holder k).number ≡ (holder h).number
   pub registry : (holder k).registry ≡ (holder h).registry
   pub word_set : (holder k).word_set ≡ (holder h).word_set
+  pub task : (holder k).task ≡ (holder h).task
 
 -- no task is its own but perhaps a stream that it has ended
 pub record IsIdle (h : Held Parts Event ghosts) : Type 0 where
@@ -64,3 +75,49 @@ pub record IsReady (who : Who) (h : Held Parts Event ghosts) : Type 0 where
   pub rest : MayRest h
   pub next : IsNext h who
   pub room : HasSpare h.value
+
+-- ---- a SELECT
+
+-- The state of a session has no transaction, and it may stand in a key.
+pub record IsPlain (s : SnapshotState) : Type 0 where
+  pub keyed : CanBeKeyed s.state
+  pub short : is_short s.state.db ≡ true
+  pub closed : s.state.transaction ≡ None
+
+-- its ranges have room for each chain
+abbrev pub HasRoom : Held Parts Event ghosts → Type 0
+HasRoom h = h.value.options.size ≤ 512 * h.ranges.room
+
+-- a SELECT may come
+pub record MayAskNow (who : Who) (h : Held Parts Event ghosts) : Type 0 where
+  pub ready : IsReady who h
+  pub few : (holder h).number ≤ word_seats
+  pub rested : (holder h).task ≡ task.Rest
+  pub room : HasRoom h
+
+-- no bytes fit a fill, for it was started
+abbrev pub MayBegin : Task → Journal → Type 0
+MayBegin (task.Fill n) journal = FitsFill journal n []
+MayBegin _ journal = Unit {0}
+
+-- the seat rested when it took the turn, and may give it back with this task
+pub record MayEnd (t : Task) (h : Held Parts Event ghosts) : Type 0 where
+  pub stands : MayRelease h
+  pub unset : (holder h).word_set ≡ false
+  pub few : (holder h).number ≤ word_seats
+  pub rested : (holder h).task ≡ task.Rest
+  pub listed : listed_for (holder h).number (tasks_of h.value) ≡ own (holder h).number t h.ranges.blocks
+  pub begins : MayBegin t h.value.journal.events
+
+-- ---- a fill
+
+-- the reply is the answer that the entry had at its start, packet by packet
+pub record Answers (serial : ℕ) (reply : List ℕ) (journal : Journal) : Type 0 where
+  pub start : IsStarted journal serial
+  pub packets : List (List ℕ)
+  pub answered : answer_packets start.key (present start.earlier) ≡ Some packets
+  pub spells : reply ≡ concat packets
+
+abbrev pub AnswersFill : Task → List ℕ → Journal → Type 0
+AnswersFill (task.Fill n) reply journal = Answers n reply journal
+AnswersFill _ reply journal = Unit {0}

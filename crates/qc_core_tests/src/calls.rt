@@ -2,7 +2,7 @@
 
 ghost use Rattle.std.specs.Prelude.{◌≡◌};
 ghost use Rattle.qc_turn.specs.Seats.{IsSeatOf, holder, view};
-ghost use Rattle.qc_core_tests.specs.Seats.{IsIdle, IsResting, IsSame, IsSameHolder, MayRest};
+ghost use Rattle.qc_core_tests.specs.Seats.{IsIdle, IsResting, IsSame, IsSameHolder, MayEnd, MayRest};
 
 use crate::changes::Change;
 use crate::holding::{change, compact, empty, join, part, pass, show};
@@ -69,6 +69,15 @@ pub(crate) fn give_back(held: Held<'_, Server>)
     ensures rests { IsResting held.entry.turn.now held.exit.1.0.now }
 {
     held.release(Task::Rest);
+}
+
+/// Gives the turn back, with this task.
+pub(crate) fn end_with(held: Held<'_, Server>, task: Task)
+    requires { MayEnd task held }
+    ensures seated { IsSeatOf held.entry.turn.now held.exit.1.0.now }
+    ensures view { ((view held.exit.1.0.now).number ≡ (holder held.entry).number) × ((view held.exit.1.0.now).registry ≡ (holder held.entry).registry) }
+{
+    held.release(task);
 }
 
 /// Takes the turn for a step, and tells the events that came of it.

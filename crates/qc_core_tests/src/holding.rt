@@ -1,15 +1,17 @@
 //! What a seat does under the turn.
 
-ghost use Rattle.std.specs.Prelude.{◌≡◌, true, [], ◌∷◌, IfOk};
+ghost use Rattle.std.specs.Prelude.{◌≡◌, ◌≤◌, true, [], ◌∷◌, IfOk, OnOk};
 ghost use Rattle.qc_model.specs.Licence.{op_fits};
 ghost use Rattle.qc_sound.specs.Events.{is_small_operation};
+ghost use Rattle.qc_turn.specs.Seats.{holder};
+ghost use Rattle.qc_turn.specs.Words.{word_seats};
 ghost use Rattle.qc_core.specs.Calls.{IsNoted};
 ghost use Rattle.qc_core_tests.specs.Seats.{IsIdle, IsReady, MayRest, IsSameHolder};
 
 use crate::changes::{Change, change_on};
 use crate::stop::Stop;
-use qc_core::{Server, commit, enter, flush, gone, leave, note, reserve, reset, status};
-use qc_model::events::{GoneWhy, How, Who};
+use qc_core::{Server, commit, enter, flush, leave, note, reserve, reset, status};
+use qc_model::events::{How, Who};
 use qc_sql::tables::{Ops, RowOp};
 use qc_turn::Held;
 use qc_types::NoMemory;
@@ -20,6 +22,7 @@ pub(crate) fn prepare(held: &mut Held<'_, Server>) -> Result<Who, Stop>
     requires { IsIdle held.old }
     ensures rest { MayRest held.new × IsSameHolder held.old held.new }
     ensures ready { IfOk result (λ who. IsReady who held.new) }
+    ensures few { OnOk result ((holder held.new).number ≤ word_seats) }
 {
     reserve(held)?;
     let seat = held.number();
@@ -156,10 +159,4 @@ fn commit_one(held: &mut Held<'_, Server>, alloc: Global, who: Who, op: RowOp) -
         Ok(_) => Ok(()),
         Err(_) => Err(Stop::Change),
     }
-}
-
-/// Gives the seat's fill up.
-pub(crate) fn give_up(held: &mut Held<'_, Server>, serial: u64) -> Result<(), Stop> {
-    let _ = gone(held, serial, GoneWhy::Ended);
-    Ok(())
 }

@@ -4,6 +4,7 @@
 mod blocks;
 mod calls;
 mod changes;
+mod fills;
 mod hall;
 mod holding;
 mod lines;
@@ -12,5 +13,6 @@ mod plain;
 mod selects;
 mod stop;
 mod turns;
+mod whole;
 #[cfg(test)]
 mod tests;

@@ -1,12 +1,20 @@
 //! Steps of two seats that may keep a stream or a fill between them.
 
-use crate::calls::{Step, give_back, make};
+ghost use Rattle.std.specs.Prelude.{◌≡◌, ◌<◌, ◌≤◌};
+ghost use Rattle.qc_turn.specs.Seats.{IsSeatOf, view};
+ghost use Rattle.qc_turn.specs.declared.task.Task.TheVariants as task;
+ghost use Rattle.qc_turn.specs.Words.{last_seat};
+ghost use Rattle.qc_core_tests.specs.Seats.{IsFirst, IsResting, IsSame, MeetsAll};
+
+use crate::calls::{Step, end_with, give_back, take_turn};
+use crate::fills::{give_up, settle, stop_streaming, streams};
 use crate::hall::open;
-use crate::holding::give_up;
 use crate::lines::lines_from;
 use crate::selects::{Outcome, select};
 use crate::stop::Stop;
+use crate::whole::fill_whole;
 use qc_core::Server;
+use qc_flow::Fill;
 use qc_model::events::Counters;
 use qc_turn::{Held, Seat, Task, Turn};
 use qc_types::{NoMemory, Options, Steps, Text};
@@ -32,68 +40,98 @@ pub(crate) enum Move<'a> {
     Count,
 }
 
-/// Takes a step under the turn.
-fn step_told<R: Wait>(
-    rt: &R,
-    alloc: Global,
-    turn: &Turn<Server>,
-    seat: &mut Seat<Server>,
-    step: Step<'_>,
-) -> Result<String, Stop> {
-    let mut held = turn.take(rt, seat);
-    let first = held.value().journal().len();
-    let made = make(&mut held, alloc, step);
-    let told = lines_from(alloc, held.value().journal(), first);
-    give_back(held);
-    made?;
-    Ok(told?)
-}
-
-/// A SELECT.
-pub(crate) fn select_told<R: Wait, L: Ledger>(
+/// A SELECT. Where it begins an entry, its fill stays open. Its reply is kept.
+fn begin_told<R: Wait, L: Ledger>(
     rt: &R,
     alloc: Global,
     turn: &Turn<Server>,
     seat: &mut Seat<Server>,
     text: &[u8],
-    fill: bool,
     kept: &mut Text,
     steps: &mut Steps<L>,
-) -> Result<String, Stop> {
+) -> Result<String, Stop>
+    requires { IsResting turn.now seat.old }
+    ensures { IsSeatOf turn.now seat.new × IsSame seat.old seat.new }
+{
     let mut held = turn.take(rt, seat);
     let first = held.value().journal().len();
-    let done = select(&mut held, alloc, text, fill, steps);
+    let done = select(&mut held, alloc, text, steps);
     let told = lines_from(alloc, held.value().journal(), first);
     match done {
         Ok(Outcome { task, reply }) => {
             *kept = reply;
-            held.release(task);
+            end_with(held, task);
             Ok(told?)
         }
         Err(stop) => {
-            held.release(Task::Rest);
+            give_back(held);
             Err(stop)
         }
     }
 }
 
-/// Whether the words that the seat streams begin with these bytes.
-pub(crate) fn streams(turn: &Turn<Server>, seat: &mut Seat<Server>, wanted: &[u8]) -> bool {
-    for (index, byte) in wanted.iter().enumerate() {
-        let word = (index / 8) as u32;
-        if word >= seat.words() {
-            return false;
-        }
-        let found = seat.load_streamed(turn, word);
-        if (found >> (8 * (index % 8) as u32)) % 256 != u64::from(*byte) {
-            return false;
-        }
-    }
-    true
+/// A SELECT. Where it begins an entry, that is filled.
+pub(crate) fn ask_told<R: Wait, L: Ledger>(
+    rt: &R,
+    alloc: Global,
+    turn: &Turn<Server>,
+    seat: &mut Seat<Server>,
+    text: &[u8],
+    kept: &mut Text,
+    steps: &mut Steps<L>,
+) -> Result<String, Stop>
+    requires { IsResting turn.now seat.old }
+    ensures { IsSeatOf turn.now seat.new × IsSame seat.old seat.new }
+{
+    let mut held = turn.take(rt, seat);
+    let options = held.value().options();
+    let first = held.value().journal().len();
+    let done = select(&mut held, alloc, text, steps);
+    let told = lines_from(alloc, held.value().journal(), first);
+    let Ok(Outcome { task, reply }) = done else {
+        give_back(held);
+        return Err(Stop::Text);
+    };
+    let next = held.value().journal().len();
+    end_with(held, task);
+    let Task::Fill(serial) = task else {
+        *kept = reply;
+        return Ok(told?);
+    };
+    fill_whole(rt, turn, seat, Fill::of(serial, &options), reply.bytes())?;
+    *kept = reply;
+    let more = rest_told(rt, alloc, turn, seat, next)?;
+    let told = told?;
+    Ok(format!(in alloc; "{told}, {more}")?)
+}
+
+/// The events behind the first so many, in words.
+fn rest_told<R: Wait>(
+    rt: &R,
+    alloc: Global,
+    turn: &Turn<Server>,
+    seat: &mut Seat<Server>,
+    first: u64,
+) -> Result<String, AllocError>
+    requires { IsResting turn.now seat.old }
+    ensures { IsResting turn.now seat.new × IsSame seat.old seat.new }
+{
+    let mut held = turn.take(rt, seat);
+    let told = lines_from(alloc, held.value().journal(), first);
+    give_back(held);
+    told
 }
 
 /// The counters in words: Com_select, hits, inserts, not cached, prunes, and entries.
-fn counted<R: Wait>(rt: &R, alloc: Global, turn: &Turn<Server>, seat: &mut Seat<Server>) -> Result<String, Stop> {
+fn counted<R: Wait>(
+    rt: &R,
+    alloc: Global,
+    turn: &Turn<Server>,
+    seat: &mut Seat<Server>,
+) -> Result<String, Stop>
+    requires { IsResting turn.now seat.old }
+    ensures { IsResting turn.now seat.new × IsSame seat.old seat.new }
+{
     let mut held = turn.take(rt, seat);
     let Counters {
         com_select,
@@ -107,21 +145,20 @@ fn counted<R: Wait>(rt: &R, alloc: Global, turn: &Turn<Server>, seat: &mut Seat<
     Ok(format!(in alloc; "{com_select} {hits} {inserts} {not_cached} {lowmem_prunes} {queries_in_cache}")?)
 }
 
-/// Gives up what the seat fills.
-pub(crate) fn give_up_told<R: Wait>(
-    rt: &R,
+/// Ends a stream, and tells whether it had the bytes that the SELECT answered.
+fn end_told(
     alloc: Global,
     turn: &Turn<Server>,
     seat: &mut Seat<Server>,
-    serial: u64,
-) -> Result<String, Stop> {
-    let mut held = turn.take(rt, seat);
-    let first = held.value().journal().len();
-    let gone = give_up(&mut held, serial);
-    let told = lines_from(alloc, held.value().journal(), first);
-    held.release(Task::Rest);
-    gone?;
-    Ok(told?)
+    kept: &[u8],
+) -> Result<String, Stop>
+    requires seated { IsSeatOf turn.now seat.old }
+    requires streams { (serial : _) × ((view seat.old).task ≡ task.Stream serial) }
+    ensures { IsResting turn.now seat.new × IsSame seat.old seat.new }
+{
+    let whole = streams(turn, seat, kept);
+    stop_streaming(turn, seat);
+    Ok(String::from_str(alloc, if whole { "whole" } else { "other bytes" })?)
 }
 
 /// What a move tells.
@@ -133,26 +170,46 @@ fn move_told<R: Wait, L: Ledger>(
     next: Move<'_>,
     kept: &mut Text,
     steps: &mut Steps<L>,
-) -> Result<String, Stop> {
-    match (seat.task(), next) {
-        (Task::Rest, Move::Take(step)) => step_told(rt, alloc, turn, seat, step),
-        (Task::Rest, Move::Ask(text)) => {
-            select_told(rt, alloc, turn, seat, text.as_bytes(), true, kept, steps)
-        }
-        (Task::Rest, Move::Begin(text)) => {
-            select_told(rt, alloc, turn, seat, text.as_bytes(), false, kept, steps)
-        }
-        (Task::Rest, Move::Count) => counted(rt, alloc, turn, seat),
-        (Task::Stream(_), Move::End) => {
-            let whole = streams(turn, seat, kept.bytes());
-            seat.clear_stream(turn);
-            Ok(String::from_str(alloc, if whole { "whole" } else { "other bytes" })?)
-        }
-        (Task::Fill(serial), Move::GiveUp) => give_up_told(rt, alloc, turn, seat, serial),
-        _ => Err(Stop::Task),
+) -> Result<String, Stop>
+    requires { IsSeatOf turn.now seat.old }
+    ensures { IsSeatOf turn.now seat.new × IsSame seat.old seat.new }
+{
+    match seat.task() {
+        Task::Rest => resting_told(rt, alloc, turn, seat, next, kept, steps),
+        Task::Stream(_) => match next {
+            Move::End => end_told(alloc, turn, seat, kept.bytes()),
+            _ => Err(Stop::Task),
+        },
+        Task::Fill(serial) => match next {
+            Move::GiveUp => Ok(give_up(rt, alloc, turn, seat, serial)?),
+            _ => Err(Stop::Task),
+        },
     }
 }
 
+/// What a move of a seat tells that rests.
+fn resting_told<R: Wait, L: Ledger>(
+    rt: &R,
+    alloc: Global,
+    turn: &Turn<Server>,
+    seat: &mut Seat<Server>,
+    next: Move<'_>,
+    kept: &mut Text,
+    steps: &mut Steps<L>,
+) -> Result<String, Stop>
+    requires { IsResting turn.now seat.old }
+    ensures { IsSeatOf turn.now seat.new × IsSame seat.old seat.new }
+{
+    match next {
+        Move::Take(step) => take_turn(rt, alloc, turn, seat, step),
+        Move::Ask(text) => ask_told(rt, alloc, turn, seat, text.as_bytes(), kept, steps),
+        Move::Begin(text) => begin_told(rt, alloc, turn, seat, text.as_bytes(), kept, steps),
+        Move::Count => counted(rt, alloc, turn, seat),
+        Move::End | Move::GiveUp => Err(Stop::Task),
+    }
+}
+
+/// What each of these moves tells, each of the first seat or of the second one.
 fn play<R: Wait, L: Ledger>(
     rt: &R,
     alloc: Global,
@@ -160,34 +217,52 @@ fn play<R: Wait, L: Ledger>(
     first: &mut Seat<Server>,
     second: &mut Seat<Server>,
     moves: &[(u32, Move<'_>)],
-    blank: Blank,
-) -> Result<Vec<String>, Stop> {
-    let mut steps = Steps::<L>::new(blank);
+    steps: &mut Steps<L>,
+) -> Result<Vec<String>, Stop>
+    requires { IsSeatOf turn.now first.old × IsSeatOf turn.now second.old }
+    ensures first { IsSeatOf turn.now first.new × IsSame first.old first.new }
+    ensures second { IsSeatOf turn.now second.new × IsSame second.old second.new }
+{
     let mut one = Text::of(alloc, b"")?;
     let mut two = Text::of(alloc, b"")?;
     let mut told = Vec::new(alloc);
-    for (number, next) in moves {
-        let line = if *number == 1 {
-            move_told(rt, alloc, turn, first, *next, &mut one, &mut steps)?
+    for next in moves {
+        let (number, next) = *next;
+        let line = if number == 1 {
+            move_told(rt, alloc, turn, first, next, &mut one, steps)?
         } else {
-            move_told(rt, alloc, turn, second, *next, &mut two, &mut steps)?
+            move_told(rt, alloc, turn, second, next, &mut two, steps)?
         };
         told.push(line)?;
     }
     Ok(told)
 }
 
-/// Ends what a seat does.
-pub(crate) fn settle<R: Wait>(rt: &R, turn: &Turn<Server>, seat: &mut Seat<Server>) {
-    match seat.task() {
-        Task::Rest => {}
-        Task::Stream(_) => seat.clear_stream(turn),
-        Task::Fill(serial) => {
-            let mut held = turn.take(rt, seat);
-            let _ = give_up(&mut held, serial);
-            held.release(Task::Rest);
-        }
-    }
+/// The same with a second seat of its own. Both have room for so many blocks.
+fn play_beside<R: Wait, L: Ledger>(
+    rt: &R,
+    alloc: Global,
+    turn: &Turn<Server>,
+    first: &mut Seat<Server>,
+    room: u32,
+    moves: &[(u32, Move<'_>)],
+    steps: &mut Steps<L>,
+) -> Result<Vec<String>, Stop>
+    requires first { IsFirst turn.now first.old }
+    requires few { first.old.made < last_seat }
+    ensures first { IsFirst turn.now first.new }
+    ensures met { MeetsAll (view first.old).registry (view first.new).registry }
+{
+    let Ok(mut second) = first.split(alloc, turn) else {
+        return Err(Stop::Memory);
+    };
+    let _ = first.with_room(alloc, room);
+    let _ = second.with_room(alloc, room);
+    let told = play(rt, alloc, turn, first, &mut second, moves, steps);
+    settle(rt, alloc, turn, first);
+    settle(rt, alloc, turn, &mut second);
+    first.meet(turn, second);
+    told
 }
 
 /// What each of these moves tells on a server with these options.
@@ -197,18 +272,24 @@ pub(crate) fn play_moves<R: Wait>(
     options: Options,
     moves: &[(u32, Move<'_>)],
 ) -> Result<Vec<String>, Stop> {
+    play_moves_by::<R, Brand>(rt, alloc, options, moves, Blank::new(1))
+}
+
+/// The same, with the steps counted on this ledger.
+fn play_moves_by<R: Wait, L: Ledger>(
+    rt: &R,
+    alloc: Global,
+    options: Options,
+    moves: &[(u32, Move<'_>)],
+    blank: Blank,
+) -> Result<Vec<String>, Stop>
+    requires name { blank.name ≡ L.name }
+    requires parts { blank.parts ≡ L.parts }
+    requires one { 0 < blank.parts }
+{
+    let mut steps = Steps::<L>::new(blank);
     let (turn, mut first) = open(alloc, options)?;
-    let Ok(mut second) = first.split(alloc, &turn) else {
-        let _server = turn.close(first);
-        return Err(Stop::Memory);
-    };
-    let room = options.size / 512;
-    let _ = first.with_room(alloc, room);
-    let _ = second.with_room(alloc, room);
-    let told = play::<R, Brand>(rt, alloc, &turn, &mut first, &mut second, moves, Blank::new(1));
-    settle(rt, &turn, &mut first);
-    settle(rt, &turn, &mut second);
-    first.meet(&turn, second);
+    let told = play_beside(rt, alloc, &turn, &mut first, options.size / 512, moves, &mut steps);
     let _server = turn.close(first);
     told
 }

@@ -1,15 +1,20 @@
 //! SELECTs, which the cache may answer or keep.
 
-ghost use Rattle.std.specs.Prelude.{◌≡◌, ◌<◌, ◌^◌, true, length, IfOk, IfSome};
+ghost use Rattle.std.specs.Prelude.{◌≡◌, ℕ, ◌<◌, ◌^◌, List, length, true, IfOk, OnErr};
+ghost use Rattle.qc_laws.specs.sizes.Names.{is_short_select};
 ghost use Rattle.qc_laws.specs.history.Answers.{CanBeKeyed};
+ghost use Rattle.qc_turn.specs.Seats.{holder};
+ghost use Rattle.qc_turn.specs.declared.task.Task.TheVariants as task;
 ghost use Rattle.qc_select.specs.Selects.{IsOfText};
-ghost use Rattle.qc_core_tests.specs.Seats.{IsIdle, IsSameHolder, MayEnd, HasRoom};
+ghost use Rattle.qc_core_tests.specs.Selects.{task_after};
+ghost use Rattle.qc_core_tests.specs.Seats.{AnswersFill, HasRoom, IsIdle, IsPlain, IsSameHolder, MayAskNow, MayEnd, MayRest};
 
 use crate::holding::prepare;
 use crate::stop::Stop;
-use qc_core::{Server, done, store_text};
+use qc_core::Server;
 use qc_key::key_bytes;
 use qc_lex::{head, trimmed};
+use qc_model::events::Who;
 use qc_parse::parse;
 use qc_replies::{Answer, answer_select};
 use qc_rules::{Asked, asks};
@@ -38,6 +43,7 @@ pub(crate) struct Outcome {
 
 /// The state of a session in the database d, with no transaction.
 fn state_of(alloc: Global, session: u8) -> Result<SessionState, NoMemory>
+    ensures { IfOk result IsPlain }
 {
     let mut state = SessionState::new(alloc, session, 1);
     state.use_db(Text::of(alloc, b"d")?);
@@ -47,8 +53,9 @@ fn state_of(alloc: Global, session: u8) -> Result<SessionState, NoMemory>
 /// What the cache is asked for a text.
 fn read(alloc: Global, state: &SessionState, text: &[u8]) -> Result<Question, Stop>
     requires keyed { CanBeKeyed state.now.state }
-    requires short { length text.now < 2 ^ 32 }
-    ensures { IfOk result (λ q. IsOfText state.now.state q.key q.select q.asked text.now) }
+    requires within { length text.now < 2 ^ 32 }
+    ensures text { IfOk result (λ q. IsOfText state.now.state q.key q.select q.asked text.now) }
+    ensures short { IfOk result (λ q. is_short_select q.select ≡ true) }
 {
     let text = trimmed(text);
     let flags = state.flags();
@@ -62,62 +69,103 @@ fn read(alloc: Global, state: &SessionState, text: &[u8]) -> Result<Question, St
     })
 }
 
-/// Stores the whole answer of an entry that was begun, and ends its fill.
-fn finish(held: &mut Held<'_, Server>, serial: u64, reply: &[u8]) -> Result<(), Stop> {
-    if held.ranges().blocks() != 1 {
-        return Err(Stop::Blocks);
-    }
-    let block = held.ranges().block(0);
-    if reply.len() > 8 * block.words as usize {
-        return Err(Stop::Blocks);
-    }
-    store_text(held, block, reply);
-    match done(held, serial, reply.len() as u32) {
-        Ok(_) => Ok(()),
-        Err(_) => Err(Stop::Blocks),
-    }
+/// Whether the seat's ranges have room for each chain.
+fn has_room(held: &mut Held<'_, Server>) -> bool
+    ensures room { result ≡ true → HasRoom held.old }
+    ensures same { held.new ≡ held.old }
+{
+    let size = held.value().options().size;
+    u64::from(size) <= 512 * u64::from(held.ranges().room())
 }
 
-/// A SELECT. Where an entry was begun for it and `fill` says so, its answer is stored and its fill ended.
-pub(crate) fn select<L: Ledger>(
+/// What a SELECT answers now.
+fn answer<L: Ledger>(
     held: &mut Held<'_, Server>,
     alloc: Global,
-    text: &[u8],
-    fill: bool,
+    select: &Select,
+    state: &SessionState,
     steps: &mut Steps<L>,
-) -> Result<Outcome, Stop> {
-    let who = prepare(held)?;
-    let state = state_of(alloc, who.session)?;
-    let Question { key, select, asked } = read(alloc, &state, text)?;
+) -> Result<Text, NoMemory>
+    requires stands { MayRest held.old }
+    requires short { is_short_select select.now ≡ true }
+    requires plain { IsPlain state.now }
+    ensures same { held.new ≡ held.old }
+{
     let Answer { error: _, reply } = answer_select(
         alloc,
-        &select,
+        select,
         held.value().database(),
         state.db(),
         &state.flags(),
-        who.session,
+        state.session(),
         steps,
     )?;
-    let selected = run_select(held, alloc, who, key, &select, asked, &state)?;
-    let task = match selected {
+    Ok(reply)
+}
+
+/// The task that a decided SELECT leaves.
+fn task_of(selected: &Selected) -> Task
+    ensures { result ≡ task_after selected.now }
+{
+    match selected {
         Selected::Hit(hit) => Task::Stream(hit.serial),
         Selected::Start {
             serial,
             place: _,
             plan: _,
-        } => {
-            if fill {
-                finish(held, serial, reply.bytes())?;
-                Task::Rest
-            } else {
-                Task::Fill(serial)
-            }
-        }
+        } => Task::Fill(*serial),
         Selected::Plain {
             reason: _,
             place: _,
             plan: _,
         } => Task::Rest,
-    };
+    }
+}
+
+/// Decides a SELECT. The task that the seat has then.
+fn decide(
+    held: &mut Held<'_, Server>,
+    alloc: Global,
+    who: Who,
+    question: Question,
+    state: &SessionState,
+) -> Result<Task, NoMemory>
+    requires may { MayAskNow who held.old }
+    requires text { (text : List ℕ) × IsOfText state.now.state question.key question.select question.asked text × (length text < 2 ^ 32) }
+    requires plain { IsPlain state.now }
+    ensures same { IsSameHolder held.old held.new }
+    ensures ok { IfOk result (λ t. MayEnd t held.new) }
+    ensures err { OnErr result (MayRest held.new) }
+{
+    let Question { key, select, asked } = question;
+    let selected = run_select(held, alloc, who, key, &select, asked, state)?;
+    Ok(task_of(&selected))
+}
+
+/// A SELECT. What came of it.
+pub(crate) fn select<L: Ledger>(
+    held: &mut Held<'_, Server>,
+    alloc: Global,
+    text: &[u8],
+    steps: &mut Steps<L>,
+) -> Result<Outcome, Stop>
+    requires idle { IsIdle held.old }
+    requires rested { (holder held.old).task ≡ task.Rest }
+    ensures same { IsSameHolder held.old held.new }
+    ensures ok { IfOk result (λ outcome. MayEnd outcome.task held.new) }
+    ensures answers { IfOk result (λ outcome. AnswersFill outcome.task outcome.reply held.new.value.journal.events) }
+    ensures err { OnErr result (MayRest held.new) }
+{
+    let who = prepare(held)?;
+    if text.len() > u32::MAX as usize {
+        return Err(Stop::Text);
+    }
+    if !has_room(held) {
+        return Err(Stop::Blocks);
+    }
+    let state = state_of(alloc, who.session)?;
+    let question = read(alloc, &state, text)?;
+    let reply = answer(held, alloc, &question.select, &state, steps)?;
+    let task = decide(held, alloc, who, question, &state)?;
     Ok(Outcome { task, reply })
 }

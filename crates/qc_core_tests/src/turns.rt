@@ -1,14 +1,22 @@
 //! Random steps of three seats, each compared with the plain server.
 
-use crate::calls::{Step, make, give_back};
+ghost use Rattle.std.specs.Prelude.{◌≡◌, ◌<◌, ◌≤◌, ◌+◌};
+ghost use Rattle.qc_turn.specs.Seats.{IsSeatOf, view};
+ghost use Rattle.qc_turn.specs.Words.{last_seat};
+ghost use Rattle.qc_turn.specs.declared.task.Task.TheVariants as task;
+ghost use Rattle.qc_core_tests.specs.Seats.{IsFirst, IsResting, IsSame, MeetsAll};
+
+use crate::calls::{Step, end_with, give_back, make};
 use crate::changes::Change;
+use crate::fills::{give_up, settle, stop_streaming, streams};
 use crate::hall::open;
-use crate::holding::give_up;
 use crate::lines::lines_from;
 use crate::plain::{Choice, Counts, Plain, Query};
 use crate::selects::{Outcome, select};
 use crate::stop::Stop;
+use crate::whole::fill_whole;
 use qc_core::Server;
+use qc_flow::Fill;
 use qc_model::events::Counters;
 use qc_turn::{Held, Seat, Task, Turn};
 use qc_types::{Options, Steps, Text};
@@ -61,7 +69,7 @@ fn queries(alloc: Global) -> Result<Vec<Query<'static>>, AllocError> {
         let bytes = text.len().saturating_add(KEY_FRONT);
         all.push(Query {
             tables: *tables,
-            key_words: bytes.div_ceil(8) as u32,
+            key_words: bytes.div_ceil(8).min(1_000_000) as u32,
         })?;
     }
     Ok(all)
@@ -82,7 +90,13 @@ fn table_of(table: usize) -> &'static [u8] {
 }
 
 /// Where the server isn't the plain one: its counters, or one of the last entries.
-fn differences(held: &mut Held<'_, Server>, alloc: Global, plain: &Plain<'_>) -> Result<String, AllocError> {
+fn differences(
+    held: &mut Held<'_, Server>,
+    alloc: Global,
+    plain: &Plain<'_>,
+) -> Result<String, AllocError>
+    ensures { held.new ≡ held.old }
+{
     let Counters {
         com_select,
         hits,
@@ -127,7 +141,10 @@ fn plain_step<R: Wait>(
     seat: &mut Seat<Server>,
     plain: &mut Plain<'_>,
     step: Step<'_>,
-) -> Result<String, Stop> {
+) -> Result<String, Stop>
+    requires { IsResting turn.now seat.old }
+    ensures { IsResting turn.now seat.new × IsSame seat.old seat.new }
+{
     let mut held = turn.take(rt, seat);
     let first = held.value().journal().len();
     let made = make(&mut held, alloc, step);
@@ -138,7 +155,90 @@ fn plain_step<R: Wait>(
     Ok(judged(alloc, told?, found?, plain)?)
 }
 
-/// A SELECT.
+/// The events behind the first so many, in words, and where the server isn't the plain one.
+fn compared<R: Wait>(
+    rt: &R,
+    alloc: Global,
+    turn: &Turn<Server>,
+    seat: &mut Seat<Server>,
+    plain: &Plain<'_>,
+    first: u64,
+) -> Result<(String, String), AllocError>
+    requires { IsResting turn.now seat.old }
+    ensures { IsResting turn.now seat.new × IsSame seat.old seat.new }
+{
+    let mut held = turn.take(rt, seat);
+    let told = lines_from(alloc, held.value().journal(), first);
+    let found = differences(&mut held, alloc, plain);
+    give_back(held);
+    Ok((told?, found?))
+}
+
+/// A SELECT. Its reply is kept.
+fn asked<R: Wait, L: Ledger>(
+    rt: &R,
+    alloc: Global,
+    turn: &Turn<Server>,
+    seat: &mut Seat<Server>,
+    plain: &mut Plain<'_>,
+    query: usize,
+    kept: &mut Text,
+    steps: &mut Steps<L>,
+) -> Result<String, Stop>
+    requires { IsResting turn.now seat.old }
+    ensures { IsSeatOf turn.now seat.new × IsSame seat.old seat.new }
+{
+    let mut held = turn.take(rt, seat);
+    let first = held.value().journal().len();
+    let done = select(&mut held, alloc, text_of(query), steps);
+    let told = lines_from(alloc, held.value().journal(), first);
+    let Ok(Outcome { task, reply }) = done else {
+        give_back(held);
+        return Err(Stop::Text);
+    };
+    let found = differences(&mut held, alloc, plain);
+    *kept = reply;
+    end_with(held, task);
+    Ok(judged(alloc, told?, found?, plain)?)
+}
+
+/// A SELECT. Where it begins an entry, that is filled. Its reply is kept.
+fn asked_whole<R: Wait, L: Ledger>(
+    rt: &R,
+    alloc: Global,
+    turn: &Turn<Server>,
+    seat: &mut Seat<Server>,
+    plain: &mut Plain<'_>,
+    query: usize,
+    kept: &mut Text,
+    steps: &mut Steps<L>,
+) -> Result<String, Stop>
+    requires { IsResting turn.now seat.old }
+    ensures { IsSeatOf turn.now seat.new × IsSame seat.old seat.new }
+{
+    let mut held = turn.take(rt, seat);
+    let options = held.value().options();
+    let first = held.value().journal().len();
+    let done = select(&mut held, alloc, text_of(query), steps);
+    let told = lines_from(alloc, held.value().journal(), first);
+    let Ok(Outcome { task, reply }) = done else {
+        give_back(held);
+        return Err(Stop::Text);
+    };
+    let found = differences(&mut held, alloc, plain);
+    end_with(held, task);
+    let Task::Fill(serial) = task else {
+        *kept = reply;
+        return Ok(judged(alloc, told?, found?, plain)?);
+    };
+    fill_whole(rt, turn, seat, Fill::of(serial, &options), reply.bytes())?;
+    plain.done(seat.number(), reply.bytes().len().min(1_000_000_000) as u32)?;
+    *kept = reply;
+    let (told, found) = compared(rt, alloc, turn, seat, plain, first)?;
+    Ok(judged(alloc, told, found, plain)?)
+}
+
+/// A SELECT, which is filled at once or not.
 fn select_step<R: Wait, L: Ledger>(
     rt: &R,
     alloc: Global,
@@ -149,42 +249,16 @@ fn select_step<R: Wait, L: Ledger>(
     fill: bool,
     kept: &mut Text,
     steps: &mut Steps<L>,
-) -> Result<String, Stop> {
-    let number = seat.number();
-    let choice = plain.select(number, query)?;
-    let mut held = turn.take(rt, seat);
-    let first = held.value().journal().len();
-    let done = select(&mut held, alloc, text_of(query), fill, steps);
-    let told = lines_from(alloc, held.value().journal(), first);
-    let Ok(Outcome { task, reply }) = done else {
-        held.release(Task::Rest);
-        return Err(Stop::Text);
-    };
-    let completed = if choice == Choice::Start && fill {
-        plain.done(number, reply.bytes().len() as u32)
+) -> Result<String, Stop>
+    requires { IsResting turn.now seat.old }
+    ensures { IsSeatOf turn.now seat.new × IsSame seat.old seat.new }
+{
+    plain.select(seat.number(), query)?;
+    if fill {
+        asked_whole(rt, alloc, turn, seat, plain, query, kept, steps)
     } else {
-        Ok(())
-    };
-    let found = differences(&mut held, alloc, plain);
-    *kept = reply;
-    held.release(task);
-    completed?;
-    Ok(judged(alloc, told?, found?, plain)?)
-}
-
-/// Whether the words that the seat streams begin with these bytes.
-fn streams(turn: &Turn<Server>, seat: &mut Seat<Server>, wanted: &[u8]) -> bool {
-    for (index, byte) in wanted.iter().enumerate() {
-        let word = (index / 8) as u32;
-        if word >= seat.words() {
-            return false;
-        }
-        let found = seat.load_streamed(turn, word);
-        if (found >> (8 * (index % 8) as u32)) % 256 != u64::from(*byte) {
-            return false;
-        }
+        asked(rt, alloc, turn, seat, plain, query, kept, steps)
     }
-    true
 }
 
 /// What a seat does next that rests.
@@ -197,33 +271,80 @@ fn next_step<R: Wait, L: Ledger>(
     dice: &mut Dice,
     kept: &mut Text,
     steps: &mut Steps<L>,
-) -> Result<String, Stop> {
-    match dice.below(40) {
-        0..=25 => {
-            let query = dice.below(8) as usize;
-            let fill = dice.below(6) != 0;
-            select_step(rt, alloc, turn, seat, plain, query, fill, kept, steps)
-        }
+) -> Result<String, Stop>
+    requires { IsResting turn.now seat.old }
+    ensures { IsSeatOf turn.now seat.new × IsSame seat.old seat.new }
+{
+    let choice = dice.below(40);
+    if choice <= 25 {
+        let query = dice.below(8) as usize;
+        let fill = dice.below(6) != 0;
+        select_step(rt, alloc, turn, seat, plain, query, fill, kept, steps)
+    } else {
+        let step = other_step(plain, dice, choice)?;
+        plain_step(rt, alloc, turn, seat, plain, step)
+    }
+}
+
+/// The step that a number from 26 on stands for, as the plain server takes it.
+fn other_step(plain: &mut Plain<'_>, dice: &mut Dice, choice: u64) -> Result<Step<'static>, Stop> {
+    match choice {
         26..=30 => {
-            let table = dice.below(3);
+            let table = dice.below(3).min(2);
             plain.commit(table as u32)?;
-            let key = dice.below(25) as i64;
-            let row = Change::Row(table_of(table as usize), key);
-            plain_step(rt, alloc, turn, seat, plain, Step::Make(row))
+            let key = dice.below(25).min(24) as i64;
+            Ok(Step::Make(Change::Row(table_of(table as usize), key)))
         }
         31 => {
             plain.reset()?;
-            plain_step(rt, alloc, turn, seat, plain, Step::Reset)
+            Ok(Step::Reset)
         }
         32 | 33 => {
             plain.flush()?;
-            plain_step(rt, alloc, turn, seat, plain, Step::Flush)
+            Ok(Step::Flush)
         }
         _ => {
             plain.status()?;
-            plain_step(rt, alloc, turn, seat, plain, Step::Status)
+            Ok(Step::Status)
         }
     }
+}
+
+/// What a seat does next that streams.
+fn stream_step(
+    alloc: Global,
+    turn: &Turn<Server>,
+    seat: &mut Seat<Server>,
+    plain: &mut Plain<'_>,
+    kept: &[u8],
+) -> Result<String, Stop>
+    requires seated { IsSeatOf turn.now seat.old }
+    requires streams { (serial : _) × ((view seat.old).task ≡ task.Stream serial) }
+    ensures { IsSeatOf turn.now seat.new × IsSame seat.old seat.new }
+{
+    let whole = streams(turn, seat, kept);
+    plain.rest(seat.number())?;
+    stop_streaming(turn, seat);
+    Ok(String::from_str(alloc, if whole { "" } else { "stream" })?)
+}
+
+/// What a seat does next that fills.
+fn fill_step<R: Wait>(
+    rt: &R,
+    alloc: Global,
+    turn: &Turn<Server>,
+    seat: &mut Seat<Server>,
+    plain: &mut Plain<'_>,
+    serial: u64,
+) -> Result<String, Stop>
+    requires seated { IsSeatOf turn.now seat.old }
+    requires fills { (view seat.old).task ≡ task.Fill serial }
+    ensures { IsSeatOf turn.now seat.new × IsSame seat.old seat.new }
+{
+    plain.gone(seat.number())?;
+    let told = give_up(rt, alloc, turn, seat, serial)?;
+    let (_, found) = compared(rt, alloc, turn, seat, plain, 0)?;
+    Ok(judged(alloc, told, found, plain)?)
 }
 
 /// One turn of a seat.
@@ -236,62 +357,57 @@ fn one_turn<R: Wait, L: Ledger>(
     dice: &mut Dice,
     kept: &mut Text,
     steps: &mut Steps<L>,
-) -> Result<String, Stop> {
+) -> Result<String, Stop>
+    requires { IsSeatOf turn.now seat.old }
+    ensures { IsSeatOf turn.now seat.new × IsSame seat.old seat.new }
+{
     match seat.task() {
         Task::Rest => next_step(rt, alloc, turn, seat, plain, dice, kept, steps),
         Task::Stream(_) => {
             if dice.below(3) == 0 {
                 return Ok(String::new(alloc));
             }
-            let whole = streams(turn, seat, kept.bytes());
-            plain.rest(seat.number())?;
-            seat.clear_stream(turn);
-            if whole { Ok(String::new(alloc)) } else { Ok(String::from_str(alloc, "stream")?) }
+            stream_step(alloc, turn, seat, plain, kept.bytes())
         }
         Task::Fill(serial) => {
             if dice.below(3) == 0 {
                 return Ok(String::new(alloc));
             }
-            plain.gone(seat.number())?;
-            let mut held = turn.take(rt, seat);
-            let first = held.value().journal().len();
-            let gone = give_up(&mut held, serial);
-            let told = lines_from(alloc, held.value().journal(), first);
-            let found = differences(&mut held, alloc, plain);
-            held.release(Task::Rest);
-            gone?;
-            Ok(judged(alloc, told?, found?, plain)?)
+            fill_step(rt, alloc, turn, seat, plain, serial)
         }
     }
 }
 
-/// Base.
+/// The steps of the first seat before the others come.
+const BASE: &[Step<'static>] = &[
+    Step::Make(Change::Database),
+    Step::Make(Change::Table(b"t")),
+    Step::Make(Change::Table(b"u")),
+    Step::Make(Change::Table(b"v")),
+    Step::Make(Change::Row(b"t", 1)),
+];
+
+/// Connects the first seat, and makes the database and its tables.
 fn begin<R: Wait>(
     rt: &R,
     alloc: Global,
     turn: &Turn<Server>,
     seat: &mut Seat<Server>,
     plain: &mut Plain<'_>,
-) -> Result<String, Stop> {
-    for step in [
-        Step::Join,
-        Step::Make(Change::Database),
-        Step::Make(Change::Table(b"t")),
-        Step::Make(Change::Table(b"u")),
-        Step::Make(Change::Table(b"v")),
-        Step::Make(Change::Row(b"t", 1)),
-    ] {
-        if !matches!(step, Step::Join) {
-            plain.commit(99)?;
-        }
-        let found = plain_step(rt, alloc, turn, seat, plain, step)?;
-        if !found.is_empty() {
-            return Ok(found);
-        }
+) -> Result<String, Stop>
+    requires { IsResting turn.now seat.old }
+    ensures { IsResting turn.now seat.new × IsSame seat.old seat.new }
+{
+    let mut all = plain_step(rt, alloc, turn, seat, plain, Step::Join)?;
+    for step in BASE {
+        plain.commit(99)?;
+        let found = plain_step(rt, alloc, turn, seat, plain, *step)?;
+        all.push_str(&found)?;
     }
-    Ok(String::new(alloc))
+    Ok(all)
 }
 
+/// Three seats connect, and take so many turns. The first difference, or nothing.
 fn play_turns<R: Wait, L: Ledger>(
     rt: &R,
     alloc: Global,
@@ -300,26 +416,49 @@ fn play_turns<R: Wait, L: Ledger>(
     second: &mut Seat<Server>,
     third: &mut Seat<Server>,
     plain: &mut Plain<'_>,
-    seed: u64,
-    turns: u32,
-    blank: Blank,
-) -> Result<String, Stop> {
-    let mut steps = Steps::<L>::new(blank);
-    let mut dice = Dice { seed };
-    let mut one = Text::of(alloc, b"")?;
-    let mut two = Text::of(alloc, b"")?;
-    let mut three = Text::of(alloc, b"")?;
+    course: Course,
+    steps: &mut Steps<L>,
+) -> Result<String, Stop>
+    requires { IsResting turn.now first.old × IsResting turn.now second.old × IsResting turn.now third.old }
+    ensures first { IsSeatOf turn.now first.new × IsSame first.old first.new }
+    ensures second { IsSeatOf turn.now second.new × IsSame second.old second.new }
+    ensures third { IsSeatOf turn.now third.new × IsSame third.old third.new }
+{
     let found = begin(rt, alloc, turn, first, plain)?;
     if !found.is_empty() {
         return Ok(found);
     }
     plain_step(rt, alloc, turn, second, plain, Step::Join)?;
     plain_step(rt, alloc, turn, third, plain, Step::Join)?;
-    for number in 0..turns {
+    take_turns(rt, alloc, turn, first, second, third, plain, course, steps)
+}
+
+/// So many turns of the three seats.
+fn take_turns<R: Wait, L: Ledger>(
+    rt: &R,
+    alloc: Global,
+    turn: &Turn<Server>,
+    first: &mut Seat<Server>,
+    second: &mut Seat<Server>,
+    third: &mut Seat<Server>,
+    plain: &mut Plain<'_>,
+    course: Course,
+    steps: &mut Steps<L>,
+) -> Result<String, Stop>
+    requires { IsSeatOf turn.now first.old × IsSeatOf turn.now second.old × IsSeatOf turn.now third.old }
+    ensures first { IsSeatOf turn.now first.new × IsSame first.old first.new }
+    ensures second { IsSeatOf turn.now second.new × IsSame second.old second.new }
+    ensures third { IsSeatOf turn.now third.new × IsSame third.old third.new }
+{
+    let mut dice = Dice { seed: course.seed };
+    let mut one = Text::of(alloc, b"")?;
+    let mut two = Text::of(alloc, b"")?;
+    let mut three = Text::of(alloc, b"")?;
+    for number in 0..course.turns {
         let found = match dice.below(3) {
-            0 => one_turn(rt, alloc, turn, first, plain, &mut dice, &mut one, &mut steps)?,
-            1 => one_turn(rt, alloc, turn, second, plain, &mut dice, &mut two, &mut steps)?,
-            _ => one_turn(rt, alloc, turn, third, plain, &mut dice, &mut three, &mut steps)?,
+            0 => one_turn(rt, alloc, turn, first, plain, &mut dice, &mut one, steps)?,
+            1 => one_turn(rt, alloc, turn, second, plain, &mut dice, &mut two, steps)?,
+            _ => one_turn(rt, alloc, turn, third, plain, &mut dice, &mut three, steps)?,
         };
         if !found.is_empty() {
             return Ok(format!(in alloc; "turn {number}: {found}")?);
@@ -328,17 +467,67 @@ fn play_turns<R: Wait, L: Ledger>(
     Ok(String::new(alloc))
 }
 
-/// Ends what a seat does.
-fn settle<R: Wait>(rt: &R, turn: &Turn<Server>, seat: &mut Seat<Server>) {
-    match seat.task() {
-        Task::Rest => {}
-        Task::Stream(_) => seat.clear_stream(turn),
-        Task::Fill(serial) => {
-            let mut held = turn.take(rt, seat);
-            let _ = give_up(&mut held, serial);
-            held.release(Task::Rest);
-        }
-    }
+/// How turns are taken: the seed of their dice, their count, and how many blocks each seat has room for.
+#[derive(Clone, Copy)]
+struct Course {
+    seed: u64,
+    turns: u32,
+    room: u32,
+}
+
+/// The same with a third seat of its own.
+fn play_third<R: Wait, L: Ledger>(
+    rt: &R,
+    alloc: Global,
+    turn: &Turn<Server>,
+    first: &mut Seat<Server>,
+    second: &mut Seat<Server>,
+    plain: &mut Plain<'_>,
+    course: Course,
+    steps: &mut Steps<L>,
+) -> Result<String, Stop>
+    requires first { IsFirst turn.now first.old }
+    requires second { IsResting turn.now second.old }
+    requires few { first.old.made < last_seat }
+    ensures first { IsFirst turn.now first.new }
+    ensures second { IsSeatOf turn.now second.new × IsSame second.old second.new }
+    ensures met { MeetsAll (view first.old).registry (view first.new).registry }
+{
+    let Ok(mut third) = first.split(alloc, turn) else {
+        return Err(Stop::Memory);
+    };
+    let _ = third.with_room(alloc, course.room);
+    let found = play_turns(rt, alloc, turn, first, second, &mut third, plain, course, steps);
+    settle(rt, alloc, turn, first);
+    settle(rt, alloc, turn, &mut third);
+    first.meet(turn, third);
+    found
+}
+
+/// The same with two seats of its own.
+fn play_second<R: Wait, L: Ledger>(
+    rt: &R,
+    alloc: Global,
+    turn: &Turn<Server>,
+    first: &mut Seat<Server>,
+    plain: &mut Plain<'_>,
+    course: Course,
+    steps: &mut Steps<L>,
+) -> Result<String, Stop>
+    requires first { IsFirst turn.now first.old }
+    requires few { first.old.made ≡ 1 }
+    ensures first { IsFirst turn.now first.new }
+    ensures met { MeetsAll (view first.old).registry (view first.new).registry }
+{
+    let Ok(mut second) = first.split(alloc, turn) else {
+        return Err(Stop::Memory);
+    };
+    let _ = first.with_room(alloc, course.room);
+    let _ = second.with_room(alloc, course.room);
+    let found = play_third(rt, alloc, turn, first, &mut second, plain, course, steps);
+    settle(rt, alloc, turn, &mut second);
+    first.meet(turn, second);
+    found
 }
 
 /// Plays so many turns of three seats on a server with these options. The first difference, or nothing.
@@ -349,28 +538,28 @@ pub(crate) fn play_random<R: Wait>(
     seed: u64,
     turns: u32,
 ) -> Result<String, Stop> {
+    let room = options.size / 512;
+    let course = Course { seed, turns, room };
+    play_random_by::<R, Brand>(rt, alloc, options, course, Blank::new(1))
+}
+
+/// The same, with the steps counted on this ledger.
+fn play_random_by<R: Wait, L: Ledger>(
+    rt: &R,
+    alloc: Global,
+    options: Options,
+    course: Course,
+    blank: Blank,
+) -> Result<String, Stop>
+    requires name { blank.name ≡ L.name }
+    requires parts { blank.parts ≡ L.parts }
+    requires one { 0 < blank.parts }
+{
+    let mut steps = Steps::<L>::new(blank);
     let queries = queries(alloc)?;
     let mut plain = Plain::new(alloc, queries.as_slice(), options.size / 8, options.unit / 8)?;
     let (turn, mut first) = open(alloc, options)?;
-    let room = options.size / 512;
-    let Ok(mut second) = first.split(alloc, &turn) else {
-        let _server = turn.close(first);
-        return Err(Stop::Memory);
-    };
-    let Ok(mut third) = first.split(alloc, &turn) else {
-        first.meet(&turn, second);
-        let _server = turn.close(first);
-        return Err(Stop::Memory);
-    };
-    let _ = first.with_room(alloc, room);
-    let _ = second.with_room(alloc, room);
-    let _ = third.with_room(alloc, room);
-    let found = play_turns::<R, Brand>(rt, alloc, &turn, &mut first, &mut second, &mut third, &mut plain, seed, turns, Blank::new(1));
-    settle(rt, &turn, &mut first);
-    settle(rt, &turn, &mut second);
-    settle(rt, &turn, &mut third);
-    first.meet(&turn, second);
-    first.meet(&turn, third);
+    let found = play_second(rt, alloc, &turn, &mut first, &mut plain, course, &mut steps);
     let _server = turn.close(first);
     found
 }

@@ -1,0 +1,85 @@
+-- What a SELECT asks, and with which task its seat may give the turn back.
+use Rattle.std.proofs.Common.{◌≡◌, ℕ, ◌+◌, Bool, true, false, List, [], ◌∷◌, ◌++◌, length, refl, sym, ap, subst, ◌∙◌, append_assoc}
+use Rattle.std.specs.Prelude.{◌&&◌, Option, Some, None, IfSome, option_and_then}
+use Rattle.std.specs.List.{list_all}
+use Rattle.std.proofs.lemmas.Bool.{and_parts, and_from}
+use Rattle.qc_sql.specs.Database.{Database, apply}
+use Rattle.qc_sql.specs.declared.tables.RowOp.{RowOp}
+use Rattle.qc_laws.specs.history.Seen.{IsPlace}
+use Rattle.qc_laws.specs.sizes.Replies.{is_bounded_database, is_bounded_operation}
+use Rattle.qc_laws.proofs.sizes.Applied.{databases_stay_bounded}
+use Rattle.qc_model.specs.declared.events.Event.{Event}
+use Rattle.qc_model.specs.Journal.{Journal, database_after, operations, present}
+use Rattle.qc_model.specs.Session.{Transaction, snapshot_of}
+use Rattle.qc_trx.specs.Endings.{IsOriginIn}
+use Rattle.qc_trx.specs.SnapshotStates.{SnapshotState}
+use Rattle.qc_turn.specs.Releases.{SpellsReleased}
+use Rattle.qc_turn.specs.Rules.{ContentRule}
+use Rattle.qc_turn.specs.Seats.{Held, holder, words, MayRelease}
+use Rattle.qc_turn.specs.Tasks.{own, is_stream, task_in, blocks_in, released_task, released_blocks}
+use Rattle.qc_turn.specs.Views.{content_of, with_word_set, bytes_on}
+use Rattle.qc_turn.specs.declared.task.ListedTask.{ListedTask}
+use Rattle.qc_turn.specs.declared.task.Task.{Task}
+use Rattle.qc_turn.specs.declared.task.Task.TheVariants as task
+use Rattle.qc_tiles.specs.declared.blocks.Block.{Block}
+use Rattle.qc_sound.specs.Events.{is_small_event, is_small_operation, makes_short_name}
+use Rattle.qc_core.specs.contracts.server.ServerKept.TheImpl.{ghosts}
+use Rattle.qc_core.specs.declared.parts.Parts.{Parts}
+use Rattle.qc_chain.specs.Chains.{Ranged}
+use Rattle.qc_select.specs.Selects.{MayAsk, selected_tasks}
+use Rattle.qc_select.specs.declared.selected.Selected.{Selected}
+use Rattle.qc_select.specs.declared.selected.Selected.TheVariants as selected
+use Rattle.qc_core_tests.specs.Seats.{IsPlain, MayBegin, MayEnd}
+use Rattle.qc_core_tests.specs.Selects.{task_after}
+
+-- a session with no transaction may ask
+pub may_ask : (j : Journal) (s : SnapshotState) → IsPlain s → MayAsk j s
+may_ask j s p =
+    let none : snapshot_of s.state ≡ None = ap (option_and_then (λ (t : Transaction). t.snapshot)) p.closed in
+    record {
+      keyed = p.keyed;
+      stands = subst (λ (o : Option ℕ). IfSome o (λ place. IsOriginIn j place s.origin)) (sym none) tt;
+      place = subst (IsPlace j) (sym none) tt;
+    }
+
+-- ---- the database is bounded
+
+small_bounded : (ops : List RowOp) → list_all is_small_operation ops ≡ true → list_all is_bounded_operation ops ≡ true
+small_bounded [] h = refl
+small_bounded (o ∷ os) h =
+    let p = and_parts (is_small_operation o) (list_all is_small_operation os) h in
+    let q = and_parts (is_bounded_operation o) (makes_short_name o) p.0 in
+    and_from (is_bounded_operation o) (list_all is_bounded_operation os) q.0 (small_bounded os p.1)
+
+stays_bounded : (j : Journal) (d : Database) → list_all is_small_event j ≡ true → is_bounded_database d ≡ true → is_bounded_database (database_after d j) ≡ true
+stays_bounded [] d h b = b
+stays_bounded (e ∷ es) d h b =
+    let p = and_parts (is_small_event e) (list_all is_small_event es) h in
+    stays_bounded es (apply (operations e) d) p.1 (databases_stay_bounded (operations e) d (small_bounded (operations e) p.0) b)
+
+pub held_bounded : (h : Held Parts Event ghosts) → MayRelease h → is_bounded_database h.value.database ≡ true
+held_bounded h m =
+    let s = m.sound.1.sound.journal in
+    subst (λ (d : Database). is_bounded_database d ≡ true) (sym s.database) (stays_bounded h.value.journal.events [] s.small refl)
+
+-- ---- the release
+
+spells_by : (x : Parts) (us : List ℕ) (old t : Task) (n : ℕ) (bs : List Block) (content : List ℕ) → old ≡ task.Rest → MayBegin t x.journal.events
+    → ContentRule ghosts x us (released_task (is_stream t) (task_in (own n t bs))) (released_blocks (released_task (is_stream t) (task_in (own n t bs))) (blocks_in (own n t bs))) (content_of ghosts us old content (released_task (is_stream t) (task_in (own n t bs))) (released_blocks (released_task (is_stream t) (task_in (own n t bs))) (blocks_in (own n t bs))))
+spells_by x us old task.Rest n bs content rested begins = tt
+spells_by x us old (task.Stream s) n bs content rested begins = refl
+spells_by x us old (task.Fill s) n bs content rested begins = subst (λ u. ContentRule ghosts x us (task.Fill s) bs (bytes_on ghosts u s content)) (sym rested) (refl, begins)
+
+pub ends_content : (t : Task) (h : Held Parts Event ghosts) → MayEnd t h → SpellsReleased ghosts (with_word_set (holder h) (is_stream t)) h.value (words h)
+ends_content t h e =
+    let m = is_stream t in
+    let w = holder h in
+    subst (λ (ts : List ListedTask). ContentRule ghosts h.value (words h) (released_task m (task_in ts)) (released_blocks (released_task m (task_in ts)) (blocks_in ts)) (content_of ghosts (words h) w.task w.content (released_task m (task_in ts)) (released_blocks (released_task m (task_in ts)) (blocks_in ts))))
+    (sym e.listed) (spells_by h.value (words h) w.task t w.number h.ranges.blocks w.content e.rested e.begins)
+
+-- ---- what was decided
+
+pub listed_after : (seat : ℕ) (r : Ranged) (x : Selected) → selected_tasks seat r x ≡ own seat (task_after x) r.blocks
+listed_after seat r (selected.Hit hit) = refl
+listed_after seat r (selected.Start serial place plan) = refl
+listed_after seat r (selected.Plain why place plan) = refl
