@@ -1,5 +1,5 @@
 -- What a SELECT asks, and with which task its seat may give the turn back.
-use Rattle.std.proofs.Common.{◌≡◌, ℕ, ◌+◌, Bool, true, false, List, [], ◌∷◌, ◌++◌, length, refl, sym, ap, subst, ◌∙◌, append_assoc}
+use Rattle.std.proofs.Common.{◌≡◌, ℕ, ◌+◌, ◌≤◌, Bool, true, false, List, [], ◌∷◌, ◌++◌, length, refl, sym, ap, subst, ◌∙◌, append_assoc}
 use Rattle.std.specs.Prelude.{◌&&◌, Option, Some, None, IfSome, option_and_then}
 use Rattle.std.specs.List.{list_all}
 use Rattle.std.proofs.lemmas.Bool.{and_parts, and_from}
@@ -10,26 +10,43 @@ use Rattle.qc_laws.specs.sizes.Replies.{is_bounded_database, is_bounded_operatio
 use Rattle.qc_laws.proofs.sizes.Applied.{databases_stay_bounded}
 use Rattle.qc_model.specs.declared.events.Event.{Event}
 use Rattle.qc_model.specs.Journal.{Journal, database_after, operations, present}
-use Rattle.qc_model.specs.Session.{Transaction, snapshot_of}
+use Rattle.qc_model.specs.Session.{State, Transaction, answer, snapshot_of}
 use Rattle.qc_trx.specs.Endings.{IsOriginIn}
 use Rattle.qc_trx.specs.SnapshotStates.{SnapshotState}
 use Rattle.qc_turn.specs.Releases.{SpellsReleased}
 use Rattle.qc_turn.specs.Rules.{ContentRule}
-use Rattle.qc_turn.specs.Seats.{Held, holder, words, MayRelease}
-use Rattle.qc_turn.specs.Tasks.{own, is_stream, task_in, blocks_in, released_task, released_blocks}
+use Rattle.qc_turn.specs.Seats.{Held, holder, words, with_ranges, MayRelease}
+use Rattle.qc_turn.specs.Tasks.{listed_for, own, is_stream, task_in, blocks_in, released_task, released_blocks}
 use Rattle.qc_turn.specs.Views.{content_of, with_word_set, bytes_on}
 use Rattle.qc_turn.specs.declared.task.ListedTask.{ListedTask}
 use Rattle.qc_turn.specs.declared.task.Task.{Task}
 use Rattle.qc_turn.specs.declared.task.Task.TheVariants as task
 use Rattle.qc_tiles.specs.declared.blocks.Block.{Block}
+use Rattle.qc_types.specs.declared.names.TableName.{TableName}
+use Rattle.qc_types.specs.declared.options.Options.{Options}
+use Rattle.qc_sql.specs.declared.session.Asked.{Asked}
+use Rattle.qc_sql.specs.declared.statements.Select.{Select}
+use Rattle.qc_laws.specs.history.Runs.{IsStarted}
+use Rattle.qc_laws.proofs.history.Events.{lawful_back}
+use Rattle.qc_model.specs.declared.events.Event.TheVariants as event
+use Rattle.qc_model.specs.declared.events.How.TheVariants as how
+use Rattle.qc_model.specs.declared.events.Who.{Who}
+use Rattle.qc_model.specs.Licence.{IsLawful}
+use Rattle.qc_sound.specs.Sound.{FitsFill}
+use Rattle.qc_turn.specs.Words.{word_seats}
+use Rattle.qc_turn.specs.declared.view.FoundWord.{FoundWord}
+use Rattle.qc_core.specs.Sweeps.{Finds}
+use Rattle.qc_core.specs.Whole.{tasks_of}
+use Rattle.qc_core.proofs.Filling.{some_of}
+use Rattle.qc_flow.proofs.Packets.{front_fits}
 use Rattle.qc_sound.specs.Events.{is_small_event, is_small_operation, makes_short_name}
 use Rattle.qc_core.specs.contracts.server.ServerKept.TheImpl.{ghosts}
 use Rattle.qc_core.specs.declared.parts.Parts.{Parts}
 use Rattle.qc_chain.specs.Chains.{Ranged}
-use Rattle.qc_select.specs.Selects.{MayAsk, selected_tasks}
+use Rattle.qc_select.specs.Selects.{MayAsk, Decided, Decides, how_of, selected_tasks}
 use Rattle.qc_select.specs.declared.selected.Selected.{Selected}
 use Rattle.qc_select.specs.declared.selected.Selected.TheVariants as selected
-use Rattle.qc_core_tests.specs.Seats.{IsPlain, MayBegin, MayEnd}
+use Rattle.qc_core_tests.specs.Seats.{IsPlain, IsSameHolder, MayAskNow, MayBegin, MayEnd}
 use Rattle.qc_core_tests.specs.Selects.{task_after}
 
 -- a session with no transaction may ask
@@ -83,3 +100,44 @@ pub listed_after : (seat : ℕ) (r : Ranged) (x : Selected) → selected_tasks s
 listed_after seat r (selected.Hit hit) = refl
 listed_after seat r (selected.Start serial place plan) = refl
 listed_after seat r (selected.Plain why place plan) = refl
+
+-- no bytes fit the fill that the last event started
+started_fits : (o : Options) (j : Journal) (who : Who) (n : ℕ) (key : List ℕ) (tables : List TableName) → IsLawful o (j ++ event.Run who (how.Start n key tables) ∷ []) → FitsFill (j ++ event.Run who (how.Start n key tables) ∷ []) n []
+started_fits o j who n key tables lawful =
+    let e = event.Run who (how.Start n key tables) in
+    let licensed = (lawful_back o [] j (e ∷ []) lawful).0 in
+    let all = some_of (answer key (present j)) licensed.1.has_answer in
+    let start : IsStarted (j ++ e ∷ []) n = record { who = who; key = key; tables = tables; earlier = j; later = []; split = refl } in
+    front_fits o (j ++ e ∷ []) n start all.0 [] lawful all.1 (all.0, refl)
+
+pub begins_now : (o : Options) (j prunes new : Journal) (who : Who) (key : List ℕ) (tables : List TableName) (x : Selected) → new ≡ j ++ (prunes ++ event.Run who (how_of key tables x) ∷ []) → IsLawful o new → MayBegin (task_after x) new
+begins_now o j prunes new who key tables (selected.Hit hit) is lawful = tt
+begins_now o j prunes new who key tables (selected.Start serial place plan) is lawful =
+    let e = event.Run who (how.Start serial key tables) in
+    let split : new ≡ (j ++ prunes) ++ e ∷ [] = is ∙ sym (append_assoc j prunes (e ∷ [])) in
+    subst (λ z. FitsFill z serial []) (sym split) (started_fits o (j ++ prunes) who serial key tables (subst (IsLawful o) split lawful))
+begins_now o j prunes new who key tables (selected.Plain why place plan) is lawful = tt
+
+module _ (h k : Held Parts Event ghosts) (who : Who) (key text : List ℕ) (select : Select) (asked : Asked) (state : State) (x : Selected) (found : List FoundWord) (f : Finds h (with_ranges k h.ranges) found)
+  (d : Decided (holder h).number who key select asked state h.value k.value h.ranges k.ranges found x) (e : Decides who text key select state h.value k.value x) (may : MayAskNow who h) (stands : MayRelease k) where
+  pub decided_ends : MayEnd (task_after x) k
+  decided_ends =
+      let number : (holder k).number ≡ (holder h).number = ap (λ u. u.number) f.holder in
+      record {
+        stands = stands;
+        unset = ap (λ u. u.word_set) f.holder ∙ may.ready.rest.unset;
+        few = subst (λ n. n ≤ word_seats) (sym number) may.few;
+        rested = ap (λ u. u.task) f.holder ∙ may.rested;
+        listed = subst (λ n. listed_for n (tasks_of k.value) ≡ own n (task_after x) k.ranges.blocks) (sym number) (d.listed ∙ listed_after (holder h).number k.ranges x);
+        begins = begins_now k.value.options h.value.journal.events e.prunes k.value.journal.events who key _ x e.events stands.sound.1.sound.journal.lawful;
+      }
+
+pub found_same : (h k : Held Parts Event ghosts) (found : List FoundWord) → Finds h (with_ranges k h.ranges) found → IsSameHolder h k
+found_same h k found f = record {
+  seat = f.seat;
+  turn = f.turn;
+  number = ap (λ u. u.number) f.holder;
+  registry = ap (λ u. u.registry) f.holder;
+  word_set = ap (λ u. u.word_set) f.holder;
+  task = ap (λ u. u.task) f.holder;
+}

@@ -1,5 +1,5 @@
 -- What of an entry's answer is still to be stored.
-use Rattle.std.specs.Prelude.{◌≡◌, ℕ, ◌+◌, ◌≤◌, List, [], ◌∷◌, ◌++◌, length, Some}
+use Rattle.std.specs.Prelude.{◌≡◌, ℕ, ◌+◌, ◌≤◌, List, [], ◌∷◌, ◌++◌, length, drop, Some}
 use Rattle.std.specs.List.{concat, AllByRecursion}
 use Rattle.qc_model.specs.declared.events.Event.{Event}
 use Rattle.qc_model.specs.Journal.{present}
@@ -25,3 +25,9 @@ pub record IsLeft (serial : ℕ) (rest : List ℕ) (v : View Parts Event) : Type
   pub stored : v.content ≡ concat earlier
   pub spells : rest ≡ concat later
   pub cut : AllByRecursion IsPacket later
+
+-- these bytes are the first of the packets, and the others are behind them
+pub record CutsOff (bytes rest : List ℕ) (packets : List (List ℕ)) : Type 0 where
+  pub others : List (List ℕ)
+  pub first : packets ≡ bytes ∷ others
+  pub behind : drop (length bytes) rest ≡ concat others

@@ -72,6 +72,7 @@ pub(crate) fn give_back(held: Held<'_, Server>)
 }
 
 /// Gives the turn back, with this task.
+#[tactic(auto, using(crate::proofs::Selecting::ends_content))]
 pub(crate) fn end_with(held: Held<'_, Server>, task: Task)
     requires { MayEnd task held }
     ensures seated { IsSeatOf held.entry.turn.now held.exit.1.0.now }

@@ -51,6 +51,7 @@ fn state_of(alloc: Global, session: u8) -> Result<SessionState, NoMemory>
 }
 
 /// What the cache is asked for a text.
+#[tactic(auto, using(qc_replies::proofs::Trimmed::trimmed_below, qc_laws::proofs::sizes::Parsed::parsed_names_are_short))]
 fn read(alloc: Global, state: &SessionState, text: &[u8]) -> Result<Question, Stop>
     requires keyed { CanBeKeyed state.now.state }
     requires within { length text.now < 2 ^ 32 }
@@ -79,6 +80,7 @@ fn has_room(held: &mut Held<'_, Server>) -> bool
 }
 
 /// What a SELECT answers now.
+#[tactic(auto, using(crate::proofs::Selecting::held_bounded))]
 fn answer<L: Ledger>(
     held: &mut Held<'_, Server>,
     alloc: Global,
@@ -123,6 +125,7 @@ fn task_of(selected: &Selected) -> Task
 }
 
 /// Decides a SELECT. The task that the seat has then.
+#[tactic(auto, using(crate::proofs::Selecting::may_ask))]
 fn decide(
     held: &mut Held<'_, Server>,
     alloc: Global,

@@ -1,10 +1,11 @@
 //! An entry gets its whole answer.
 
-ghost use Rattle.std.specs.Prelude.{◌≡◌, ℕ, [], ◌≤◌, ◌<◌, ◌+◌, length, take, drop};
+ghost use Rattle.std.specs.Prelude.{◌≡◌, ℕ, ◌≤◌, ◌<◌, List, length};
+ghost use Rattle.std.specs.List.{concat, AllByRecursion};
 ghost use Rattle.qc_turn.specs.Seats.{IsSeatOf, view};
-ghost use Rattle.qc_flow.specs.Fills.{IsFillOf, IsNextPacket, IsWholeAnswer};
+ghost use Rattle.qc_flow.specs.Fills.{IsFillOf};
 ghost use Rattle.qc_core_tests.specs.Seats.{IsResting, IsSame};
-ghost use Rattle.qc_core_tests.specs.Fillings.{IsLeft};
+ghost use Rattle.qc_core_tests.specs.Fillings.{CutsOff, IsLeft, IsPacket};
 
 use crate::stop::Stop;
 use qc_core::Server;
@@ -19,7 +20,9 @@ const HEADER: usize = 4;
 /// The first packet of what is left of an entry's answer.
 fn next_packet(rest: &[u8]) -> &[u8]
     requires some { 0 < length rest.now }
-    ensures { (serial : ℕ) → (v : _) → IsLeft serial rest.now v → IsNextPacket serial result.now v × (result.now ≡ take (length result.now) rest.now) }
+    ensures { (packets : List (List ℕ)) → rest.now ≡ concat packets → AllByRecursion IsPacket packets → CutsOff result.now rest.now packets }
+    ensures within { length result.now ≤ length rest.now }
+    ensures some { 0 < length result.now }
 {
     let end = match Packets::new(rest).next() {
         Some(Ok(packet)) => HEADER + packet.payload.len(),
