@@ -209,6 +209,36 @@ fn resting_told<R: Wait, L: Ledger>(
     }
 }
 
+/// What the last SELECT of each seat answered.
+#[derive(Drop)]
+struct Kept {
+    first: Text,
+    second: Text,
+}
+
+/// What a move of the first seat tells, whose number is 1, or of the second one.
+fn next_move<R: Wait, L: Ledger>(
+    rt: &R,
+    alloc: Global,
+    turn: &Turn<Server>,
+    first: &mut Seat<Server>,
+    second: &mut Seat<Server>,
+    number: u32,
+    next: Move<'_>,
+    kept: &mut Kept,
+    steps: &mut Steps<L>,
+) -> Result<String, Stop>
+    requires { IsSeatOf turn.now first.old × IsSeatOf turn.now second.old }
+    ensures first { IsSeatOf turn.now first.new × IsSame first.old first.new }
+    ensures second { IsSeatOf turn.now second.new × IsSame second.old second.new }
+{
+    if number == 1 {
+        move_told(rt, alloc, turn, first, next, &mut kept.first, steps)
+    } else {
+        move_told(rt, alloc, turn, second, next, &mut kept.second, steps)
+    }
+}
+
 /// What each of these moves tells, each of the first seat or of the second one.
 fn play<R: Wait, L: Ledger>(
     rt: &R,
@@ -223,22 +253,44 @@ fn play<R: Wait, L: Ledger>(
     ensures first { IsSeatOf turn.now first.new × IsSame first.old first.new }
     ensures second { IsSeatOf turn.now second.new × IsSame second.old second.new }
 {
-    let mut one = Text::of(alloc, b"")?;
-    let mut two = Text::of(alloc, b"")?;
+    let mut kept = Kept {
+        first: Text::of(alloc, b"")?,
+        second: Text::of(alloc, b"")?,
+    };
     let mut told = Vec::new(alloc);
     for next in moves {
         let (number, next) = *next;
-        let line = if number == 1 {
-            move_told(rt, alloc, turn, first, next, &mut one, steps)?
-        } else {
-            move_told(rt, alloc, turn, second, next, &mut two, steps)?
-        };
-        told.push(line)?;
+        told.push(next_move(
+            rt, alloc, turn, first, second, number, next, &mut kept, steps,
+        )?)?;
     }
     Ok(told)
 }
 
-/// The same with a second seat of its own. Both have room for so many blocks.
+/// The same by two seats that rest, with room for so many blocks, and rest again at the end.
+fn play_settled<R: Wait, L: Ledger>(
+    rt: &R,
+    alloc: Global,
+    turn: &Turn<Server>,
+    first: &mut Seat<Server>,
+    second: &mut Seat<Server>,
+    room: u32,
+    moves: &[(u32, Move<'_>)],
+    steps: &mut Steps<L>,
+) -> Result<Vec<String>, Stop>
+    requires { IsResting turn.now first.old × IsResting turn.now second.old }
+    ensures first { IsResting turn.now first.new × IsSame first.old first.new }
+    ensures second { IsResting turn.now second.new × IsSame second.old second.new }
+{
+    let _ = first.with_room(alloc, room);
+    let _ = second.with_room(alloc, room);
+    let told = play(rt, alloc, turn, first, second, moves, steps);
+    settle(rt, alloc, turn, first);
+    settle(rt, alloc, turn, second);
+    told
+}
+
+/// The same with a second seat of its own.
 fn play_beside<R: Wait, L: Ledger>(
     rt: &R,
     alloc: Global,
@@ -256,11 +308,7 @@ fn play_beside<R: Wait, L: Ledger>(
     let Ok(mut second) = first.split(alloc, turn) else {
         return Err(Stop::Memory);
     };
-    let _ = first.with_room(alloc, room);
-    let _ = second.with_room(alloc, room);
-    let told = play(rt, alloc, turn, first, &mut second, moves, steps);
-    settle(rt, alloc, turn, first);
-    settle(rt, alloc, turn, &mut second);
+    let told = play_settled(rt, alloc, turn, first, &mut second, room, moves, steps);
     first.meet(turn, second);
     told
 }

@@ -433,6 +433,39 @@ fn play_turns<R: Wait, L: Ledger>(
     take_turns(rt, alloc, turn, first, second, third, plain, course, steps)
 }
 
+/// What the last SELECT of each seat answered.
+#[derive(Drop)]
+struct Kept {
+    first: Text,
+    second: Text,
+    third: Text,
+}
+
+/// One turn of one of the three seats.
+fn next_turn<R: Wait, L: Ledger>(
+    rt: &R,
+    alloc: Global,
+    turn: &Turn<Server>,
+    first: &mut Seat<Server>,
+    second: &mut Seat<Server>,
+    third: &mut Seat<Server>,
+    plain: &mut Plain<'_>,
+    dice: &mut Dice,
+    kept: &mut Kept,
+    steps: &mut Steps<L>,
+) -> Result<String, Stop>
+    requires { IsSeatOf turn.now first.old × IsSeatOf turn.now second.old × IsSeatOf turn.now third.old }
+    ensures first { IsSeatOf turn.now first.new × IsSame first.old first.new }
+    ensures second { IsSeatOf turn.now second.new × IsSame second.old second.new }
+    ensures third { IsSeatOf turn.now third.new × IsSame third.old third.new }
+{
+    match dice.below(3) {
+        0 => one_turn(rt, alloc, turn, first, plain, dice, &mut kept.first, steps),
+        1 => one_turn(rt, alloc, turn, second, plain, dice, &mut kept.second, steps),
+        _ => one_turn(rt, alloc, turn, third, plain, dice, &mut kept.third, steps),
+    }
+}
+
 /// So many turns of the three seats.
 fn take_turns<R: Wait, L: Ledger>(
     rt: &R,
@@ -451,15 +484,15 @@ fn take_turns<R: Wait, L: Ledger>(
     ensures third { IsSeatOf turn.now third.new × IsSame third.old third.new }
 {
     let mut dice = Dice { seed: course.seed };
-    let mut one = Text::of(alloc, b"")?;
-    let mut two = Text::of(alloc, b"")?;
-    let mut three = Text::of(alloc, b"")?;
+    let mut kept = Kept {
+        first: Text::of(alloc, b"")?,
+        second: Text::of(alloc, b"")?,
+        third: Text::of(alloc, b"")?,
+    };
     for number in 0..course.turns {
-        let found = match dice.below(3) {
-            0 => one_turn(rt, alloc, turn, first, plain, &mut dice, &mut one, steps)?,
-            1 => one_turn(rt, alloc, turn, second, plain, &mut dice, &mut two, steps)?,
-            _ => one_turn(rt, alloc, turn, third, plain, &mut dice, &mut three, steps)?,
-        };
+        let found = next_turn(
+            rt, alloc, turn, first, second, third, plain, &mut dice, &mut kept, steps,
+        )?;
         if !found.is_empty() {
             return Ok(format!(in alloc; "turn {number}: {found}")?);
         }
@@ -473,6 +506,33 @@ struct Course {
     seed: u64,
     turns: u32,
     room: u32,
+}
+
+/// The same by three seats with room for as many blocks as the course says, which rest again at the end.
+fn play_settled<R: Wait, L: Ledger>(
+    rt: &R,
+    alloc: Global,
+    turn: &Turn<Server>,
+    first: &mut Seat<Server>,
+    second: &mut Seat<Server>,
+    third: &mut Seat<Server>,
+    plain: &mut Plain<'_>,
+    course: Course,
+    steps: &mut Steps<L>,
+) -> Result<String, Stop>
+    requires { IsResting turn.now first.old × IsResting turn.now second.old × IsResting turn.now third.old }
+    ensures first { IsResting turn.now first.new × IsSame first.old first.new }
+    ensures second { IsResting turn.now second.new × IsSame second.old second.new }
+    ensures third { IsResting turn.now third.new × IsSame third.old third.new }
+{
+    let _ = first.with_room(alloc, course.room);
+    let _ = second.with_room(alloc, course.room);
+    let _ = third.with_room(alloc, course.room);
+    let found = play_turns(rt, alloc, turn, first, second, third, plain, course, steps);
+    settle(rt, alloc, turn, first);
+    settle(rt, alloc, turn, second);
+    settle(rt, alloc, turn, third);
+    found
 }
 
 /// The same with a third seat of its own.
@@ -490,16 +550,13 @@ fn play_third<R: Wait, L: Ledger>(
     requires second { IsResting turn.now second.old }
     requires few { first.old.made < last_seat }
     ensures first { IsFirst turn.now first.new }
-    ensures second { IsSeatOf turn.now second.new × IsSame second.old second.new }
+    ensures second { IsResting turn.now second.new × IsSame second.old second.new }
     ensures met { MeetsAll (view first.old).registry (view first.new).registry }
 {
     let Ok(mut third) = first.split(alloc, turn) else {
         return Err(Stop::Memory);
     };
-    let _ = third.with_room(alloc, course.room);
-    let found = play_turns(rt, alloc, turn, first, second, &mut third, plain, course, steps);
-    settle(rt, alloc, turn, first);
-    settle(rt, alloc, turn, &mut third);
+    let found = play_settled(rt, alloc, turn, first, second, &mut third, plain, course, steps);
     first.meet(turn, third);
     found
 }
@@ -522,10 +579,7 @@ fn play_second<R: Wait, L: Ledger>(
     let Ok(mut second) = first.split(alloc, turn) else {
         return Err(Stop::Memory);
     };
-    let _ = first.with_room(alloc, course.room);
-    let _ = second.with_room(alloc, course.room);
     let found = play_third(rt, alloc, turn, first, &mut second, plain, course, steps);
-    settle(rt, alloc, turn, &mut second);
     first.meet(turn, second);
     found
 }
