@@ -1,5 +1,5 @@
 -- What a SELECT asks, and with which task its seat may give the turn back.
-use Rattle.std.proofs.Common.{◌≡◌, ℕ, ◌+◌, ◌≤◌, Bool, true, false, List, [], ◌∷◌, ◌++◌, length, refl, sym, ap, subst, ◌∙◌, append_assoc}
+use Rattle.std.proofs.Common.{◌≡◌, ℕ, ◌+◌, ◌≤◌, Bool, true, false, List, [], ◌∷◌, ◌++◌, length, refl, sym, ap, subst, ◌∙◌, append_assoc, inl, inr}
 use Rattle.std.specs.Prelude.{◌&&◌, Option, Some, None, IfSome, option_and_then}
 use Rattle.std.specs.List.{list_all}
 use Rattle.std.proofs.lemmas.Bool.{and_parts, and_from}
@@ -16,8 +16,8 @@ use Rattle.qc_trx.specs.SnapshotStates.{SnapshotState}
 use Rattle.qc_turn.specs.Releases.{SpellsReleased}
 use Rattle.qc_turn.specs.Rules.{ContentRule}
 use Rattle.qc_turn.specs.Seats.{Held, holder, words, with_ranges, MayRelease}
-use Rattle.qc_turn.specs.Tasks.{listed_for, own, is_stream, task_in, blocks_in, released_task, released_blocks}
-use Rattle.qc_turn.specs.Views.{content_of, with_word_set, bytes_on}
+use Rattle.qc_turn.specs.Tasks.{IsListed, listed_for, own, is_stream, task_in, blocks_in, released_task, released_blocks}
+use Rattle.qc_turn.specs.Views.{after_release, content_of, with_word_set, bytes_on}
 use Rattle.qc_turn.specs.declared.task.ListedTask.{ListedTask}
 use Rattle.qc_turn.specs.declared.task.Task.{Task}
 use Rattle.qc_turn.specs.declared.task.Task.TheVariants as task
@@ -36,7 +36,7 @@ use Rattle.qc_sound.specs.Sound.{FitsFill}
 use Rattle.qc_turn.specs.Words.{word_seats}
 use Rattle.qc_turn.specs.declared.view.FoundWord.{FoundWord}
 use Rattle.qc_core.specs.Sweeps.{Finds}
-use Rattle.qc_core.specs.Whole.{tasks_of}
+use Rattle.qc_core.specs.Whole.{IsSomewhereSound, tasks_of}
 use Rattle.qc_core.proofs.Filling.{some_of}
 use Rattle.qc_flow.proofs.Packets.{front_fits}
 use Rattle.qc_sound.specs.Events.{is_small_event, is_small_operation, makes_short_name}
@@ -46,7 +46,7 @@ use Rattle.qc_chain.specs.Chains.{Ranged}
 use Rattle.qc_select.specs.Selects.{MayAsk, Decided, Decides, how_of, selected_tasks}
 use Rattle.qc_select.specs.declared.selected.Selected.{Selected}
 use Rattle.qc_select.specs.declared.selected.Selected.TheVariants as selected
-use Rattle.qc_core_tests.specs.Seats.{IsPlain, IsSameHolder, MayAskNow, MayBegin, MayEnd}
+use Rattle.qc_core_tests.specs.Seats.{IsIdle, IsPlain, IsSameHolder, MayAskNow, MayBegin, MayEnd}
 use Rattle.qc_core_tests.specs.Selects.{task_after}
 
 -- a session with no transaction may ask
@@ -141,3 +141,21 @@ found_same h k found f = record {
   word_set = ap (λ u. u.word_set) f.holder;
   task = ap (λ u. u.task) f.holder;
 }
+
+-- ---- a seat that did nothing under the turn
+
+pub somewhere_sound : (h : Held Parts Event ghosts) → MayRelease h → IsSomewhereSound h.value
+somewhere_sound h m = (words h, m.sound)
+
+idle_by : {P : List ListedTask → Type 0} (n : ℕ) (ts : List ListedTask) → IsListed n task.Rest [] ts → P [] → ((s : ℕ) (bs : List Block) → P (own n (task.Stream s) bs)) → P ts
+idle_by n ts (inl e) none ended = subst P (sym e) none
+idle_by n ts (inr e) none ended = subst P (sym e.1.2) (ended e.1.0 e.1.1)
+
+pub idle_content : (h : Held Parts Event ghosts) → IsIdle h → SpellsReleased ghosts (with_word_set (holder h) false) h.value (words h)
+idle_content h i =
+    let w = holder h in
+    idle_by {λ ts. ContentRule ghosts h.value (words h) (released_task false (task_in ts)) (released_blocks (released_task false (task_in ts)) (blocks_in ts)) (content_of ghosts (words h) w.task w.content (released_task false (task_in ts)) (released_blocks (released_task false (task_in ts)) (blocks_in ts)))}
+    w.number (listed_for w.number (tasks_of h.value)) i.rests tt (λ s bs. tt)
+
+pub idle_rests : (h : Held Parts Event ghosts) → IsIdle h → (after_release ghosts (with_word_set (holder h) false) h.value (words h)).task ≡ task.Rest
+idle_rests h i = idle_by {λ ts. released_task false (task_in ts) ≡ task.Rest} (holder h).number (listed_for (holder h).number (tasks_of h.value)) i.rests refl (λ s bs. refl)

@@ -71,6 +71,17 @@ pub(crate) fn give_back(held: Held<'_, Server>)
     held.release(Task::Rest);
 }
 
+/// Gives the turn back for a seat that did nothing under it, and rests.
+#[tactic(auto, using(crate::proofs::Selecting::idle_content, crate::proofs::Selecting::idle_rests))]
+pub(crate) fn hand_back(held: Held<'_, Server>)
+    requires { IsIdle held }
+    ensures seated { IsSeatOf held.entry.turn.now held.exit.1.0.now }
+    ensures view { ((view held.exit.1.0.now).number ≡ (holder held.entry).number) × ((view held.exit.1.0.now).registry ≡ (holder held.entry).registry) }
+    ensures rests { IsResting held.entry.turn.now held.exit.1.0.now }
+{
+    held.release(Task::Rest);
+}
+
 /// Gives the turn back, with this task.
 #[tactic(auto, using(crate::proofs::Selecting::ends_content))]
 pub(crate) fn end_with(held: Held<'_, Server>, task: Task)

@@ -1,12 +1,12 @@
 //! Steps of two seats that may keep a stream or a fill between them.
 
-ghost use Rattle.std.specs.Prelude.{◌≡◌, ◌<◌, ◌≤◌};
-ghost use Rattle.qc_turn.specs.Seats.{IsSeatOf, view};
+ghost use Rattle.std.specs.Prelude.{◌≡◌, ◌<◌};
+ghost use Rattle.qc_turn.specs.Seats.{IsSeatOf, MayRelease, view};
 ghost use Rattle.qc_turn.specs.declared.task.Task.TheVariants as task;
 ghost use Rattle.qc_turn.specs.Words.{last_seat};
 ghost use Rattle.qc_core_tests.specs.Seats.{IsFirst, IsResting, IsSame, MeetsAll};
 
-use crate::calls::{Step, end_with, give_back, take_turn};
+use crate::calls::{Step, end_with, give_back, hand_back, take_turn};
 use crate::fills::{give_up, settle, stop_streaming, streams};
 use crate::hall::open;
 use crate::lines::lines_from;
@@ -17,7 +17,7 @@ use qc_core::Server;
 use qc_flow::Fill;
 use qc_model::events::Counters;
 use qc_turn::{Held, Seat, Task, Turn};
-use qc_types::{NoMemory, Options, Steps, Text};
+use qc_types::{Options, Steps, Text};
 use std::alloc::{AllocError, Global};
 use std::marker::Brand;
 use std::sync::Wait;
@@ -118,11 +118,28 @@ fn rest_told<R: Wait>(
 {
     let mut held = turn.take(rt, seat);
     let told = lines_from(alloc, held.value().journal(), first);
-    give_back(held);
+    hand_back(held);
     told
 }
 
 /// The counters in words: Com_select, hits, inserts, not cached, prunes, and entries.
+#[tactic(auto, using(crate::proofs::Selecting::somewhere_sound))]
+fn counters_told(held: &mut Held<'_, Server>, alloc: Global) -> Result<String, AllocError>
+    requires { MayRelease held.old }
+    ensures { held.new ≡ held.old }
+{
+    let Counters {
+        com_select,
+        hits,
+        inserts,
+        not_cached,
+        lowmem_prunes,
+        queries_in_cache,
+    } = held.value().counters();
+    format!(in alloc; "{com_select} {hits} {inserts} {not_cached} {lowmem_prunes} {queries_in_cache}")
+}
+
+/// Takes the turn to tell the counters.
 fn counted<R: Wait>(
     rt: &R,
     alloc: Global,
@@ -133,16 +150,9 @@ fn counted<R: Wait>(
     ensures { IsResting turn.now seat.new × IsSame seat.old seat.new }
 {
     let mut held = turn.take(rt, seat);
-    let Counters {
-        com_select,
-        hits,
-        inserts,
-        not_cached,
-        lowmem_prunes,
-        queries_in_cache,
-    } = held.value().counters();
-    give_back(held);
-    Ok(format!(in alloc; "{com_select} {hits} {inserts} {not_cached} {lowmem_prunes} {queries_in_cache}")?)
+    let told = counters_told(&mut held, alloc);
+    hand_back(held);
+    Ok(told?)
 }
 
 /// Ends a stream, and tells whether it had the bytes that the SELECT answered.

@@ -1,12 +1,12 @@
 //! Random steps of three seats, each compared with the plain server.
 
-ghost use Rattle.std.specs.Prelude.{◌≡◌, ◌<◌, ◌≤◌, ◌+◌};
-ghost use Rattle.qc_turn.specs.Seats.{IsSeatOf, view};
+ghost use Rattle.std.specs.Prelude.{◌≡◌, ◌<◌};
+ghost use Rattle.qc_turn.specs.Seats.{IsSeatOf, MayRelease, view};
 ghost use Rattle.qc_turn.specs.Words.{last_seat};
 ghost use Rattle.qc_turn.specs.declared.task.Task.TheVariants as task;
 ghost use Rattle.qc_core_tests.specs.Seats.{IsFirst, IsResting, IsSame, MeetsAll};
 
-use crate::calls::{Step, end_with, give_back, make};
+use crate::calls::{Step, end_with, give_back, hand_back, make};
 use crate::changes::Change;
 use crate::fills::{give_up, settle, stop_streaming, streams};
 use crate::hall::open;
@@ -90,11 +90,13 @@ fn table_of(table: usize) -> &'static [u8] {
 }
 
 /// Where the server isn't the plain one: its counters, or one of the last entries.
+#[tactic(auto, using(crate::proofs::Selecting::somewhere_sound))]
 fn differences(
     held: &mut Held<'_, Server>,
     alloc: Global,
     plain: &Plain<'_>,
 ) -> Result<String, AllocError>
+    requires { MayRelease held.old }
     ensures { held.new ≡ held.old }
 {
     let Counters {
@@ -170,7 +172,7 @@ fn compared<R: Wait>(
     let mut held = turn.take(rt, seat);
     let told = lines_from(alloc, held.value().journal(), first);
     let found = differences(&mut held, alloc, plain);
-    give_back(held);
+    hand_back(held);
     Ok((told?, found?))
 }
 
