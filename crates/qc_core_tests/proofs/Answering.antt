@@ -1,0 +1,60 @@
+-- What an entry answers that a SELECT began.
+use Rattle.std.proofs.Common.{◌≡◌, ℕ, ◌+◌, ◌%◌, ◌≤◌, Bool, true, false, List, [], ◌∷◌, ◌++◌, length, refl, sym, ap, subst, ◌∙◌, append_assoc}
+use Rattle.std.specs.Prelude.{◌&&◌, not, Option, Some, None, Result, Ok, Err, option_and_then, option_map}
+use Rattle.std.specs.List.{list_all, list_any, concat, AllByRecursion}
+use Rattle.std.proofs.lemmas.Bool.{and_from}
+use Rattle.qc_types.specs.declared.names.TableName.{TableName}
+use Rattle.qc_types.specs.declared.options.Options.{Options}
+use Rattle.qc_types.specs.declared.sql_error.SqlError.{SqlError}
+use Rattle.qc_sql.specs.declared.session.Asked.{Asked}
+use Rattle.qc_sql.specs.declared.statements.Select.{Select}
+use Rattle.qc_sql.specs.Database.{Database, touches}
+use Rattle.qc_sql.specs.Packets.{most_payload, numbered, packet_list, packets, payloads}
+use Rattle.qc_sql.specs.Rows.{Rows, rows}
+use Rattle.qc_sql.specs.Rules.{Why, select_tables, why_not}
+use Rattle.qc_eval.specs.Plans.{PlanView}
+use Rattle.qc_laws.specs.history.Seen.{IsPlace, is_current}
+use Rattle.qc_laws.specs.sizes.Names.{is_short_select}
+use Rattle.qc_laws.specs.sizes.Replies.{is_bounded_database}
+use Rattle.qc_laws.proofs.fits.Kept.{neither}
+use Rattle.qc_laws.proofs.history.Answers.{starts_answer}
+use Rattle.qc_laws.proofs.sizes.Payloads.{reply_payloads_fit}
+use Rattle.qc_laws.proofs.sizes.Selects.{rows_answer}
+use Rattle.qc_model.specs.declared.events.Event.TheVariants as event
+use Rattle.qc_model.specs.declared.events.How.TheVariants as how
+use Rattle.qc_model.specs.declared.events.Reason.TheVariants as reason
+use Rattle.qc_model.specs.declared.events.Who.{Who}
+use Rattle.qc_model.specs.Choice.{changed_since}
+use Rattle.qc_model.specs.Journal.{Journal, last_change, present}
+use Rattle.qc_model.specs.Session.{State, Transaction, base, flags_of, key_of_text, of_transaction, rows_reply, seen_in, select_reply, snapshot_of}
+use Rattle.qc_select.specs.Selects.{IsOfText, planned, reason_by, given}
+use Rattle.qc_select.proofs.Pruned.{present_stays}
+use Rattle.qc_model.specs.Cache.{is_prune}
+use Rattle.qc_core_tests.specs.Fillings.{IsPacket}
+use Rattle.qc_core_tests.specs.Seats.{Answers}
+
+-- a session with no transaction sees each table as it is now
+current_all : (state : State) (j : Journal) (ts : List TableName) → state.transaction ≡ None → list_all (is_current state j) ts ≡ true
+current_all state j [] none = refl
+current_all state j (t ∷ ts) none =
+    let one : is_current state j t ≡ true = λ i. not (list_any (touches t) (of_transaction (none i))) && not (changed_since (option_and_then (λ (x : Transaction). x.snapshot) (none i)) (last_change j t)) in
+    and_from (is_current state j t) (list_all (is_current state j) ts) one (current_all state j ts none)
+
+planned_ok : (r : Result Rows SqlError) (plan : PlanView) → Ok plan ≡ planned r → (q : Rows) × (r ≡ Ok q)
+planned_ok (Ok q) plan h = (q, refl)
+planned_ok (Err e) plan h = absurd cc
+
+no_rule : (o : Option Why) → option_map reason.Rule o ≡ None → o ≡ None
+no_rule None h = refl
+no_rule (Some w) h = absurd cc
+
+cut_all : (n : ℕ) (ps : List (List ℕ)) → AllByRecursion (λ p. length p ≤ most_payload) ps → AllByRecursion IsPacket (numbered n ps)
+cut_all n [] h = tt
+cut_all n (p ∷ ps) h = (record { sequence = n; payload = p; is = refl; few = h.0 }, cut_all ((n + 1) % 256) ps h.1)
+
+-- where no reason keeps a select out, the text keeps it in
+kept_in : (options : Options) (state : State) (asked : Asked) (select : Select) (j : Journal) (key : List ℕ) → reason_by options state asked select j key ≡ None → why_not state.db select ≡ None
+kept_in options state asked select j key h =
+    let outside = (neither _ _ h).1 in
+    let rule = (neither _ _ outside).0 in
+    no_rule (why_not state.db select) (neither _ _ (neither _ _ rule).1).1
