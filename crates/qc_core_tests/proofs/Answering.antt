@@ -26,12 +26,12 @@ use Rattle.qc_model.specs.declared.events.Reason.TheVariants as reason
 use Rattle.qc_model.specs.declared.events.Who.{Who}
 use Rattle.qc_model.specs.Choice.{changed_since}
 use Rattle.qc_model.specs.Journal.{Journal, last_change, present}
-use Rattle.qc_model.specs.Session.{State, Transaction, base, flags_of, key_of_text, of_transaction, rows_reply, seen_in, select_reply, snapshot_of}
+use Rattle.qc_model.specs.Session.{State, Transaction, answer_packets, base, flags_of, key_of_text, of_transaction, rows_reply, seen_in, select_reply, snapshot_of}
 use Rattle.qc_select.specs.Selects.{IsOfText, planned, reason_by, given}
 use Rattle.qc_select.proofs.Pruned.{present_stays}
 use Rattle.qc_model.specs.Cache.{is_prune}
 use Rattle.qc_core_tests.specs.Fillings.{IsPacket}
-use Rattle.qc_core_tests.specs.Seats.{Answers}
+use Rattle.qc_core_tests.specs.Seats.{Answers, IsPlain}
 
 -- a session with no transaction sees each table as it is now
 current_all : (state : State) (j : Journal) (ts : List TableName) → state.transaction ≡ None → list_all (is_current state j) ts ≡ true
@@ -58,3 +58,21 @@ kept_in options state asked select j key h =
     let outside = (neither _ _ h).1 in
     let rule = (neither _ _ outside).0 in
     no_rule (why_not state.db select) (neither _ _ (neither _ _ rule).1).1
+
+module _ (options : Options) (state : State) (asked : Asked) (select : Select) (j prunes : Journal) (who : Who) (text key : List ℕ) (serial : ℕ) (tables : List TableName) (plan : PlanView) (d : Database) where
+  pub answers_start : IsPlain (record { state = state; origin = None }) → IsOfText state key select asked text → is_short_select select ≡ true → is_bounded_database d ≡ true → d ≡ present j → list_all is_prune prunes ≡ true
+      → reason_by options state asked select j key ≡ None → Ok plan ≡ planned (given state j select)
+      → Answers serial (packets (select_reply (flags_of state) (rows select d state.db (flags_of state) state.session))) (j ++ (prunes ++ event.Run who (how.Start serial key tables) ∷ []))
+  answers_start p t short bounded now only why made =
+      let flags = flags_of state in
+      let none : snapshot_of state ≡ None = ap (option_and_then (λ (x : Transaction). x.snapshot)) p.closed in
+      let r = planned_ok (given state j select) plan made in
+      let same : base state j ≡ d = ap (λ (o : Option Transaction). seen_in o j) p.closed ∙ sym now in
+      let found = starts_answer state j text select r.0 p.keyed (subst (IsPlace j) (sym none) tt) t.means (kept_in options state asked select j key why) (current_all state j (select_tables state.db select) p.closed) r.1 in
+      let here : rows select d state.db flags state.session ≡ Ok r.0 = ap (λ (x : Database). rows select x state.db flags state.session) (sym same) ∙ r.1 in
+      record {
+        start = record { who = who; key = key; tables = tables; earlier = j ++ prunes; later = []; split = sym (append_assoc j prunes (event.Run who (how.Start serial key tables) ∷ [])) };
+        packets = packet_list (rows_reply flags r.0);
+        answered = (λ i. answer_packets (t.key_is i) (present_stays j prunes only i)) ∙ found.packets;
+        spells = ap (λ (x : Result Rows SqlError). packets (select_reply flags x)) here;
+      }

@@ -20,7 +20,7 @@ const HEADER: usize = 4;
 /// The first packet of what is left of an entry's answer.
 fn next_packet(rest: &[u8]) -> &[u8]
     requires some { 0 < length rest.now }
-    ensures { (packets : List (List ℕ)) → rest.now ≡ concat packets → AllByRecursion IsPacket packets → CutsOff result.now rest.now packets }
+    ensures cut { (packets : List (List ℕ)) → rest.now ≡ concat packets → AllByRecursion IsPacket packets → CutsOff result.now rest.now packets }
     ensures within { length result.now ≤ length rest.now }
     ensures some { 0 < length result.now }
 {
