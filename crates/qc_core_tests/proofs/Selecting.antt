@@ -119,7 +119,7 @@ begins_now o j prunes new who key tables (selected.Start serial place plan) is l
 begins_now o j prunes new who key tables (selected.Plain why place plan) is lawful = tt
 
 module _ (h k : Held Parts Event ghosts) (who : Who) (key text : List ℕ) (select : Select) (asked : Asked) (state : State) (x : Selected) (found : List FoundWord) (f : Finds h (with_ranges k h.ranges) found)
-  (d : Decided (holder h).number who key select asked state h.value k.value h.ranges k.ranges found x) (e : Decides who text key select state h.value k.value x) (may : MayAskNow who h) (stands : MayRelease k) where
+    (d : Decided (holder h).number who key select asked state h.value k.value h.ranges k.ranges found x) (e : Decides who text key select state h.value k.value x) (may : MayAskNow who h) (stands : MayRelease k) where
   pub decided_ends : MayEnd (task_after x) k
   decided_ends =
       let number : (holder k).number ≡ (holder h).number = ap (λ u. u.number) f.holder in
@@ -147,15 +147,15 @@ found_same h k found f = record {
 pub somewhere_sound : (h : Held Parts Event ghosts) → MayRelease h → IsSomewhereSound h.value
 somewhere_sound h m = (words h, m.sound)
 
-idle_by : {P : List ListedTask → Type 0} (n : ℕ) (ts : List ListedTask) → IsListed n task.Rest [] ts → P [] → ((s : ℕ) (bs : List Block) → P (own n (task.Stream s) bs)) → P ts
-idle_by n ts (inl e) none ended = subst P (sym e) none
-idle_by n ts (inr e) none ended = subst P (sym e.1.2) (ended e.1.0 e.1.1)
+idle_by : (P : List ListedTask → Type 0) (n : ℕ) (ts : List ListedTask) → IsListed n task.Rest [] ts → P [] → ((s : ℕ) (bs : List Block) → P (own n (task.Stream s) bs)) → P ts
+idle_by P n ts (inl e) none ended = subst P (sym e) none
+idle_by P n ts (inr e) none ended = subst P (sym e.1.2) (ended e.1.0 e.1.1)
 
 pub idle_content : (h : Held Parts Event ghosts) → IsIdle h → SpellsReleased ghosts (with_word_set (holder h) false) h.value (words h)
 idle_content h i =
     let w = holder h in
-    idle_by {λ ts. ContentRule ghosts h.value (words h) (released_task false (task_in ts)) (released_blocks (released_task false (task_in ts)) (blocks_in ts)) (content_of ghosts (words h) w.task w.content (released_task false (task_in ts)) (released_blocks (released_task false (task_in ts)) (blocks_in ts)))}
+    idle_by (λ ts. ContentRule ghosts h.value (words h) (released_task false (task_in ts)) (released_blocks (released_task false (task_in ts)) (blocks_in ts)) (content_of ghosts (words h) w.task w.content (released_task false (task_in ts)) (released_blocks (released_task false (task_in ts)) (blocks_in ts))))
     w.number (listed_for w.number (tasks_of h.value)) i.rests tt (λ s bs. tt)
 
 pub idle_rests : (h : Held Parts Event ghosts) → IsIdle h → (after_release ghosts (with_word_set (holder h) false) h.value (words h)).task ≡ task.Rest
-idle_rests h i = idle_by {λ ts. released_task false (task_in ts) ≡ task.Rest} (holder h).number (listed_for (holder h).number (tasks_of h.value)) i.rests refl (λ s bs. refl)
+idle_rests h i = idle_by (λ ts. released_task false (task_in ts) ≡ task.Rest) (holder h).number (listed_for (holder h).number (tasks_of h.value)) i.rests refl (λ s bs. refl)

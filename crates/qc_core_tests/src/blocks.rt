@@ -190,12 +190,7 @@ fn slip(tiles: &mut Vec<Tile>, tile: Tile) -> Result<(), AllocError> {
 }
 
 /// Puts the front of a free block behind others, with this name, and the rest where it has the least words or more.
-fn hand_out(
-    tiles: &mut Vec<Tile>,
-    words: u32,
-    need: u32,
-    name: u32,
-) -> Result<(), AllocError> {
+fn hand_out(tiles: &mut Vec<Tile>, words: u32, need: u32, name: u32) -> Result<(), AllocError> {
     let rest = words.saturating_sub(need);
     if rest < LEAST {
         tiles.push(Tile {

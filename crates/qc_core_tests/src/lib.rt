@@ -12,7 +12,7 @@ mod moves;
 mod plain;
 mod selects;
 mod stop;
-mod turns;
-mod whole;
 #[cfg(test)]
 mod tests;
+mod turns;
+mod whole;

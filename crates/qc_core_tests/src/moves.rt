@@ -136,7 +136,9 @@ fn counters_told(held: &mut Held<'_, Server>, alloc: Global) -> Result<String, A
         lowmem_prunes,
         queries_in_cache,
     } = held.value().counters();
-    format!(in alloc; "{com_select} {hits} {inserts} {not_cached} {lowmem_prunes} {queries_in_cache}")
+    format!(in alloc;
+        "{com_select} {hits} {inserts} {not_cached} {lowmem_prunes} {queries_in_cache}"
+    )
 }
 
 /// Takes the turn to tell the counters.
@@ -347,7 +349,15 @@ fn play_moves_by<R: Wait, L: Ledger>(
 {
     let mut steps = Steps::<L>::new(blank);
     let (turn, mut first) = open(alloc, options)?;
-    let told = play_beside(rt, alloc, &turn, &mut first, options.size / 512, moves, &mut steps);
+    let told = play_beside(
+        rt,
+        alloc,
+        &turn,
+        &mut first,
+        options.size / 512,
+        moves,
+        &mut steps,
+    );
     let _server = turn.close(first);
     told
 }

@@ -141,7 +141,10 @@ impl<'a> Plain<'a> {
     }
 
     fn is_used(&self, serial: u64) -> bool {
-        self.tasks.as_slice().iter().any(|task| task.serial == serial)
+        self.tasks
+            .as_slice()
+            .iter()
+            .any(|task| task.serial == serial)
     }
 
     /// Whether an entry names a table.

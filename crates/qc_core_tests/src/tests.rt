@@ -116,14 +116,25 @@ const MOVES: &[(u32, u32, &[(u32, Move<'static>)], &[&str])] = &[
             (2, Take(Status)),
             (2, Count),
         ],
-        &["start 1, done 1", "hit 1", "whole", "status 5 2 130880", "1 1 1 0 0 1"],
+        &[
+            "start 1, done 1",
+            "hit 1",
+            "whole",
+            "status 5 2 130880",
+            "1 1 1 0 0 1",
+        ],
     ),
     // the one entry of a small region goes for the next
     (
         2048,
         512,
         &[(2, S1), (2, S2), (2, Take(Status)), (2, Count)],
-        &["start 1, done 1", "prune 1 64 0, start 2, done 2", "status 4 1 64", "2 0 2 0 1 1"],
+        &[
+            "start 1, done 1",
+            "prune 1 64 0, start 2, done 2",
+            "status 4 1 64",
+            "2 0 2 0 1 1",
+        ],
     ),
     // the text of the third entry finds no room, and the entry goes that was used longest ago
     (
@@ -141,7 +152,16 @@ const MOVES: &[(u32, u32, &[(u32, Move<'static>)], &[&str])] = &[
     (
         3072,
         512,
-        &[(2, S1), (2, S2), (2, S1), (2, End), (2, S3), (2, S1), (2, End), (2, Take(Status))],
+        &[
+            (2, S1),
+            (2, S2),
+            (2, S1),
+            (2, End),
+            (2, S3),
+            (2, S1),
+            (2, End),
+            (2, Take(Status)),
+        ],
         &[
             "start 1, done 1",
             "start 2, done 2",
@@ -157,7 +177,16 @@ const MOVES: &[(u32, u32, &[(u32, Move<'static>)], &[&str])] = &[
     (
         3072,
         512,
-        &[(2, S1), (2, S2), (1, Take(Join)), (1, S1), (2, S2), (2, End), (2, S3), (1, End)],
+        &[
+            (2, S1),
+            (2, S2),
+            (1, Take(Join)),
+            (1, S1),
+            (2, S2),
+            (2, End),
+            (2, S3),
+            (1, End),
+        ],
         &[
             "start 1, done 1",
             "start 2, done 2",

@@ -33,7 +33,10 @@ const TEXTS: &[(&str, &[u32])] = &[
     ("SELECT id FROM t WHERE id = 1", &[0]),
     ("SELECT id FROM u WHERE id = 2", &[1]),
     ("SELECT t.id FROM t JOIN u ON t.id = u.id", &[0, 1]),
-    ("SELECT v.id FROM v JOIN t ON t.id = v.id JOIN u ON u.id = v.id", &[2, 0, 1]),
+    (
+        "SELECT v.id FROM v JOIN t ON t.id = v.id JOIN u ON u.id = v.id",
+        &[2, 0, 1],
+    ),
     (
         "SELECT id FROM v WHERE id = 1 OR id = 100000000000000001 OR id = 100000000000000002 OR id = 100000000000000003 OR id = 100000000000000004 OR id = 100000000000000005 OR id = 100000000000000006 OR id = 100000000000000007 OR id = 100000000000000008 OR id = 100000000000000009 OR id = 100000000000000010 OR id = 100000000000000011 OR id = 100000000000000012 OR id = 100000000000000013 OR id = 100000000000000014 OR id = 100000000000000015 OR id = 100000000000000016 OR id = 100000000000000017 OR id = 100000000000000018",
         &[2],
@@ -58,7 +61,11 @@ impl Dice {
             .seed
             .wrapping_mul(6_364_136_223_846_793_005)
             .wrapping_add(1_442_695_040_888_963_407);
-        if most == 0 { 0 } else { (self.seed >> 33) % most }
+        if most == 0 {
+            0
+        } else {
+            (self.seed >> 33) % most
+        }
     }
 }
 
@@ -127,7 +134,12 @@ fn differences(
 }
 
 /// A turn's event lines, or where they aren't those of the plain server.
-fn judged(alloc: Global, told: String, found: String, plain: &mut Plain<'_>) -> Result<String, AllocError> {
+fn judged(
+    alloc: Global,
+    told: String,
+    found: String,
+    plain: &mut Plain<'_>,
+) -> Result<String, AllocError> {
     let wanted = plain.take_lines();
     if told.as_str() != wanted.as_str() {
         return format!(in alloc; "told {told} for {wanted}");
@@ -463,7 +475,16 @@ fn next_turn<R: Wait, L: Ledger>(
 {
     match dice.below(3) {
         0 => one_turn(rt, alloc, turn, first, plain, dice, &mut kept.first, steps),
-        1 => one_turn(rt, alloc, turn, second, plain, dice, &mut kept.second, steps),
+        1 => one_turn(
+            rt,
+            alloc,
+            turn,
+            second,
+            plain,
+            dice,
+            &mut kept.second,
+            steps,
+        ),
         _ => one_turn(rt, alloc, turn, third, plain, dice, &mut kept.third, steps),
     }
 }
@@ -558,7 +579,9 @@ fn play_third<R: Wait, L: Ledger>(
     let Ok(mut third) = first.split(alloc, turn) else {
         return Err(Stop::Memory);
     };
-    let found = play_settled(rt, alloc, turn, first, second, &mut third, plain, course, steps);
+    let found = play_settled(
+        rt, alloc, turn, first, second, &mut third, plain, course, steps,
+    );
     first.meet(turn, third);
     found
 }
@@ -613,7 +636,12 @@ fn play_random_by<R: Wait, L: Ledger>(
 {
     let mut steps = Steps::<L>::new(blank);
     let queries = queries(alloc)?;
-    let mut plain = Plain::new(alloc, queries.as_slice(), options.size / 8, options.unit / 8)?;
+    let mut plain = Plain::new(
+        alloc,
+        queries.as_slice(),
+        options.size / 8,
+        options.unit / 8,
+    )?;
     let (turn, mut first) = open(alloc, options)?;
     let found = play_second(rt, alloc, &turn, &mut first, &mut plain, course, &mut steps);
     let _server = turn.close(first);
