@@ -51,7 +51,7 @@ use Rattle.qc_select.proofs.Rooms.{more_refl, more_trans, next_more}
 use Rattle.qc_select.proofs.Seeing.{seen_is}
 use Rattle.qc_select.proofs.Sweeping.{Keeps, finds_none, keeps_both, more_keeps, rested_keeps}
 
-abbrev H : Type 0
+abbrev pub H : Type 0
 H = Held Parts Event ghosts
 
 -- ---- the plan

@@ -1,6 +1,6 @@
 //! A SELECT is decided.
 
-ghost use Rattle.std.specs.Prelude.{◌≡◌, ℕ, ◌+◌, ◌-◌, ◌*◌, ◌^◌, ◌<◌, ◌≤◌, true, List, length, option_map, Some, None, Ok, Err, OnErr, IfOk, IfSome, IfNone};
+ghost use Rattle.std.specs.Prelude.{◌≡◌, ℕ, ◌+◌, ◌-◌, ◌*◌, ◌^◌, ◌<◌, ◌≤◌, true, List, [], length, option_map, Some, None, Ok, Err, OnErr, IfOk, IfSome, IfNone};
 ghost use Rattle.qc_sql.specs.Rules.{select_tables};
 ghost use Rattle.qc_model.specs.declared.events.Event.TheVariants as event;
 ghost use Rattle.qc_model.specs.declared.events.How.TheVariants as how;
@@ -44,7 +44,7 @@ use std::alloc::Global;
 /// session's own transaction, a table changed since its snapshot, or another session fills an entry of the key. Else an entry is begun, or it runs plain for
 /// want of room. The plan, or the refusal, is that of the database which the session sees at the place of the event, and is made once, before any event.
 /// Before all that the seat's own stream, which has ended, is struck off where it is listed still. Where memory lacks, that was done, there may be more room
-/// in the journal, and nothing else changed.
+/// in the journal, and nothing else changed; nothing is listed for the seat then.
 pub fn run_select(
     held: &mut Held<'_, Server>,
     alloc: Global,
@@ -64,6 +64,7 @@ pub fn run_select(
     requires state { MayAsk held.old.value.journal.events state.now }
     ensures stands { MayRelease held.new }
     ensures memory { OnErr result (SameHolder held.old held.new × HasMoreRoom (rested (holder held.old).number held.old.value) held.new.value × (held.new.ranges ≡ held.old.ranges)) }
+    ensures rests { OnErr result (listed_for (holder held.old).number (tasks_of held.new.value) ≡ []) }
     ensures decided { IfOk result (λ x. (found : List FoundWord) × Finds held.old (with_ranges held.new held.old.ranges) found
         × Decided (holder held.old).number who key select.now asked state.now.state held.old.value held.new.value held.old.ranges held.new.ranges found x) }
     ensures decides { (text : List ℕ) → IsOfText state.now.state key select.now asked text → IfOk result (λ x. Decides who text key select.now state.now.state held.old.value held.new.value x) }

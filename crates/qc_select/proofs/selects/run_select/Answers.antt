@@ -1,12 +1,21 @@
-use Rattle.std.proofs.Common.{◌∙◌, ℕ, List, ap}
-use Rattle.std.specs.Prelude.{option_map}
+use Rattle.std.proofs.Common.{◌≡◌, ◌∙◌, ℕ, List, [], ap, sym}
+use Rattle.std.specs.Prelude.{Result, Ok, Err, OnErr, option_map}
 use Rattle.qc_model.specs.Cache.{Entry}
-use Rattle.qc_turn.specs.Seats.{holder}
+use Rattle.qc_turn.specs.Seats.{SameHolder, holder}
+use Rattle.qc_turn.specs.Tasks.{listed_for}
+use Rattle.qc_turn.proofs.Holders.{number_is}
+use Rattle.qc_core.specs.Whole.{tasks_of}
+use Rattle.qc_core.specs.Calls.{HasMoreRoom}
 use Rattle.qc_core.specs.Strikes.{rested}
 use Rattle.qc_select.specs.declared.selected.Selected.TheVariants as selected
 use Rattle.qc_select.specs.Selects.{answering_asked}
-use Rattle.qc_select.proofs.Composing.{ask_reserved, at_error, behind_both, behind_look, behind_reserve, err_behind, hit_decided, next_behind, next_reserved, ok_behind, ok_decides, one_behind, one_decides, ranges_reserved}
+use Rattle.qc_select.proofs.Composing.{H, ask_reserved, at_error, behind_both, behind_look, behind_reserve, err_behind, hit_decided, next_behind, next_reserved, ok_behind, ok_decides, one_behind, one_decides, ranges_reserved}
 use Rattle.qc_select.proofs.selects.run_select.Goals as goal
+
+-- more room lists nothing
+err_free : {A E : Type 0} (r : Result A E) (h l m : H) → SameHolder h l → listed_for (holder l).number (tasks_of l.value) ≡ [] → OnErr r (SameHolder l m × HasMoreRoom l.value m.value × (m.ranges ≡ l.ranges)) → OnErr r (listed_for (holder h).number (tasks_of m.value) ≡ [])
+err_free (Ok x) h l m same free e = tt
+err_free (Err y) h l m same free e = (λ i. listed_for (sym (number_is h l same) i) (tasks_of (e.1.same i))) ∙ free
 
 pub look_where_asked-requires-clause-next : goal.look_where_asked-requires-clause-next
 look_where_asked-requires-clause-next c =
@@ -28,6 +37,9 @@ returns-in_err-reserve-clause-memory c =
     let k = c.reserve.new.held in
     let b = behind_reserve h k c.reserve.ensures.stands.1 c.reserve.ensures.same c.reserve.ensures.ranges in
     at_error c.from_residual.result (b.same, b.more, b.ranges)
+
+pub returns-in_err-reserve-clause-rests : goal.returns-in_err-reserve-clause-rests
+returns-in_err-reserve-clause-rests c = at_error c.from_residual.result c.reserve.ensures.rests
 
 pub returns-in-Some-clause-decided : goal.returns-in-Some-clause-decided
 returns-in-Some-clause-decided c =
@@ -91,6 +103,17 @@ returns-clause-memory c =
     let l = c.look_where_asked.new.held in
     let looked = behind_look c.look_where_asked.result k l c.in_default.is c.look_where_asked.ensures.stands.1 c.look_where_asked.ensures.none in
     err_behind c.run_unanswered.result (rested (holder h).number h.value) h l c.run_unanswered.new.held (behind_both (rested (holder h).number h.value) h k l b looked) c.run_unanswered.ensures.memory
+
+pub returns-clause-rests : goal.returns-clause-rests
+returns-clause-rests c =
+    let h = c.args.held.now in
+    let k = c.reserve.new.held in
+    let b = behind_reserve h k c.reserve.ensures.stands.1 c.reserve.ensures.same c.reserve.ensures.ranges in
+    let l = c.look_where_asked.new.held in
+    let looked = behind_look c.look_where_asked.result k l c.in_default.is c.look_where_asked.ensures.stands.1 c.look_where_asked.ensures.none in
+    let next = next_reserved h k c.args.who b c.requires.session c.requires.number c.requires.connected c.reserve.ensures.rests in
+    let reached = behind_both (rested (holder h).number h.value) h k l b looked in
+    err_free c.run_unanswered.result h l c.run_unanswered.new.held reached.same (next_behind k l c.args.who looked next).free c.run_unanswered.ensures.memory
 
 pub returns-clause-decided : goal.returns-clause-decided
 returns-clause-decided c =
