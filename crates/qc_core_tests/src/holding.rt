@@ -2,7 +2,7 @@
 
 ghost use Rattle.std.specs.Prelude.{◌≡◌, true, [], ◌∷◌, IfOk};
 ghost use Rattle.qc_model.specs.Licence.{op_fits};
-ghost use Rattle.qc_sound.specs.Events.{is_small_operation};
+ghost use Rattle.qc_laws.specs.sizes.Operations.{is_small_operation};
 ghost use Rattle.qc_core.specs.Calls.{IsNoted};
 ghost use Rattle.qc_core_tests.specs.Seats.{IsIdle, IsReady, MayRest, IsSameHolder};
 

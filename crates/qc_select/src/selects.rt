@@ -24,12 +24,12 @@ ghost use Rattle.qc_core.specs.Strikes.{rested};
 ghost use Rattle.qc_select.specs.declared.selected.Selected.TheVariants as selected;
 ghost use Rattle.qc_select.specs.Selects.{IsOfText, MayAsk, answering_asked, outside_by, given, planned, Decided, Decides, Begins};
 
-use crate::copies::copy_reason;
 use crate::plans::prepare;
 use crate::reasons::{is_asked, own_reason};
 use crate::selected::Selected;
 use qc_core::{Begun, Hit, Server, Started, look, plain, reserve, rival, start};
 use qc_eval::Plan;
+use qc_journal::copy_of_reason;
 use qc_model::events::{Reason, Who};
 use qc_parse::tables;
 use qc_rules::Asked;
@@ -242,7 +242,7 @@ fn run_plain(
     ensures pushed { IfOk result (λ x. held.new.value ≡ with_event (event.Run who (how.Plain why)) held.old.value) }
     ensures ranges { held.new.ranges ≡ held.old.ranges }
 {
-    let told = copy_reason(alloc, &why)?;
+    let told = copy_of_reason(alloc, &why)?;
     let place = plain(held, who, why);
     Ok(Selected::Plain {
         reason: told,
