@@ -19,7 +19,8 @@ use Rattle.qc_laws.specs.runs.Runs.{report_of}
 use Rattle.qc_single.specs.Stage.{first_machine}
 use Rattle.qc_laws.specs.sizes.Names.{is_short}
 use Rattle.qc_laws.specs.sizes.Replies.{is_bounded_column, is_bounded_kind, is_bounded_operation}
-use Rattle.qc_single.specs.Sound.{is_simple, is_small_operation, makes_short_name}
+use Rattle.qc_laws.specs.sizes.Operations.{is_small_operation, makes_short_name}
+use Rattle.qc_single.specs.Sound.{is_simple}
 use Rattle.qc_app.specs.Ran.{IsReportOf}
 use Rattle.qc_single.proofs.Ends.{one_session, no_session}
 

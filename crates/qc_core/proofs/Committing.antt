@@ -25,7 +25,7 @@ use Rattle.qc_dir.specs.Directory.{names_table}
 use Rattle.qc_turn.specs.Tasks.{listed_for}
 use Rattle.qc_turn.specs.Releases.{Follows}
 use Rattle.qc_core.specs.contracts.server.ServerKept.TheImpl.{ghosts}
-use Rattle.qc_sound.specs.Events.{is_small_operation}
+use Rattle.qc_laws.specs.sizes.Operations.{is_small_operation}
 use Rattle.qc_sound.specs.PlainServer.{StoredEntry}
 use Rattle.qc_sound.specs.Moment.{at_rest}
 use Rattle.qc_sound.specs.parts.Directory.{IsStoredAs}

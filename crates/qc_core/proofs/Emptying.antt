@@ -17,7 +17,7 @@ use Rattle.qc_chain.specs.Chains.{Chain as Kept}
 use Rattle.qc_dir.specs.declared.entries.Entry.{Entry}
 use Rattle.qc_dir.specs.declared.tables.TableBlock.{TableBlock}
 use Rattle.qc_dir.specs.Directory.{IsDirectory, entry_at, has_serial}
-use Rattle.qc_sound.specs.Events.{is_small_operation}
+use Rattle.qc_laws.specs.sizes.Operations.{is_small_operation}
 use Rattle.qc_sound.specs.PlainServer.{PlainServer, StoredEntry, EntryChain, is_task_on, is_stored, is_wanted, listed_tasks}
 use Rattle.qc_sound.specs.Moment.{Moment}
 use Rattle.qc_sound.specs.Sound.{IsSound}

@@ -9,7 +9,7 @@ ghost use Rattle.qc_model.specs.Licence.{ops_fit};
 ghost use Rattle.qc_table.specs.Fitting.{fitting};
 ghost use Rattle.qc_dir.specs.Directory.{names_table};
 ghost use Rattle.qc_turn.specs.Seats.{MayRelease, SameHolder};
-ghost use Rattle.qc_sound.specs.Events.{is_small_operation};
+ghost use Rattle.qc_laws.specs.sizes.Operations.{is_small_operation};
 ghost use Rattle.qc_core.specs.Whole.{tasks_of};
 ghost use Rattle.qc_core.specs.Calls.{IsNext, HasSpare};
 ghost use Rattle.qc_core.specs.Cuts.{HasSoundBlocks};

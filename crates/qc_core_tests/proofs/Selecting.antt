@@ -39,7 +39,7 @@ use Rattle.qc_core.specs.Sweeps.{Finds}
 use Rattle.qc_core.specs.Whole.{IsSomewhereSound, tasks_of}
 use Rattle.qc_core.proofs.Filling.{some_of}
 use Rattle.qc_flow.proofs.Packets.{front_fits}
-use Rattle.qc_sound.specs.Events.{is_small_event, is_small_operation, makes_short_name}
+use Rattle.qc_laws.specs.sizes.Operations.{is_small_event, is_small_operation, makes_short_name}
 use Rattle.qc_core.specs.contracts.server.ServerKept.TheImpl.{ghosts}
 use Rattle.qc_core.specs.declared.parts.Parts.{Parts}
 use Rattle.qc_chain.specs.Chains.{Ranged}

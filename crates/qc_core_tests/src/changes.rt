@@ -3,7 +3,7 @@
 ghost use Rattle.std.specs.Prelude.{◌≡◌, ◌<◌, true, IfOk};
 ghost use Rattle.qc_laws.specs.sizes.Replies.{are_bounded_columns, is_bounded_row};
 ghost use Rattle.qc_model.specs.Licence.{op_fits};
-ghost use Rattle.qc_sound.specs.Events.{is_small_operation};
+ghost use Rattle.qc_laws.specs.sizes.Operations.{is_small_operation};
 
 use crate::stop::Stop;
 use qc_sql::tables::{Column, Columns, Kind, RowOp, StoredRow};

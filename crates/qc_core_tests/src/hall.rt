@@ -1,4 +1,4 @@
-//! A turn over a new server, with three seats.
+//! A turn over a new server, and the seats that act on it.
 
 ghost use Rattle.std.specs.Prelude.{◌≡◌, ◌+◌, ◌/◌, ◌<◌, ◌≤◌, [], IfOk};
 ghost use Rattle.qc_turn.specs.Releases.{IsFresh};

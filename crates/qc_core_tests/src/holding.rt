@@ -2,7 +2,7 @@
 
 ghost use Rattle.std.specs.Prelude.{◌≡◌, ◌≤◌, true, [], ◌∷◌, IfOk, OnOk};
 ghost use Rattle.qc_model.specs.Licence.{op_fits};
-ghost use Rattle.qc_sound.specs.Events.{is_small_operation};
+ghost use Rattle.qc_laws.specs.sizes.Operations.{is_small_operation};
 ghost use Rattle.qc_turn.specs.Seats.{holder};
 ghost use Rattle.qc_turn.specs.Words.{word_seats};
 ghost use Rattle.qc_core.specs.Calls.{IsNoted};

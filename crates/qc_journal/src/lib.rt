@@ -10,4 +10,5 @@ mod touching;
 pub use journal::Journal;
 pub use qc_model::events::{Counters, Event, Events, GoneWhy, How, Reason, Who};
 pub use qc_types::Totals;
+pub use replicas::copy_of_reason;
 pub use touching::any_touches;

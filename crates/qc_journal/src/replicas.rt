@@ -26,6 +26,13 @@ pub(crate) fn replicas<T: Replicate>(alloc: Global, items: &[T]) -> Result<Owned
     Ok(list)
 }
 
+/// An equal reason, in memory of its own. Linear in its size.
+pub fn copy_of_reason(alloc: Global, reason: &Reason) -> Result<Reason, NoMemory>
+    ensures { IfOk result (λ copy. copy ≡ reason.now) }
+{
+    reason.replicate(alloc)
+}
+
 impl Replicate for RowOp {
     fn replicate(&self, alloc: Global) -> Result<RowOp, NoMemory> {
         match self {

@@ -1,8 +1,10 @@
 -- One part of the call behind another.
-use Rattle.std.proofs.Common.{◌≡◌, ℕ, ◌*◌, ◌≤◌, List, [], length, sym, ap, subst, ◌∙◌, arith}
-use Rattle.std.specs.Prelude.{Option, Some, None, Result, Ok, Err, IfNone, IfOk, IfSome, OnErr, option_map}
+use Rattle.std.proofs.Common.{◌≡◌, ℕ, ◌+◌, ◌-◌, ◌*◌, ◌≤◌, true, List, [], length, sym, ap, subst, ◌∙◌, arith}
+use Rattle.std.specs.Prelude.{◌==◌, Option, Some, None, Result, Ok, Err, IfNone, IfOk, IfSome, OnErr, option_map}
+use Rattle.std.specs.List.{list_any}
 use Rattle.std.proofs.lemmas.Option.{none-some, same_Some}
 use Rattle.qc_types.specs.declared.names.TableName.{TableName}
+use Rattle.qc_types.specs.declared.options.Options.{Options}
 use Rattle.qc_types.specs.declared.sql_error.SqlError.{SqlError}
 use Rattle.qc_sql.specs.declared.session.Asked.{Asked}
 use Rattle.qc_sql.specs.declared.statements.Select.{Select}
@@ -20,6 +22,7 @@ use Rattle.qc_model.specs.declared.events.How.TheVariants as how
 use Rattle.qc_model.specs.declared.events.Reason.{Reason}
 use Rattle.qc_model.specs.declared.events.Reason.TheVariants as reason
 use Rattle.qc_model.specs.Choice.{rival, unseen_reason}
+use Rattle.qc_model.specs.Journal.{Journal, event_count}
 use Rattle.qc_model.specs.Cache.{Entry}
 use Rattle.qc_model.specs.Session.{State, flags_of}
 use Rattle.qc_trx.specs.SnapshotStates.{IsSnapshotState, SnapshotState, seen_on}
@@ -33,6 +36,7 @@ use Rattle.qc_core.specs.declared.parts.Parts.{Parts}
 use Rattle.qc_core.specs.contracts.server.ServerKept.TheImpl.{ghosts}
 use Rattle.qc_core.specs.Whole.{tasks_of, with_event}
 use Rattle.qc_core.specs.Calls.{HasMoreRoom, IsNext}
+use Rattle.qc_core.specs.Connects.{is_connected}
 use Rattle.qc_core.specs.Hits.{IsChainOf, hit_server}
 use Rattle.qc_core.specs.Plains.{MayRunPlain}
 use Rattle.qc_core.specs.Strikes.{rested}
@@ -41,13 +45,13 @@ use Rattle.qc_select.specs.declared.selected.Selected.{Selected}
 use Rattle.qc_select.specs.declared.selected.Selected.TheVariants as selected
 use Rattle.qc_select.specs.Selects.{Begins, Decided, Decides, IsOfText, MayAsk, answering_asked, given, outside_by, planned, rule_by}
 use Rattle.qc_select.proofs.Answering.{IsUnanswered, decided_begins, decided_hit, decided_more, decided_outside, decided_refused, finds_behind}
-use Rattle.qc_select.proofs.Deciding.{decides}
+use Rattle.qc_select.proofs.Deciding.{decides, decides_on}
 use Rattle.qc_select.proofs.Permitting.{MayGoOn}
-use Rattle.qc_select.proofs.Rooms.{more_refl, more_rested, more_trans, next_more}
+use Rattle.qc_select.proofs.Rooms.{more_refl, more_trans, next_more}
 use Rattle.qc_select.proofs.Seeing.{seen_is}
-use Rattle.qc_select.proofs.Sweeping.{finds_none}
+use Rattle.qc_select.proofs.Sweeping.{Keeps, finds_none, keeps_both, more_keeps, rested_keeps}
 
-abbrev H : Type 0
+abbrev pub H : Type 0
 H = Held Parts Event ghosts
 
 -- ---- the plan
@@ -78,39 +82,65 @@ outside_of h s asked select ts key k o why named same is found = sym (is ∙ λ 
 
 -- ---- a holding behind another
 
-pub record IsBehind (h k : H) : Type 0 where
+-- the same holding, with more room than this server
+pub record IsBehind (start : Parts) (h k : H) : Type 0 where
   pub same : SameHolder h k
-  pub more : HasMoreRoom h.value k.value
+  pub more : HasMoreRoom start k.value
   pub ranges : k.ranges ≡ h.ranges
 
-pub behind_look : {A : Type 0} (o : Option A) (h k l : H) → o ≡ None → IsBehind h k → SameHolder k l → IfNone o ((l.value ≡ k.value) × (l.ranges ≡ k.ranges)) → IsBehind h l
-behind_look None h k l is b same none = record {
-  same = same_on h k l b.same same;
-  more = subst (HasMoreRoom h.value) (sym none.0) b.more;
-  ranges = none.1 ∙ b.ranges;
-}
-behind_look (Some x) h k l is b same none = absurd (none-some x (sym is))
+-- the own stream was struck off, and the room for the events was made
+abbrev pub IsReserved : H → H → Type 0
+IsReserved h k = IsBehind (rested (holder h).number h.value) h k
 
-pub behind_reserve : (h k : H) (who : Who) → IsNext h who → SameHolder h k → HasMoreRoom (rested (holder h).number h.value) k.value → k.ranges ≡ h.ranges → IsBehind h k
-behind_reserve h k who next same more ranges = record { same = same; more = more_rested (holder h).number h.value k.value next.free more; ranges = ranges }
+pub behind_reserve : (h k : H) → SameHolder h k → HasMoreRoom (rested (holder h).number h.value) k.value → k.ranges ≡ h.ranges → IsReserved h k
+behind_reserve h k same more ranges = record { same = same; more = more; ranges = ranges }
 
 more_same : (a b : Parts) → b ≡ a → HasMoreRoom a b
 more_same a b e = subst (HasMoreRoom a) (sym e) (more_refl a)
 
-pub behind_same : (h k : H) → SameHolder h k → k.value ≡ h.value → k.ranges ≡ h.ranges → IsBehind h k
+pub behind_same : (h k : H) → SameHolder h k → k.value ≡ h.value → k.ranges ≡ h.ranges → IsBehind h.value h k
 behind_same h k same value ranges = record { same = same; more = more_same h.value k.value value; ranges = ranges }
+
+pub behind_look : {A : Type 0} (o : Option A) (h k : H) → o ≡ None → SameHolder h k → IfNone o ((k.value ≡ h.value) × (k.ranges ≡ h.ranges)) → IsBehind h.value h k
+behind_look None h k is same none = behind_same h k same none.0 none.1
+behind_look (Some x) h k is same none = absurd (none-some x (sym is))
+
+pub behind_both : (start : Parts) (h k l : H) → IsBehind start h k → IsBehind k.value k l → IsBehind start h l
+behind_both start h k l a b = record { same = same_on h k l a.same b.same; more = more_trans start k.value l.value a.more b.more; ranges = b.ranges ∙ a.ranges }
+
+pub reserved_keeps : (h k : H) → IsReserved h k → Keeps h.value k.value
+reserved_keeps h k b = keeps_both h.value (rested (holder h).number h.value) k.value (rested_keeps (holder h).number h.value) (more_keeps (rested (holder h).number h.value) k.value b.more)
+
+-- nothing is listed for the seat any more
+pub next_reserved : (h k : H) (who : Who) → IsReserved h k → who.session ≡ (holder h).number - 1 → who.number ≡ event_count h.value.journal.events who.session + 1 → is_connected (holder h).number h.value ≡ true
+    → listed_for (holder h).number (tasks_of k.value) ≡ [] → IsNext k who
+next_reserved h k who b session number connected free =
+    let keeps = reserved_keeps h k b in
+    let same = number_is h k b.same in
+    record {
+      session = session ∙ ap (λ i. i - 1) (sym same);
+      number = number ∙ ap (λ j. event_count j who.session + 1) (sym keeps.events);
+      connected = (λ i. list_any (λ m. m == same i) (keeps.connected i).items) ∙ connected;
+      free = ap (λ n. listed_for n (tasks_of k.value)) same ∙ free;
+    }
+
+pub ranges_reserved : (h k : H) → IsReserved h k → h.value.options.size ≤ 512 * h.ranges.room → k.value.options.size ≤ 512 * k.ranges.room
+ranges_reserved h k b long = subst (λ (p : Options × Ranged). p.0.size ≤ 512 * p.1.room) (λ i. (sym (reserved_keeps h k b).options i, sym b.ranges i)) long
+
+pub ask_reserved : (h k : H) (x : SnapshotState) → IsReserved h k → MayAsk h.value.journal.events x → MayAsk k.value.journal.events x
+ask_reserved h k x b ask = subst (λ (j : Journal). MayAsk j x) (sym (reserved_keeps h k b).events) ask
 
 -- the same may be said of an error
 pub at_error : {A E P : Type 0} (r : Result A E) → P → OnErr r P
 at_error (Ok x) p = tt
 at_error (Err y) p = p
 
-pub next_behind : (h k : H) (who : Who) → IsBehind h k → IsNext h who → IsNext k who
+pub next_behind : (h k : H) (who : Who) → IsBehind h.value h k → IsNext h who → IsNext k who
 next_behind h k who b next = next_more h k who b.same b.more next
 
-pub err_behind : {A E : Type 0} (r : Result A E) (h k m : H) → IsBehind h k → OnErr r (SameHolder k m × HasMoreRoom k.value m.value × (m.ranges ≡ k.ranges)) → OnErr r (SameHolder h m × HasMoreRoom h.value m.value × (m.ranges ≡ h.ranges))
-err_behind (Ok x) h k m b e = tt
-err_behind (Err y) h k m b e = (same_on h k m b.same e.0, more_trans h.value k.value m.value b.more e.1, e.2 ∙ b.ranges)
+pub err_behind : {A E : Type 0} (r : Result A E) (start : Parts) (h k m : H) → IsBehind start h k → OnErr r (SameHolder k m × HasMoreRoom k.value m.value × (m.ranges ≡ k.ranges)) → OnErr r (SameHolder h m × HasMoreRoom start m.value × (m.ranges ≡ h.ranges))
+err_behind (Ok x) start h k m b e = tt
+err_behind (Err y) start h k m b e = (same_on h k m b.same e.0, more_trans start k.value m.value b.more e.1, e.2 ∙ b.ranges)
 
 pub go_on : (h : H) (who : Who) → MayRelease h → IsNext h who → MayGoOn h.value who
 go_on h who stands next = record {
@@ -132,28 +162,30 @@ module _ (who : Who) (key : List ℕ) (select : Select) (asked : Asked) (s : Sta
   abbrev pub IsDecided : H → H → Selected → Type 0
   IsDecided h m x = (found : List FoundWord) × Finds h (with_ranges m h.ranges) found × Decided (holder h).number who key select asked s h.value m.value h.ranges m.ranges found x
 
-  one_behind : (h k m : H) (x : Selected) → IsBehind h k → IsDecided k m x → IsDecided h m x
-  one_behind h k m x b d = (
-    d.0,
-    finds_behind h k m d.0 b.same d.1,
-    subst (λ (p : ℕ × Ranged). Decided p.0 who key select asked s h.value m.value p.1 m.ranges d.0 x) (λ i. (number_is h k b.same i, b.ranges i)) (decided_more (holder k).number who key select asked s h.value k.value m.value k.ranges m.ranges d.0 x b.more d.2),
-  )
+  pub one_behind : (h k m : H) (x : Selected) → IsReserved h k → IsNext k who → IsDecided k m x → IsDecided h m x
+  one_behind h k m x b next d =
+      let same = number_is h k b.same in (
+        d.0,
+        finds_behind h k m d.0 b.same d.1,
+        decided_more (holder h).number who key select asked s h.value k.value m.value h.ranges m.ranges d.0 x b.more (ap (λ n. listed_for n (tasks_of k.value)) (sym same) ∙ next.free)
+            (subst (λ (p : ℕ × Ranged). Decided p.0 who key select asked s k.value m.value p.1 m.ranges d.0 x) (λ i. (same i, b.ranges i)) d.2),
+      )
 
-  pub ok_behind : {E : Type 0} (r : Result Selected E) (h k m : H) → IsBehind h k → IfOk r (IsDecided k m) → IfOk r (IsDecided h m)
-  ok_behind (Ok x) h k m b d = one_behind h k m x b d
-  ok_behind (Err e) h k m b d = tt
+  pub ok_behind : {E : Type 0} (r : Result Selected E) (h k m : H) → IsReserved h k → IsNext k who → IfOk r (IsDecided k m) → IfOk r (IsDecided h m)
+  ok_behind (Ok x) h k m b next d = one_behind h k m x b next d
+  ok_behind (Err e) h k m b next d = tt
 
   -- an entry answers
-  hit_at : (h m : H) (hit : Hit) → SameHolder h m → Some hit.serial ≡ option_map (λ entry. entry.serial) (answering_asked h.value.options asked s h.value.journal.events key)
+  hit_at : (h m : H) (hit : Hit) → IsNext h who → SameHolder h m → Some hit.serial ≡ option_map (λ entry. entry.serial) (answering_asked h.value.options asked s h.value.journal.events key)
       → m.value ≡ hit_server who hit.serial (holder h).number h.value → (hit.place ≡ length m.value.journal.events) × (hit.bytes ≡ m.ranges.bytes) → IsChainOf hit.serial m.value m.ranges → hit.bytes ≤ 8 * words_of m.ranges.blocks → m.ranges.room ≡ h.ranges.room
       → listed_for (holder h).number (tasks_of m.value) ≡ own (holder h).number (task.Stream hit.serial) m.ranges.blocks → IsDecided h m (selected.Hit hit)
-  hit_at h m hit same found server place chain within kept listed = ([], finds_none h m same, decided_hit (holder h).number who key select asked s h.value m.value h.ranges m.ranges hit found server place.0 place.1 chain within kept listed)
+  hit_at h m hit next same found server place chain within kept listed = ([], finds_none h m same, decided_hit (holder h).number who key select asked s h.value next.free m.value h.ranges m.ranges hit found server place.0 place.1 chain within kept listed)
 
-  pub hit_decided : (h k m : H) (o : Option Hit) (hit : Hit) → o ≡ Some hit → IsBehind h k → SameHolder k m → option_map (λ hit. hit.serial) o ≡ option_map (λ entry. entry.serial) (answering_asked k.value.options asked s k.value.journal.events key)
+  pub hit_decided : (k m : H) (o : Option Hit) (hit : Hit) → o ≡ Some hit → IsNext k who → SameHolder k m → option_map (λ hit. hit.serial) o ≡ option_map (λ entry. entry.serial) (answering_asked k.value.options asked s k.value.journal.events key)
       → IfSome o (λ hit. m.value ≡ hit_server who hit.serial (holder k).number k.value) → IfSome o (λ hit. (hit.place ≡ length m.value.journal.events) × (hit.bytes ≡ m.ranges.bytes)) → IfSome o (λ hit. IsChainOf hit.serial m.value m.ranges)
-      → IfSome o (λ hit. hit.bytes ≤ 8 * words_of m.ranges.blocks) → IfSome o (λ hit. m.ranges.room ≡ k.ranges.room) → IfSome o (λ hit. listed_for (holder k).number (tasks_of m.value) ≡ own (holder k).number (task.Stream hit.serial) m.ranges.blocks) → IsDecided h m (selected.Hit hit)
-  hit_decided h k m None hit is b same found server place chain within kept listed = absurd (none-some hit is)
-  hit_decided h k m (Some x) hit is b same found server place chain within kept listed = subst (λ y. IsDecided h m (selected.Hit y)) (same_Some x hit is) (one_behind h k m (selected.Hit x) b (hit_at k m x same found server place chain within kept listed))
+      → IfSome o (λ hit. hit.bytes ≤ 8 * words_of m.ranges.blocks) → IfSome o (λ hit. m.ranges.room ≡ k.ranges.room) → IfSome o (λ hit. listed_for (holder k).number (tasks_of m.value) ≡ own (holder k).number (task.Stream hit.serial) m.ranges.blocks) → IsDecided k m (selected.Hit hit)
+  hit_decided k m None hit is next same found server place chain within kept listed = absurd (none-some hit is)
+  hit_decided k m (Some x) hit is next same found server place chain within kept listed = subst (λ y. IsDecided k m (selected.Hit y)) (same_Some x hit is) (hit_at k m x next same found server place chain within kept listed)
 
   -- it is refused
   pub refused_decided : (h k m : H) (e : SqlError) (x : Selected) → IsNext h who → IsUnanswered (holder h).number who key select asked s h.value → ◌≡◌ {A = Result PlanView SqlError} (Err e) (planned (given s h.value.journal.events select)) → SameHolder h k → k.value ≡ h.value → SameHolder k m
@@ -161,7 +193,7 @@ module _ (who : Who) (key : List ℕ) (select : Select) (asked : Asked) (s : Sta
   refused_decided h k m e x next none is same value after what pushed ranges =
       let run = event.Run who (how.Plain (reason.Error e.code)) in
       let own = pushed ∙ ap (with_event run) value in
-      subst (IsDecided h m) (sym what) ([], finds_none h m (same_on h k m same after), decided_refused (holder h).number who key select asked s h.value m.value h.ranges m.ranges e none is own ranges (still_free h m.value run who next own))
+      subst (IsDecided h m) (sym what) ([], finds_none h m (same_on h k m same after), decided_refused (holder h).number who key select asked s h.value next.free m.value h.ranges m.ranges e none is own ranges (still_free h m.value run who next own))
 
   -- it runs plain
   pub plain_decided : {E : Type 0} (r : Result Selected E) (h k m : H) (why : Reason) (plan : PlanView) → IsNext h who → IsUnanswered (holder h).number who key select asked s h.value → ◌≡◌ {A = Result PlanView _} (Ok plan) (planned (given s h.value.journal.events select))
@@ -173,18 +205,18 @@ module _ (who : Who) (key : List ℕ) (select : Select) (asked : Asked) (s : Sta
       subst (IsDecided h m) (sym what) (
         [],
         finds_none h m (same_on h k m same after),
-        decided_outside (holder h).number who key select asked s h.value m.value h.ranges m.ranges why plan none is out may own ranges (still_free h m.value (event.Run who (how.Plain why)) who next own),
+        decided_outside (holder h).number who key select asked s h.value next.free m.value h.ranges m.ranges why plan none is out may own ranges (still_free h m.value (event.Run who (how.Plain why)) who next own),
       )
 
   -- a start is tried
-  pub begins_decided : {E : Type 0} (r : Result Selected E) (h k m : H) (plan : PlanView) (ts : List TableName) → IsUnanswered (holder h).number who key select asked s h.value → ◌≡◌ {A = Result PlanView _} (Ok plan) (planned (given s h.value.journal.events select))
+  pub begins_decided : {E : Type 0} (r : Result Selected E) (h k m : H) (plan : PlanView) (ts : List TableName) → IsNext h who → IsUnanswered (holder h).number who key select asked s h.value → ◌≡◌ {A = Result PlanView _} (Ok plan) (planned (given s h.value.journal.events select))
       → outside_by h.value.options s asked select h.value.journal.events (select_tables s.db select) key ≡ None → ts ≡ select_tables s.db select → SameHolder h k → k.value ≡ h.value → k.ranges ≡ h.ranges
       → IfOk r (λ x. (found : List FoundWord) × Finds k (with_ranges m k.ranges) found × Begins (holder k).number who key ts plan k.value m.value k.ranges m.ranges found x) → IfOk r (IsDecided h m)
-  begins_decided (Err e) h k m plan ts none is out named same value ranges b = tt
-  begins_decided (Ok x) h k m plan ts none is out named same value ranges b = (
+  begins_decided (Err e) h k m plan ts next none is out named same value ranges b = tt
+  begins_decided (Ok x) h k m plan ts next none is out named same value ranges b = (
     b.0,
     finds_behind h k m b.0 same b.1,
-    decided_begins (holder h).number who key select asked s h.value m.value h.ranges m.ranges b.0 plan x none is out
+    decided_begins (holder h).number who key select asked s h.value next.free m.value h.ranges m.ranges b.0 plan x none is out
         (subst (λ (p : ℕ × Parts × Ranged × List TableName). Begins p.0 who key p.3 plan p.1 m.value p.2 m.ranges b.0 x) (λ i. (number_is h k same i, value i, ranges i, named i)) b.2),
   )
 
@@ -194,10 +226,12 @@ err_plain (Err y) h k m same value after e ranges = (same_on h k m same after, m
 
 -- ---- for the text
 
-module _ (h : H) (x : SnapshotState) (key : List ℕ) (select : Select) (asked : Asked) (text : List ℕ) (stands : MayRelease h) (ask : MayAsk h.value.journal.events x) (t : IsOfText x.state key select asked text) where
-  pub one_decides : (who : Who) (m : H) (y : Selected) → IsDecided who key select asked x.state h m y → Decides who text key select x.state h.value m.value y
-  one_decides who m y d = decides (words h) h.value x key select asked text stands.sound ask t (holder h).number who m.value h.ranges m.ranges d.0 y d.2
+module _ (h k : H) (x : SnapshotState) (key : List ℕ) (select : Select) (asked : Asked) (text : List ℕ) (who : Who) (b : IsReserved h k) (stands : MayRelease k) (next : IsNext k who) (ask : MayAsk h.value.journal.events x) (t : IsOfText x.state key select asked text) where
+  pub one_decides : (m : H) (y : Selected) → IsDecided who key select asked x.state k m y → Decides who text key select x.state h.value m.value y
+  one_decides m y d =
+      decides_on h.value k.value m.value who text key select x.state y (reserved_keeps h k b)
+      (decides (words k) k.value x key select asked text stands.sound (ask_reserved h k x b ask) t (holder k).number who m.value k.ranges m.ranges d.0 y next.free d.2)
 
-  pub ok_decides : {E : Type 0} (r : Result Selected E) (who : Who) (m : H) → IfOk r (IsDecided who key select asked x.state h m) → IfOk r (Decides who text key select x.state h.value m.value)
-  ok_decides (Ok y) who m d = one_decides who m y d
-  ok_decides (Err e) who m d = tt
+  pub ok_decides : {E : Type 0} (r : Result Selected E) (m : H) → IfOk r (IsDecided who key select asked x.state k m) → IfOk r (Decides who text key select x.state h.value m.value)
+  ok_decides (Ok y) m d = one_decides m y d
+  ok_decides (Err e) m d = tt

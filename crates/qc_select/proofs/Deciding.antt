@@ -9,8 +9,8 @@ use Rattle.qc_sql.specs.declared.statements.Select.{Select}
 use Rattle.qc_sql.specs.Rules.{select_tables}
 use Rattle.qc_key.specs.Hash.{hash}
 use Rattle.qc_chain.specs.Chains.{Ranged}
-use Rattle.qc_journal.specs.Room.{Recorded}
 use Rattle.qc_turn.specs.declared.view.FoundWord.{FoundWord}
+use Rattle.qc_turn.specs.Tasks.{listed_for}
 use Rattle.qc_dir.specs.declared.entries.Entry.{Entry}
 use Rattle.qc_dir.specs.Directory.{entry_at}
 use Rattle.qc_model.specs.declared.events.Who.{Who}
@@ -32,7 +32,7 @@ use Rattle.qc_trx.specs.SnapshotStates.{SnapshotState}
 use Rattle.qc_sound.specs.Moment.{at_rest}
 use Rattle.qc_sound.proofs.Needs.{needs_are}
 use Rattle.qc_core.specs.declared.parts.Parts.{Parts}
-use Rattle.qc_core.specs.Whole.{Sound, with_event}
+use Rattle.qc_core.specs.Whole.{Sound, tasks_of, with_event}
 use Rattle.qc_core.specs.Calls.{HasMoreRoom}
 use Rattle.qc_core.specs.Hits.{hit_entry}
 use Rattle.qc_core.specs.Sweeps.{swept}
@@ -46,9 +46,10 @@ use Rattle.qc_select.proofs.Choosing.{asked_entry, else_allowed, hit_allowed, pl
 use Rattle.qc_select.proofs.Needing.{is_own_prune, own_are_prunes, own_needs}
 use Rattle.qc_select.proofs.Permitting.{asked_as, reason_as}
 use Rattle.qc_select.proofs.NoReasons.{rows_alike}
+use Rattle.qc_select.proofs.Rooms.{more_rested}
 use Rattle.qc_select.proofs.Seeing.{reached}
 use Rattle.qc_select.proofs.Settling.{settles}
-use Rattle.qc_select.proofs.Sweeping.{swept_keeps}
+use Rattle.qc_select.proofs.Sweeping.{Keeps, keeps_both, more_keeps, swept_keeps}
 
 -- ---- the place
 
@@ -108,14 +109,14 @@ module _ (words : List ℕ) (old : Parts) (x : SnapshotState) (key : List ℕ) (
 
   -- ---- by what was chosen
 
-  pub decides_hit : (seat : ℕ) (who : Who) (new : Parts) (before after : Ranged) (found : List FoundWord) (hit : _) → Decided seat who key select asked s old new before after found (selected.Hit hit) → Decides who text key select s old new (selected.Hit hit)
-  decides_hit seat who new before after found hit d =
+  pub decides_hit : (seat : ℕ) (who : Who) (new : Parts) (before after : Ranged) (found : List FoundWord) (hit : _) → (d : Decided seat who key select asked s old new before after found (selected.Hit hit)) → HasMoreRoom old d.room → Decides who text key select s old new (selected.Hit hit)
+  decides_hit seat who new before after found hit d more =
       let n = hit.serial in
       let a = answers n _ refl d.chosen in
       let e = hit_there n a in
-      let dir : entry_at n d.room.dir.entries ≡ Some e.0 = ap (λ (p : Parts). entry_at n p.dir.entries) d.more.same ∙ e.1 in
+      let dir : entry_at n d.room.dir.entries ≡ Some e.0 = ap (λ (p : Parts). entry_at n p.dir.entries) more.same ∙ e.1 in
       let events : new.journal.events ≡ jn ++ event.Run who (how.Hit n) ∷ [] =
-      ap (λ (p : Parts). p.journal.events) d.does.1 ∙ hit_events who n seat d.room (entry_at n d.room.dir.entries) e.0 dir ∙ ap (λ j. j ++ event.Run who (how.Hit n) ∷ []) d.more.events in
+      ap (λ (p : Parts). p.journal.events) d.does.1 ∙ hit_events who n seat d.room (entry_at n d.room.dir.entries) e.0 dir ∙ ap (λ j. j ++ event.Run who (how.Hit n) ∷ []) more.events in
       let p = place_next jn [] new.journal.events (event.Run who (how.Hit n)) hit.place d.does.2 events in
       record {
         prunes = [];
@@ -159,54 +160,60 @@ module _ (words : List ℕ) (old : Parts) (x : SnapshotState) (key : List ℕ) (
         plan = plan_there r.prunes (place_of y) y prunes p planned;
       }
 
-  -- the same journal and the same options
-  record IsAlike (room : Parts) : Type 0 where
-    pub events : room.journal.events ≡ jn
-    pub options : room.options ≡ old.options
+  swept_same : (found : List FoundWord) (room : Parts) → HasMoreRoom old room → Keeps old (swept found room)
+  swept_same found room more = keeps_both old room (swept found room) (more_keeps old room more) (swept_keeps found room)
 
-  swept_same : (found : List FoundWord) (room : Parts) → HasMoreRoom old room → IsAlike (swept found room)
-  swept_same found room more = let same = swept_keeps found room in record {
-    events = ap (λ (j : Recorded). j.events) same.journal ∙ more.events;
-    options = same.options ∙ ap (λ (p : Parts). p.options) more.same;
-  }
-
-  runs_before : (who : Who) (room new : Parts) (h : How) → IsAlike room → Runs key who room new h → Runs key who old new h
+  runs_before : (who : Who) (room new : Parts) (h : How) → Keeps old room → Runs key who room new h → Runs key who old new h
   runs_before who room new h same r = record {
     prunes = r.prunes;
     own = subst (λ (o : Options). list_all (is_own_prune o key) r.prunes ≡ true) same.options r.own;
     events = r.events ∙ ap (λ j. j ++ (r.prunes ++ event.Run who h ∷ [])) same.events;
   }
 
-  least : (room : Parts) → IsAlike room → 64 ≤ unit_words room.options
+  least : (room : Parts) → Keeps old room → 64 ≤ unit_words room.options
   least room same = subst (λ (o : Options). 64 ≤ unit_words o) (sym same.options) sound.1.sound.rounded.least
 
   has_needs : HasNeeds old.options jn
   has_needs = needs_are old.options [] jn sound.1.sound.journal.needs
 
-  decides_start : (seat : ℕ) (who : Who) (new : Parts) (before after : Ranged) (found : List FoundWord) (serial place : ℕ) (plan : _) → Decided seat who key select asked s old new before after found (selected.Start serial place plan) → Decides who text key select s old new (selected.Start serial place plan)
-  decides_start seat who new before after found serial place plan d =
+  decides_start : (seat : ℕ) (who : Who) (new : Parts) (before after : Ranged) (found : List FoundWord) (serial place : ℕ) (plan : _) → (d : Decided seat who key select asked s old new before after found (selected.Start serial place plan)) → HasMoreRoom old d.room → Decides who text key select s old new (selected.Start serial place plan)
+  decides_start seat who new before after found serial place plan d more =
       let tables = select_tables s.db select in
-      let runs = runs_before who (swept found d.room) new (how.Start serial key tables) (swept_same found d.room d.more) (started_runs seat who key tables (swept found d.room) new before after (record { serial = serial; place = place }) (least (swept found d.room) (swept_same found d.room d.more)) d.does.1) in
-      let number : serial ≡ start_count jn + 1 = d.does.1.serial ∙ ap (λ j. start_count j + 1) (swept_same found d.room d.more).events in
+      let runs = runs_before who (swept found d.room) new (how.Start serial key tables) (swept_same found d.room more) (started_runs seat who key tables (swept found d.room) new before after (record { serial = serial; place = place }) (least (swept found d.room) (swept_same found d.room more)) d.does.1) in
+      let number : serial ≡ start_count jn + 1 = d.does.1.serial ∙ ap (λ j. start_count j + 1) (swept_same found d.room more).events in
       decides_else who new (selected.Start serial place plan) d.chosen.0 d.chosen.1 d.plan runs d.does.1.place tt (inl (λ i. how.Start (number i) (t.key_is i) tables))
 
-  decides_short : (seat : ℕ) (who : Who) (new : Parts) (before after : Ranged) (found : List FoundWord) (need largest place : ℕ) (plan : _) → Decided seat who key select asked s old new before after found (selected.Plain (reason.NoRoom need largest) place plan)
+  decides_short : (seat : ℕ) (who : Who) (new : Parts) (before after : Ranged) (found : List FoundWord) (need largest place : ℕ) (plan : _) → (d : Decided seat who key select asked s old new before after found (selected.Plain (reason.NoRoom need largest) place plan)) → HasMoreRoom old d.room
       → Decides who text key select s old new (selected.Plain (reason.NoRoom need largest) place plan)
-  decides_short seat who new before after found need largest place plan d =
+  decides_short seat who new before after found need largest place plan d more =
       let tables = select_tables s.db select in
-      let short = short_runs who key tables (swept found d.room) new before after need largest place (least (swept found d.room) (swept_same found d.room d.more)) d.does.1 in
-      let runs = runs_before who (swept found d.room) new (how.Plain (reason.NoRoom need largest)) (swept_same found d.room d.more) short.runs in
-      let is : is_need old.options key need ≡ true = subst (λ (o : Options). is_need o key need ≡ true) (swept_same found d.room d.more).options short.need_is in
+      let short = short_runs who key tables (swept found d.room) new before after need largest place (least (swept found d.room) (swept_same found d.room more)) d.does.1 in
+      let runs = runs_before who (swept found d.room) new (how.Plain (reason.NoRoom need largest)) (swept_same found d.room more) short.runs in
+      let is : is_need old.options key need ≡ true = subst (λ (o : Options). is_need o key need ≡ true) (swept_same found d.room more).options short.need_is in
       decides_else who new (selected.Plain (reason.NoRoom need largest) place plan) d.chosen.0 d.chosen.1 d.plan runs d.does.1.place (own_needs old.options jn runs.prunes key who need largest has_needs runs.own is) (inr (need, largest, refl))
 
-  pub decides : (seat : ℕ) (who : Who) (new : Parts) (before after : Ranged) (found : List FoundWord) (y : Selected) → Decided seat who key select asked s old new before after found y → Decides who text key select s old new y
-  decides seat who new before after found (selected.Hit hit) d = decides_hit seat who new before after found hit d
-  decides seat who new before after found (selected.Start serial place plan) d = decides_start seat who new before after found serial place plan d
-  decides seat who new before after found (selected.Plain (reason.NoRoom need largest) place plan) d = decides_short seat who new before after found need largest place plan d
-  decides seat who new before after found (selected.Plain (reason.Error code) place plan) d = decides_plain seat who new d.room (reason.Error code) place plan d.chosen.0 d.chosen.1 d.plan d.more d.does.1 d.does.2 tt
-  decides seat who new before after found (selected.Plain reason.Off place plan) d = decides_plain seat who new d.room reason.Off place plan d.chosen.0 d.chosen.1 d.plan d.more d.does.1 d.does.2 tt
-  decides seat who new before after found (selected.Plain reason.NotAsked place plan) d = decides_plain seat who new d.room reason.NotAsked place plan d.chosen.0 d.chosen.1 d.plan d.more d.does.1 d.does.2 tt
-  decides seat who new before after found (selected.Plain (reason.Rule why) place plan) d = decides_plain seat who new d.room (reason.Rule why) place plan d.chosen.0 d.chosen.1 d.plan d.more d.does.1 d.does.2 tt
-  decides seat who new before after found (selected.Plain (reason.Written table) place plan) d = decides_plain seat who new d.room (reason.Written table) place plan d.chosen.0 d.chosen.1 d.plan d.more d.does.1 d.does.2 tt
-  decides seat who new before after found (selected.Plain (reason.NotVisible table changed snapshot) place plan) d = decides_plain seat who new d.room (reason.NotVisible table changed snapshot) place plan d.chosen.0 d.chosen.1 d.plan d.more d.does.1 d.does.2 tt
-  decides seat who new before after found (selected.Plain (reason.Rival serial) place plan) d = decides_plain seat who new d.room (reason.Rival serial) place plan d.chosen.0 d.chosen.1 d.plan d.more d.does.1 d.does.2 tt
+  pub decides : (seat : ℕ) (who : Who) (new : Parts) (before after : Ranged) (found : List FoundWord) (y : Selected) → listed_for seat (tasks_of old) ≡ [] → Decided seat who key select asked s old new before after found y → Decides who text key select s old new y
+  decides seat who new before after found (selected.Hit hit) free d = decides_hit seat who new before after found hit d (more_rested seat old d.room free d.more)
+  decides seat who new before after found (selected.Start serial place plan) free d = decides_start seat who new before after found serial place plan d (more_rested seat old d.room free d.more)
+  decides seat who new before after found (selected.Plain (reason.NoRoom need largest) place plan) free d = decides_short seat who new before after found need largest place plan d (more_rested seat old d.room free d.more)
+  decides seat who new before after found (selected.Plain (reason.Error code) place plan) free d = decides_plain seat who new d.room (reason.Error code) place plan d.chosen.0 d.chosen.1 d.plan (more_rested seat old d.room free d.more) d.does.1 d.does.2 tt
+  decides seat who new before after found (selected.Plain reason.Off place plan) free d = decides_plain seat who new d.room reason.Off place plan d.chosen.0 d.chosen.1 d.plan (more_rested seat old d.room free d.more) d.does.1 d.does.2 tt
+  decides seat who new before after found (selected.Plain reason.NotAsked place plan) free d = decides_plain seat who new d.room reason.NotAsked place plan d.chosen.0 d.chosen.1 d.plan (more_rested seat old d.room free d.more) d.does.1 d.does.2 tt
+  decides seat who new before after found (selected.Plain (reason.Rule why) place plan) free d = decides_plain seat who new d.room (reason.Rule why) place plan d.chosen.0 d.chosen.1 d.plan (more_rested seat old d.room free d.more) d.does.1 d.does.2 tt
+  decides seat who new before after found (selected.Plain (reason.Written table) place plan) free d = decides_plain seat who new d.room (reason.Written table) place plan d.chosen.0 d.chosen.1 d.plan (more_rested seat old d.room free d.more) d.does.1 d.does.2 tt
+  decides seat who new before after found (selected.Plain (reason.NotVisible table changed snapshot) place plan) free d = decides_plain seat who new d.room (reason.NotVisible table changed snapshot) place plan d.chosen.0 d.chosen.1 d.plan (more_rested seat old d.room free d.more) d.does.1 d.does.2 tt
+  decides seat who new before after found (selected.Plain (reason.Rival serial) place plan) free d = decides_plain seat who new d.room (reason.Rival serial) place plan d.chosen.0 d.chosen.1 d.plan (more_rested seat old d.room free d.more) d.does.1 d.does.2 tt
+
+-- what was decided behind a change that keeps the events and the options
+pub decides_on : (old mid new : Parts) (who : Who) (text key : List ℕ) (select : Select) (s : State) (y : Selected) → Keeps old mid → Decides who text key select s mid new y → Decides who text key select s old new y
+decides_on old mid new who text key select s y k d =
+    let how = how_of key (select_tables s.db select) y in
+    record {
+      prunes = d.prunes;
+      only = d.only;
+      events = d.events ∙ ap (λ (j : Journal). j ++ (d.prunes ++ event.Run who how ∷ [])) k.events;
+      place = d.place;
+      allowed = subst (λ (p : Options × Journal). Allows p.0 (state_at p.1 (place_of y) select s) text select (p.1 ++ d.prunes) how) (λ i. (k.options i, k.events i)) d.allowed;
+      needs = subst (λ (p : Options × Journal). HasOwnNeeds p.0 (p.1 ++ d.prunes) key (event.Run who how)) (λ i. (k.options i, k.events i)) d.needs;
+      plan = subst (λ (j : Journal). HasPlan (given (state_at j (place_of y) select s) (j ++ d.prunes) select) y) k.events d.plan;
+    }

@@ -37,6 +37,9 @@ none_of cs n (w ∷ ws) h = elim (w.seat == n) as (λ b. cond b (listed_in cs w 
 pub rested_none : (seat : ℕ) (s : Parts) → listed_for seat (tasks_of s) ≡ [] → rested seat s ≡ s
 rested_none seat s h = ap (λ o. rested_by seat o s) (none_of s.chains seat s.tasks.items h)
 
+pub more_at_rest : (seat : ℕ) (s : Parts) → listed_for seat (tasks_of s) ≡ [] → HasMoreRoom (rested seat s) s
+more_at_rest seat s h = subst (λ t. HasMoreRoom t s) (sym (rested_none seat s h)) (more_refl s)
+
 pub more_rested : (seat : ℕ) (old new : Parts) → listed_for seat (tasks_of old) ≡ [] → HasMoreRoom (rested seat old) new → HasMoreRoom old new
 more_rested seat old new h m = subst (λ s. HasMoreRoom s new) (rested_none seat old h) m
 

@@ -1,5 +1,5 @@
 -- What stays when streams are struck off.
-use Rattle.std.proofs.Common.{◌≡◌, ℕ, Bool, true, false, List, [], ◌∷◌, refl, ◌∙◌}
+use Rattle.std.proofs.Common.{◌≡◌, ℕ, Bool, true, false, List, [], ◌∷◌, refl, ap, ◌∙◌}
 use Rattle.std.specs.Prelude.{Option, Some, None, is_some, if◌then◌else◌}
 use Rattle.std.specs.List.{list_any, find}
 use Rattle.qc_model.specs.declared.events.Event.{Event}
@@ -10,41 +10,51 @@ use Rattle.qc_dir.specs.Directory.{entry_at}
 use Rattle.qc_sound.specs.PlainServer.{serial_of}
 use Rattle.qc_core.specs.declared.parts.RunningTask.{RunningTask}
 use Rattle.qc_core.specs.declared.parts.Parts.{Parts}
+use Rattle.qc_core.specs.Calls.{HasMoreRoom}
 use Rattle.qc_core.specs.Strikes.{is_of, is_on, let_go, rested, rested_by, rested_from, with_user_less, without_task_of}
 use Rattle.qc_core.specs.Sweeps.{Finds, swept}
 
--- the same journal and the same options
+-- the same events, options and seats
 pub record Keeps (old new : Parts) : Type 0 where
-  pub journal : new.journal ≡ old.journal
+  pub events : new.journal.events ≡ old.journal.events
   pub options : new.options ≡ old.options
+  pub connected : new.connected ≡ old.connected
+
+pub keeps_all : (s : Parts) → Keeps s s
+keeps_all s = record { events = refl; options = refl; connected = refl }
+
+pub keeps_both : (a b c : Parts) → Keeps a b → Keeps b c → Keeps a c
+keeps_both a b c h k = record { events = k.events ∙ h.events; options = k.options ∙ h.options; connected = k.connected ∙ h.connected }
+
+pub more_keeps : (a b : Parts) → HasMoreRoom a b → Keeps a b
+more_keeps a b m = record { events = m.events; options = ap (λ (p : Parts). p.options) m.same; connected = ap (λ (p : Parts). p.connected) m.same }
 
 let_go_keeps : (on there : Bool) (number : ℕ) (s : Parts) → Keeps s (let_go on there number s)
-let_go_keeps true there number s = record { journal = refl; options = refl }
-let_go_keeps false true number s = record { journal = refl; options = refl }
-let_go_keeps false false number s = record { journal = refl; options = refl }
+let_go_keeps true there number s = keeps_all s
+let_go_keeps false true number s = record { events = refl; options = refl; connected = refl }
+let_go_keeps false false number s = record { events = refl; options = refl; connected = refl }
 
 from_keeps : (seat number : ℕ) (o : Option ℕ) (s : Parts) → Keeps s (rested_from seat number o s)
-from_keeps seat number None s = record { journal = refl; options = refl }
+from_keeps seat number None s = keeps_all s
 from_keeps seat number (Some n) s =
     let t = without_task_of seat s in
     let k = let_go_keeps (list_any (is_on n) t.tasks.items) (is_some (entry_at n t.dir.entries)) number (with_user_less n t) in
-    record { journal = k.journal; options = k.options }
+    record { events = k.events; options = k.options; connected = k.connected }
 
-rested_keeps : (seat : ℕ) (s : Parts) → Keeps s (rested seat s)
+pub rested_keeps : (seat : ℕ) (s : Parts) → Keeps s (rested seat s)
 rested_keeps seat s = by (find (is_of seat) s.tasks.items)
   where
     by : (o : Option RunningTask) → Keeps s (rested_by seat o s)
-    by None = record { journal = refl; options = refl }
+    by None = keeps_all s
     by (Some w) = from_keeps seat w.chain.number (serial_of w.task) s
 
 pub swept_keeps : (found : List FoundWord) (s : Parts) → Keeps s (swept found s)
-swept_keeps [] s = record { journal = refl; options = refl }
+swept_keeps [] s = keeps_all s
 swept_keeps (f ∷ fs) s =
     let rest = swept_keeps fs s in
-    let one = rested_keeps f.seat (swept fs s) in
     elim f.set as (λ b. Keeps s (if b then swept fs s else rested f.seat (swept fs s))) [
       | true ↦ rest
-      | false ↦ record { journal = one.journal ∙ rest.journal; options = one.options ∙ rest.options }
+      | false ↦ keeps_both s (swept fs s) (rested f.seat (swept fs s)) rest (rested_keeps f.seat (swept fs s))
     ]
 
 module _ {K : Ghosts Parts Event} where

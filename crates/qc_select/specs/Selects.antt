@@ -39,6 +39,7 @@ use Rattle.qc_core.specs.Whole.{tasks_of, with_event}
 use Rattle.qc_core.specs.Calls.{HasMoreRoom}
 use Rattle.qc_core.specs.Hits.{hit_server, IsChainOf}
 use Rattle.qc_core.specs.Starts.{IsBegun}
+use Rattle.qc_core.specs.Strikes.{rested}
 use Rattle.qc_core.specs.Sweeps.{ReadsStreams, swept}
 use Rattle.qc_select.specs.declared.selected.Selected.{Selected}
 use Rattle.qc_select.specs.declared.selected.Selected.TheVariants as selected
@@ -123,12 +124,12 @@ selected_tasks seat r (selected.Hit hit) = own seat (task.Stream hit.serial) r.b
 selected_tasks seat r (selected.Start serial place plan) = own seat (task.Fill serial) r.blocks
 selected_tasks seat r (selected.Plain why place plan) = []
 
--- The choice is right by the server as it was taken, the plan is made on the database that the session sees by it, and what is chosen was done, after the journal got its room.
+-- The choice is right by the server as it was taken, the plan is made on the database that the session sees by it, and what is chosen was done, after the seat's own ended stream was struck off and the journal got its room.
 pub record Decided (seat : ℕ) (who : Who) (key : List ℕ) (select : Select) (asked : Asked) (state : State) (old new : Parts) (before after : Ranged) (found : List FoundWord) (x : Selected) : Type 0 where
   pub chosen : IsChosen (answering_asked old.options asked state old.journal.events key) (reason_by old.options state asked select old.journal.events key) x
   pub plan : HasPlan (given state old.journal.events select) x
   pub room : Parts
-  pub more : HasMoreRoom old room
+  pub more : HasMoreRoom (rested seat old) room
   pub does : Does seat who key (select_tables state.db select) room new before after found x
   pub listed : listed_for seat (tasks_of new) ≡ selected_tasks seat after x
 

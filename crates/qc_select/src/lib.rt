@@ -1,7 +1,6 @@
 //! A SELECT is decided under the lock.
 #![tactic(auto)]
 
-mod copies;
 mod plans;
 mod reasons;
 mod selected;

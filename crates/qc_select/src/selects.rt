@@ -1,11 +1,12 @@
 //! A SELECT is decided.
 
-ghost use Rattle.std.specs.Prelude.{◌≡◌, ℕ, ◌*◌, ◌^◌, ◌<◌, ◌≤◌, List, length, option_map, Some, None, Ok, Err, OnErr, IfOk, IfSome, IfNone};
+ghost use Rattle.std.specs.Prelude.{◌≡◌, ℕ, ◌+◌, ◌-◌, ◌*◌, ◌^◌, ◌<◌, ◌≤◌, true, List, [], length, option_map, Some, None, Ok, Err, OnErr, IfOk, IfSome, IfNone};
 ghost use Rattle.qc_sql.specs.Rules.{select_tables};
 ghost use Rattle.qc_model.specs.declared.events.Event.TheVariants as event;
 ghost use Rattle.qc_model.specs.declared.events.How.TheVariants as how;
 ghost use Rattle.qc_model.specs.declared.events.Reason.TheVariants as reason;
 ghost use Rattle.qc_model.specs.Choice as choice;
+ghost use Rattle.qc_model.specs.Journal.{event_count};
 ghost use Rattle.qc_chain.specs.Words.{words_of};
 ghost use Rattle.qc_turn.specs.declared.task.Task.TheVariants as task;
 ghost use Rattle.qc_turn.specs.declared.view.FoundWord.{FoundWord};
@@ -13,20 +14,22 @@ ghost use Rattle.qc_turn.specs.Tasks.{listed_for, own};
 ghost use Rattle.qc_turn.specs.Seats.{MayRelease, SameHolder, holder, with_ranges};
 ghost use Rattle.qc_core.specs.Sweeps.{Finds};
 ghost use Rattle.qc_core.specs.Whole.{tasks_of, with_event};
-ghost use Rattle.qc_core.specs.Calls.{IsNext, HasSpare, HasMoreRoom};
+ghost use Rattle.qc_core.specs.Calls.{IsNext, HasSpare, HasMoreRoom, Rests};
+ghost use Rattle.qc_core.specs.Connects.{is_connected};
 ghost use Rattle.qc_core.specs.Hits.{IsChainOf, hit_server};
 ghost use Rattle.qc_core.specs.Plains.{MayRunPlain};
 ghost use Rattle.qc_core.specs.Spelled.{IsSame};
 ghost use Rattle.qc_core.specs.Starts.{MayBegin};
+ghost use Rattle.qc_core.specs.Strikes.{rested};
 ghost use Rattle.qc_select.specs.declared.selected.Selected.TheVariants as selected;
 ghost use Rattle.qc_select.specs.Selects.{IsOfText, MayAsk, answering_asked, outside_by, given, planned, Decided, Decides, Begins};
 
-use crate::copies::copy_reason;
 use crate::plans::prepare;
 use crate::reasons::{is_asked, own_reason};
 use crate::selected::Selected;
 use qc_core::{Begun, Hit, Server, Started, look, plain, reserve, rival, start};
 use qc_eval::Plan;
+use qc_journal::copy_of_reason;
 use qc_model::events::{Reason, Who};
 use qc_parse::tables;
 use qc_rules::Asked;
@@ -39,8 +42,9 @@ use std::alloc::Global;
 /// Decides a SELECT under the lock. It is a hit exactly where the cache is asked and has a complete entry of the key that the session may see. Else it runs
 /// plain with the first reason that applies: it is refused, the cache is off, it isn't asked, the text keeps the SELECT out, a table was written by the
 /// session's own transaction, a table changed since its snapshot, or another session fills an entry of the key. Else an entry is begun, or it runs plain for
-/// want of room. The plan, or the refusal, is that of the database which the session sees at the place of the event, and is made once, before anything
-/// changes. Where memory lacks, there may be more room in the journal, and nothing else changed.
+/// want of room. The plan, or the refusal, is that of the database which the session sees at the place of the event, and is made once, before any event.
+/// Before all that the seat's own stream, which has ended, is struck off where it is listed still. Where memory lacks, that was done, there may be more room
+/// in the journal, and nothing else changed; nothing is listed for the seat then.
 pub fn run_select(
     held: &mut Held<'_, Server>,
     alloc: Global,
@@ -51,12 +55,16 @@ pub fn run_select(
     state: &SessionState,
 ) -> Result<Selected, NoMemory>
     requires stands { MayRelease held.old }
-    requires next { IsNext held.old who }
+    requires session { who.session ≡ (holder held.old).number - 1 }
+    requires number { who.number ≡ event_count held.old.value.journal.events who.session + 1 }
+    requires connected { is_connected (holder held.old).number held.old.value ≡ true }
+    requires rests { Rests held.old }
     requires ranges { held.old.value.options.size ≤ 512 * held.old.ranges.room }
     requires text { (text : List ℕ) × IsOfText state.now.state key select.now asked text × (length text < 2 ^ 32) }
     requires state { MayAsk held.old.value.journal.events state.now }
     ensures stands { MayRelease held.new }
-    ensures memory { OnErr result (SameHolder held.old held.new × HasMoreRoom held.old.value held.new.value × (held.new.ranges ≡ held.old.ranges)) }
+    ensures memory { OnErr result (SameHolder held.old held.new × HasMoreRoom (rested (holder held.old).number held.old.value) held.new.value × (held.new.ranges ≡ held.old.ranges)) }
+    ensures rests { OnErr result (listed_for (holder held.old).number (tasks_of held.new.value) ≡ []) }
     ensures decided { IfOk result (λ x. (found : List FoundWord) × Finds held.old (with_ranges held.new held.old.ranges) found
         × Decided (holder held.old).number who key select.now asked state.now.state held.old.value held.new.value held.old.ranges held.new.ranges found x) }
     ensures decides { (text : List ℕ) → IsOfText state.now.state key select.now asked text → IfOk result (λ x. Decides who text key select.now state.now.state held.old.value held.new.value x) }
@@ -234,7 +242,7 @@ fn run_plain(
     ensures pushed { IfOk result (λ x. held.new.value ≡ with_event (event.Run who (how.Plain why)) held.old.value) }
     ensures ranges { held.new.ranges ≡ held.old.ranges }
 {
-    let told = copy_reason(alloc, &why)?;
+    let told = copy_of_reason(alloc, &why)?;
     let place = plain(held, who, why);
     Ok(Selected::Plain {
         reason: told,

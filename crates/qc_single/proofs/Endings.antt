@@ -17,7 +17,8 @@ use Rattle.qc_model.specs.Session.{State, Transaction, own_operations, with_tran
 use Rattle.qc_model.specs.Conflicts.{Conflict, conflict_of}
 use Rattle.qc_model.specs.Licence.{ops_fit}
 use Rattle.qc_model.specs.Machine.{Given, conflict_in, full_table, ending, changed_form, form_given, refused}
-use Rattle.qc_single.specs.Sound.{next_who, IsSound, IsFitAt, IsFitIn, IsFitState, MayFollow, is_small_operation}
+use Rattle.qc_laws.specs.sizes.Operations.{is_small_operation}
+use Rattle.qc_single.specs.Sound.{next_who, IsSound, IsFitAt, IsFitIn, IsFitState, MayFollow}
 use Rattle.qc_single.specs.Ends.{Ends}
 use Rattle.qc_single.specs.declared.ending.Ending.TheVariants as ended
 use Rattle.qc_single.proofs.Shorts.{stay_short, full_short}

@@ -16,7 +16,8 @@ use Rattle.qc_sql.proofs.Untouched.{at, at_is}
 use Rattle.qc_model.specs.Machine.{full_in, full_table}
 use Rattle.qc_laws.specs.sizes.Names.{is_short}
 use Rattle.qc_laws.proofs.fits.Maps.{some_is}
-use Rattle.qc_single.specs.Sound.{are_named, have_short_names, are_short, makes_short_name}
+use Rattle.qc_laws.specs.sizes.Operations.{makes_short_name}
+use Rattle.qc_single.specs.Sound.{are_named, have_short_names, are_short}
 
 -- ---- maps whose names are short
 

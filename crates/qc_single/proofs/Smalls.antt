@@ -20,7 +20,8 @@ use Rattle.qc_laws.proofs.sizes.Changes.{changes_are_bounded}
 use Rattle.qc_laws.specs.fits.Sound.{is_row_op, rows_changed_by}
 use Rattle.qc_laws.proofs.fits.Given.{Given, gives, refuses, anyway, after, unless, unless_some, given_has}
 use Rattle.qc_laws.proofs.fits.RowChanges.{changes_are_rows}
-use Rattle.qc_single.specs.Sound.{makes_short_name, is_small_operation, IsOrderly}
+use Rattle.qc_laws.specs.sizes.Operations.{makes_short_name, is_small_operation}
+use Rattle.qc_single.specs.Sound.{IsOrderly}
 
 small_from : (ops : List RowOp) → list_all is_bounded_operation ops ≡ true → list_all makes_short_name ops ≡ true → list_all is_small_operation ops ≡ true
 small_from [] h g = refl

@@ -17,7 +17,8 @@ use Rattle.qc_single.specs.declared.entries.StoredEntry.{StoredEntry}
 use Rattle.qc_laws.specs.sizes.Replies.{is_bounded_operation}
 use Rattle.qc_laws.proofs.sizes.Applied.{databases_stay_bounded}
 use Rattle.qc_laws.proofs.fits.Stays.{sound_stays}
-use Rattle.qc_single.specs.Sound.{next_who, is_quiet, is_simple, is_small_operation, makes_short_name, IsSound, IsCached, IsOrderly}
+use Rattle.qc_laws.specs.sizes.Operations.{is_small_operation, makes_short_name}
+use Rattle.qc_single.specs.Sound.{next_who, is_quiet, is_simple, IsSound, IsCached, IsOrderly}
 use Rattle.qc_single.proofs.Journals.{may_decide, simple_more}
 use Rattle.qc_single.proofs.Shorts.{stay_short}
 

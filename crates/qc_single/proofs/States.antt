@@ -17,7 +17,8 @@ use Rattle.qc_laws.specs.sizes.Names.{is_short}
 use Rattle.qc_laws.specs.fits.Sound.{IsNoChangeAt, is_row_op}
 use Rattle.qc_trx.specs.SnapshotStates.{SnapshotState, origin_taken, seen_on, after_begin, after_end, with_operations, added, in_database}
 use Rattle.qc_trx.specs.Endings.{IsOriginIn, StandsIn}
-use Rattle.qc_single.specs.Sound.{is_simple, is_small_operation, IsSound, IsOrderly, MayFollow, AreOwn, HasSnapshot, IsFitAt, IsFitTransaction, IsFitIn, IsFitState, arrived_snapshot_state}
+use Rattle.qc_laws.specs.sizes.Operations.{is_small_operation}
+use Rattle.qc_single.specs.Sound.{is_simple, IsSound, IsOrderly, MayFollow, AreOwn, HasSnapshot, IsFitAt, IsFitTransaction, IsFitIn, IsFitState, arrived_snapshot_state}
 use Rattle.qc_laws.proofs.history.Events.{present_push}
 use Rattle.qc_single.proofs.Sounds.{stays_orderly}
 

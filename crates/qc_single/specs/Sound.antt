@@ -3,7 +3,6 @@ use Rattle.std.specs.Prelude.{◌≡◌, ◌==◌, ◌≤◌, ◌+◌, ◌++◌,
 use Rattle.std.specs.List.{list_all, AllByRecursion}
 use Rattle.qc_types.specs.declared.options.Options.{Options}
 use Rattle.qc_sql.specs.declared.tables.RowOp.{RowOp}
-use Rattle.qc_sql.specs.declared.tables.RowOp.TheVariants as op
 use Rattle.qc_sql.specs.Database.{Name, MapOf, Table, Tables, Database, apply}
 use Rattle.qc_model.specs.declared.events.Event.{Event}
 use Rattle.qc_model.specs.declared.events.Event.TheVariants as event
@@ -19,7 +18,8 @@ use Rattle.qc_model.specs.Journal.{Journal, present, before, event_count}
 use Rattle.qc_model.specs.Session.{Transaction, answer}
 use Rattle.qc_model.specs.Licence.{IsLawful, ops_fit, is_within_rows}
 use Rattle.qc_laws.specs.sizes.Names.{is_short}
-use Rattle.qc_laws.specs.sizes.Replies.{is_bounded_database, is_bounded_operation}
+use Rattle.qc_laws.specs.sizes.Operations.{is_small_operation}
+use Rattle.qc_laws.specs.sizes.Replies.{is_bounded_database}
 use Rattle.qc_laws.specs.fits.Sound.{IsNoChangeAt, is_row_op}
 use Rattle.qc_model.specs.Sound.{IsSoundDatabase}
 use Rattle.qc_trx.specs.SnapshotStates.{SnapshotState, after_arrival, after_sight}
@@ -34,16 +34,6 @@ abbrev pub next_who : Journal → Who
 next_who journal = who_of only_session (event_count journal only_session + 1)
 
 -- ---- its events
-
--- a database or a table that an operation makes has a short name
-abbrev pub makes_short_name : RowOp → Bool
-makes_short_name (op.CreateDb name) = is_short name
-makes_short_name (op.CreateTable t columns) = is_short t.name
-makes_short_name _ = true
-
--- what an operation stores is bounded, and so are the names that it makes
-abbrev pub is_small_operation : RowOp → Bool
-is_small_operation o = is_bounded_operation o && makes_short_name o
 
 -- the reasons that a session by itself has: no other fills an entry, and there is always room
 abbrev pub is_own_reason : Reason → Bool

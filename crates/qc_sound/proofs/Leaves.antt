@@ -14,7 +14,7 @@ use Rattle.qc_model.specs.Licence.{IsLicensed}
 use Rattle.qc_tiles.specs.declared.blocks.Tile.{Tile}
 use Rattle.qc_tiles.specs.declared.blocks.Block.{Block}
 use Rattle.qc_laws.specs.history.Runs.{IsKept, are_distinct}
-use Rattle.qc_sound.specs.Events.{is_small_event}
+use Rattle.qc_laws.specs.sizes.Operations.{is_small_event}
 use Rattle.qc_laws.proofs.history.Events.{present_push, cache_push, all_filter}
 use Rattle.qc_laws.proofs.history.Stays.{answers_stay, commit_answer}
 use Rattle.qc_sound.specs.PlainServer.{PlainServer, StoredEntry, EntryChain, SeatTask, blocks_of, listed_tasks, session_of, is_stored, is_wanted}

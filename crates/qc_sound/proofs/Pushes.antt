@@ -12,7 +12,7 @@ use Rattle.qc_model.specs.Journal.{Journal, is_by, last_of, present, operations}
 use Rattle.qc_model.specs.Cache.{cache}
 use Rattle.qc_model.specs.Session.{answer}
 use Rattle.qc_model.specs.Licence.{IsLawful, IsLicensed, starts_serial}
-use Rattle.qc_sound.specs.Events.{is_small_event, is_small_operation}
+use Rattle.qc_laws.specs.sizes.Operations.{is_small_event, is_small_operation}
 use Rattle.qc_laws.specs.history.Runs.{IsStarted}
 use Rattle.qc_sound.specs.Ended.{is_ended, ends_fill}
 use Rattle.qc_laws.proofs.history.Events.{present_push, cache_push, lawful_push, all_on}

@@ -1,5 +1,4 @@
 pub mod Ended
-pub mod Events
 pub mod PlainServer
 pub mod Moment
 pub mod Pending

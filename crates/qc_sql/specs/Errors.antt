@@ -17,6 +17,9 @@ database_exists name = error_of 1007 (codes "HY000") (codes "Database exists: " 
 abbrev pub no_database_to_drop : List ℕ → SqlError
 no_database_to_drop name = error_of 1008 (codes "HY000") (codes "No such database to drop: " ++ name)
 
+abbrev pub too_many_connections : SqlError
+too_many_connections = error_of 1040 (codes "08004") (codes "Too many connections")
+
 abbrev pub no_database_selected : SqlError
 no_database_selected = error_of 1046 (codes "3D000") (codes "No database selected")
 

@@ -25,6 +25,13 @@ pub fn no_database_to_drop(alloc: Global, name: &[u8]) -> Result<SqlError, NoMem
     error_with(alloc, 1008, b"HY000", b"No such database to drop: ", name)
 }
 
+/// 1040: all seats have a session.
+pub fn too_many_connections(alloc: Global) -> Result<SqlError, NoMemory>
+    ensures { IfOk result (λ e. e ≡ errors.too_many_connections) }
+{
+    error(alloc, 1040, b"08004", b"Too many connections")
+}
+
 /// 1046: a table has no database before its name, and the session has no current one.
 pub fn no_database_selected(alloc: Global) -> Result<SqlError, NoMemory>
     ensures { IfOk result (λ e. e ≡ errors.no_database_selected) }

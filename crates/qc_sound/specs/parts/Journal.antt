@@ -4,7 +4,7 @@ use Rattle.std.specs.List.{list_all}
 use Rattle.qc_model.specs.Journal.{present}
 use Rattle.qc_model.specs.Cache.{Entry, cache}
 use Rattle.qc_model.specs.Licence.{IsLawful}
-use Rattle.qc_sound.specs.Events.{is_small_event}
+use Rattle.qc_laws.specs.sizes.Operations.{is_small_event}
 use Rattle.qc_sound.specs.PlainServer.{PlainServer}
 use Rattle.qc_sound.specs.Moment.{Moment}
 use Rattle.qc_sound.specs.Pending.{NeedsOf}

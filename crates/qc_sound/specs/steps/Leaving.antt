@@ -13,7 +13,7 @@ use Rattle.qc_model.specs.Cache.{Entry, cache, after_event}
 use Rattle.qc_model.specs.Session.{answer}
 use Rattle.qc_model.specs.Licence.{IsLicensed, region_words}
 use Rattle.qc_laws.specs.history.Runs.{IsKept}
-use Rattle.qc_sound.specs.Events.{is_small_event, is_small_operation}
+use Rattle.qc_laws.specs.sizes.Operations.{is_small_event, is_small_operation}
 use Rattle.qc_tiles.specs.declared.blocks.Tile.{Tile}
 use Rattle.qc_tiles.specs.declared.blocks.Block.{Block}
 use Rattle.qc_tiles.specs.Tiles.{IsTiling, handed_out}

@@ -79,11 +79,11 @@ returns-in-None-clause-decided c =
     let tables = c.in_ok-tables.ensures ∙ ap (λ d. select_tables d select) c.db.ensures in
     let named = c.items.ensures ∙ tables in
     let out = outside_of h s c.args.asked select c.items.result.now c.args.key c.bytes.result.now c.in_ok-reason.reason None named c.bytes.ensures c.in_ok-reason.ensures.reason c.in-None.is in
-    begins_decided c.args.who c.args.key select c.args.asked s c.begin.result h k m c.args.plan c.in_ok-tables.tables c.requires.none c.requires.plan out tables c.outside_reason.ensures.stands.1 same.0 same.1 c.begin.ensures.begun
+    begins_decided c.args.who c.args.key select c.args.asked s c.begin.result h k m c.args.plan c.in_ok-tables.tables c.requires.next c.requires.none c.requires.plan out tables c.outside_reason.ensures.stands.1 same.0 same.1 c.begin.ensures.begun
 
 pub returns-in-None-clause-memory : goal.returns-in-None-clause-memory
 returns-in-None-clause-memory c =
     let h = c.args.held.now in
     let k = c.outside_reason.new.held in
     let same = c.outside_reason.ensures.same in
-    err_behind c.begin.result h k c.begin.new.held (behind_same h k c.outside_reason.ensures.stands.1 same.0 same.1) c.begin.ensures.memory
+    err_behind c.begin.result h.value h k c.begin.new.held (behind_same h k c.outside_reason.ensures.stands.1 same.0 same.1) c.begin.ensures.memory
