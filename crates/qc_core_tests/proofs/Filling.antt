@@ -1,5 +1,5 @@
 -- What is left of an entry's answer, from packet to packet.
-use Rattle.std.proofs.Common.{◌≡◌, ℕ, ◌+◌, ◌*◌, ◌<◌, ◌≤◌, List, [], ◌∷◌, ◌++◌, length, take, drop, refl, sym, ap, subst, ◌∙◌, arith, append_assoc, append-nil}
+use Rattle.std.proofs.Common.{◌≡◌, ◌≢◌, ℕ, ◌+◌, ◌*◌, ◌<◌, ◌≤◌, false, List, [], ◌∷◌, ◌++◌, length, take, drop, refl, sym, ap, subst, ◌∙◌, arith, append_assoc, append-nil}
 use Rattle.std.specs.Prelude.{Option, Some, option_map}
 use Rattle.std.specs.List.{concat, AllByRecursion}
 use Rattle.std.proofs.lemmas.List.{length-append, take_at, drop_at}
@@ -14,7 +14,20 @@ use Rattle.qc_turn.specs.declared.view.View.{View}
 use Rattle.qc_core.specs.declared.parts.Parts.{Parts}
 use Rattle.qc_flow.specs.Fills.{IsNextPacket, IsWholeAnswer}
 use Rattle.qc_flow.proofs.Licences.{started_in}
-use Rattle.qc_core_tests.specs.Fillings.{IsPacket, IsLeft, CutsOff}
+use Rattle.qc_model.specs.Journal.{Journal}
+use Rattle.qc_turn.specs.Seats.{Held, holder, view, words}
+use Rattle.qc_turn.specs.Tasks.{own}
+use Rattle.qc_turn.specs.Views.{after_release, with_word_set}
+use Rattle.qc_turn.specs.declared.seat.Seat.{Seat}
+use Rattle.qc_turn.specs.declared.task.Task.TheVariants as task
+use Rattle.qc_core.specs.contracts.server.ServerKept.TheImpl.{ghosts}
+use Rattle.qc_flow.specs.Fills.{IsFillOf, Puts}
+use Rattle.qc_flow.specs.declared.fills.Fill.{Fill}
+use Rattle.qc_flow.specs.declared.fills.FillStep.{FillStep}
+use Rattle.qc_flow.specs.declared.fills.FillStep.TheVariants as step
+use Rattle.qc_flow.proofs.Begins.{fills_begin}
+use Rattle.qc_core_tests.specs.Fillings.{IsLeft, CutsOff}
+use Rattle.qc_core_tests.specs.Seats.{Answers, HasRoom, IsPacket, KnowsFixed, MayEnd}
 
 -- ---- the packet in front
 
@@ -53,3 +66,64 @@ whole_of serial v i = record {
   start = i.start;
   answered = ap (option_map concat) i.answered ∙ ap (λ l. Some l) (concat-append i.earlier i.later ∙ (ap (λ l. concat i.earlier ++ l) (sym i.spells) ∙ (append-nil (concat i.earlier) ∙ sym i.stored)));
 }
+
+-- ---- the first packet
+
+-- the packet in front is cut off by its length
+pub cut_off : (bytes rest : List ℕ) (packets : List (List ℕ)) (n : ℕ) → 0 < length rest → (4 ≤ length rest → n ≡ 4 + length_at rest) → bytes ≡ take n rest → rest ≡ concat packets → AllByRecursion IsPacket packets → CutsOff bytes rest packets
+cut_off bytes rest [] n some is cut spells each = absurd (omega (arith, some, ap (λ (l : List ℕ). length l) spells))
+cut_off bytes rest (p ∷ ps) n some is cut spells each =
+    let one = each.0 in
+    let behind = concat ps in
+    let split : rest ≡ packet one.sequence one.payload ++ behind = spells ∙ ap (λ (l : List ℕ). l ++ behind) one.is in
+    let size = packet_length one.sequence one.payload in
+    let long : length p ≡ 4 + length one.payload = ap (λ (l : List ℕ). length l) one.is ∙ size in
+    let all = ap (λ (l : List ℕ). length l) spells ∙ length-append p behind in
+    let at : length_at rest ≡ length one.payload = ap length_at split ∙ front_length one.sequence one.payload behind one.few in
+    let whole : n ≡ length p = omega (arith, is (omega (arith, all, long)), at, long) in
+    let same : bytes ≡ p = cut ∙ ((λ i. take (whole i) (spells i)) ∙ take_at p behind) in
+    record {
+      others = ps;
+      first = ap (λ (b : List ℕ). b ∷ ps) (sym same);
+      behind = (λ i. drop (length (same i)) (spells i)) ∙ drop_at p behind;
+    }
+
+-- ---- a fill begins
+
+left_begins : (v : View Parts Event) (serial : ℕ) (reply : List ℕ) (journal : Journal) → v.seen ≡ journal → v.content ≡ [] → Answers serial reply journal → IsLeft serial reply v
+left_begins v serial reply journal seen none a = record {
+  start = started_in v.seen journal serial ([], seen ∙ sym (append-nil journal)) a.start;
+  earlier = [];
+  later = a.packets;
+  answered = a.answered;
+  stored = none;
+  spells = a.spells;
+  cut = a.cut;
+}
+
+pub fill_begun : (h : Held Parts Event ghosts) (f : Fill) (s : Seat Parts Event ghosts) (serial : ℕ) (reply : List ℕ) → MayEnd (task.Fill serial) h → KnowsFixed h → HasRoom h → Answers serial reply h.value.journal.events
+    → (f.serial ≡ serial) × (f.limit ≡ h.value.options.limit) × (f.bytes ≡ 0) → view s ≡ after_release ghosts (with_word_set (holder h) false) h.value (words h) → s.ranges ≡ h.ranges
+    → IsFillOf f s × IsLeft f.serial reply (view s)
+fill_begun h f s serial reply m fixed room answers of is ranges =
+    let begins = fills_begin h f s (record {
+      rested = m.rested;
+      fixed = fixed ∙ sym m.stands.follows.fixed;
+      listed = m.listed ∙ ap (λ (n : ℕ). own (holder h).number (task.Fill n) h.ranges.blocks) (sym of.0);
+      room = room;
+      limit = of.1;
+      empty = of.2;
+      view = is;
+      ranges = ranges;
+    }) in (
+      begins.0,
+      subst (λ (n : ℕ). IsLeft n reply (view s)) (sym of.0) (left_begins (view s) serial reply h.value.journal.events (ap (λ (v : View Parts Event). v.seen) is) begins.1 answers),
+    )
+
+-- ---- a fill ends
+
+-- a packet that isn't stored ends the fill
+pub put_ended : (f g : Fill) (bytes : List ℕ) (old : View Parts Event) (s : Seat Parts Event ghosts) (x : FillStep) → Puts f g bytes old s x → x ≢ step.More → (view s).task ≡ task.Rest
+put_ended f g bytes old s step.More p more = absurd (more refl)
+put_ended f g bytes old s (step.Overtaken by) p more = p.1.rests.task
+put_ended f g bytes old s (step.TooLarge total) p more = p.0.rests.task
+put_ended f g bytes old s (step.NoRoom need largest) p more = p.0.rests.task

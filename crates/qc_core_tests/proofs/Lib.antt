@@ -1,3 +1,4 @@
 pub mod Meetings
 pub mod Selecting
+pub mod Answering
 pub mod Filling

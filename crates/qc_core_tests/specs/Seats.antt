@@ -1,13 +1,14 @@
 -- What a seat of the tests knows between two calls, and while it holds the turn.
-use Rattle.std.specs.Prelude.{◌≡◌, ℕ, ◌*◌, ◌≤◌, true, false, None, Option, List, [], ◌∷◌, ◌++◌, Some}
-use Rattle.std.specs.List.{concat}
+use Rattle.std.specs.Prelude.{◌≡◌, ℕ, ◌*◌, ◌≤◌, true, false, None, Option, List, [], ◌∷◌, ◌++◌, length, Some}
+use Rattle.std.specs.List.{concat, AllByRecursion}
+use Rattle.qc_sql.specs.Packets.{packet, most_payload}
 use Rattle.qc_model.specs.declared.events.Event.{Event}
 use Rattle.qc_model.specs.declared.events.Who.{Who}
 use Rattle.qc_turn.specs.declared.seat.Seat.{Seat}
 use Rattle.qc_turn.specs.declared.turn.Turn.{Turn}
 use Rattle.qc_turn.specs.declared.task.Task.TheVariants as task
 use Rattle.qc_turn.specs.declared.view.MetSeat.{MetSeat}
-use Rattle.qc_turn.specs.Seats.{Held, IsSeatOf, MayRelease, holder, view}
+use Rattle.qc_turn.specs.Seats.{Held, IsSeatOf, MayRelease, holder, taken, view}
 use Rattle.qc_turn.specs.Tasks.{listed_for, own, is_stream}
 use Rattle.qc_turn.specs.declared.task.Task.{Task}
 use Rattle.qc_turn.specs.Views.{AllMet}
@@ -57,6 +58,15 @@ pub record IsSameHolder (h k : Held Parts Event ghosts) : Type 0 where
   pub registry : (holder k).registry ≡ (holder h).registry
   pub word_set : (holder k).word_set ≡ (holder h).word_set
   pub task : (holder k).task ≡ (holder h).task
+
+-- it took the same server, and knows the same of what is fixed there
+pub record KeepsTaken (h k : Held Parts Event ghosts) : Type 0 where
+  pub fixed : (holder k).fixed ≡ (holder h).fixed
+  pub taken : taken k ≡ taken h
+
+-- it knows what is fixed in the server that it took
+abbrev pub KnowsFixed : Held Parts Event ghosts → Type 0
+KnowsFixed h = (holder h).fixed ≡ ghosts.fixed (taken h)
 
 -- no task is its own but perhaps a stream that it has ended
 pub record IsIdle (h : Held Parts Event ghosts) : Type 0 where
@@ -111,12 +121,20 @@ pub record MayEnd (t : Task) (h : Held Parts Event ghosts) : Type 0 where
 
 -- ---- a fill
 
+-- a packet with its header
+pub record IsPacket (bytes : List ℕ) : Type 0 where
+  pub sequence : ℕ
+  pub payload : List ℕ
+  pub is : bytes ≡ packet sequence payload
+  pub few : length payload ≤ most_payload
+
 -- the reply is the answer that the entry had at its start, packet by packet
 pub record Answers (serial : ℕ) (reply : List ℕ) (journal : Journal) : Type 0 where
   pub start : IsStarted journal serial
   pub packets : List (List ℕ)
   pub answered : answer_packets start.key (present start.earlier) ≡ Some packets
   pub spells : reply ≡ concat packets
+  pub cut : AllByRecursion IsPacket packets
 
 abbrev pub AnswersFill : Task → List ℕ → Journal → Type 0
 AnswersFill (task.Fill n) reply journal = Answers n reply journal

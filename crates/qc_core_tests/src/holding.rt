@@ -6,7 +6,7 @@ ghost use Rattle.qc_laws.specs.sizes.Operations.{is_small_operation};
 ghost use Rattle.qc_turn.specs.Seats.{holder};
 ghost use Rattle.qc_turn.specs.Words.{word_seats};
 ghost use Rattle.qc_core.specs.Calls.{IsNoted};
-ghost use Rattle.qc_core_tests.specs.Seats.{IsIdle, IsReady, MayRest, IsSameHolder};
+ghost use Rattle.qc_core_tests.specs.Seats.{IsIdle, IsReady, MayRest, IsSameHolder, KeepsTaken};
 
 use crate::changes::{Change, change_on};
 use crate::stop::Stop;
@@ -23,6 +23,7 @@ pub(crate) fn prepare(held: &mut Held<'_, Server>) -> Result<Who, Stop>
     ensures rest { MayRest held.new × IsSameHolder held.old held.new }
     ensures ready { IfOk result (λ who. IsReady who held.new) }
     ensures few { OnOk result ((holder held.new).number ≤ word_seats) }
+    ensures keeps { KeepsTaken held.old held.new }
 {
     reserve(held)?;
     let seat = held.number();

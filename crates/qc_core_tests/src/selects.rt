@@ -6,8 +6,8 @@ ghost use Rattle.qc_laws.specs.history.Answers.{CanBeKeyed};
 ghost use Rattle.qc_turn.specs.Seats.{holder};
 ghost use Rattle.qc_turn.specs.declared.task.Task.TheVariants as task;
 ghost use Rattle.qc_select.specs.Selects.{IsOfText};
-ghost use Rattle.qc_core_tests.specs.Selects.{task_after};
-ghost use Rattle.qc_core_tests.specs.Seats.{AnswersFill, HasRoom, IsIdle, IsPlain, IsSameHolder, MayAskNow, MayEnd, MayRest};
+ghost use Rattle.qc_core_tests.specs.Selects.{answer_on, task_after};
+ghost use Rattle.qc_core_tests.specs.Seats.{AnswersFill, HasRoom, IsIdle, IsPlain, IsSameHolder, KeepsTaken, MayAskNow, MayEnd, MayRest};
 
 use crate::holding::prepare;
 use crate::stop::Stop;
@@ -71,7 +71,7 @@ fn read(alloc: Global, state: &SessionState, text: &[u8]) -> Result<Question, St
 }
 
 /// Whether the seat's ranges have room for each chain.
-fn has_room(held: &mut Held<'_, Server>) -> bool
+pub(crate) fn has_room(held: &mut Held<'_, Server>) -> bool
     ensures room { result ≡ true → HasRoom held.old }
     ensures same { held.new ≡ held.old }
 {
@@ -92,6 +92,7 @@ fn answer<L: Ledger>(
     requires short { is_short_select select.now ≡ true }
     requires plain { IsPlain state.now }
     ensures same { held.new ≡ held.old }
+    ensures reply { IfOk result (λ reply. reply ≡ answer_on state.now.state select.now held.old.value.database) }
 {
     let Answer { error: _, reply } = answer_select(
         alloc,
@@ -135,9 +136,11 @@ fn decide(
 ) -> Result<Task, NoMemory>
     requires may { MayAskNow who held.old }
     requires text { (text : List ℕ) × IsOfText state.now.state question.key question.select question.asked text × (length text < 2 ^ 32) }
+    requires short { is_short_select question.select ≡ true }
     requires plain { IsPlain state.now }
-    ensures same { IsSameHolder held.old held.new }
+    ensures same { IsSameHolder held.old held.new × KeepsTaken held.old held.new }
     ensures ok { IfOk result (λ t. MayEnd t held.new) }
+    ensures answers { IfOk result (λ t. AnswersFill t (answer_on state.now.state question.select held.old.value.database) held.new.value.journal.events) }
     ensures err { OnErr result (MayRest held.new) }
 {
     let Question { key, select, asked } = question;
@@ -154,7 +157,7 @@ pub(crate) fn select<L: Ledger>(
 ) -> Result<Outcome, Stop>
     requires idle { IsIdle held.old }
     requires rested { (holder held.old).task ≡ task.Rest }
-    ensures same { IsSameHolder held.old held.new }
+    ensures same { IsSameHolder held.old held.new × KeepsTaken held.old held.new }
     ensures ok { IfOk result (λ outcome. MayEnd outcome.task held.new) }
     ensures answers { IfOk result (λ outcome. AnswersFill outcome.task outcome.reply held.new.value.journal.events) }
     ensures err { OnErr result (MayRest held.new) }

@@ -2,20 +2,42 @@
 
 ghost use Rattle.std.specs.Prelude.{◌≡◌, ℕ, ◌≤◌, ◌<◌, List, length};
 ghost use Rattle.std.specs.List.{concat, AllByRecursion};
-ghost use Rattle.qc_turn.specs.Seats.{IsSeatOf, view};
+ghost use Rattle.qc_turn.specs.declared.task.Task.TheVariants as task;
+ghost use Rattle.qc_turn.specs.Seats.{IsSeatOf, holder, view};
 ghost use Rattle.qc_flow.specs.Fills.{IsFillOf};
-ghost use Rattle.qc_core_tests.specs.Seats.{IsResting, IsSame};
-ghost use Rattle.qc_core_tests.specs.Fillings.{CutsOff, IsLeft, IsPacket};
+ghost use Rattle.qc_core_tests.specs.Seats.{Answers, HasRoom, IsPacket, IsResting, IsSame, KnowsFixed, MayEnd};
+ghost use Rattle.qc_core_tests.specs.Fillings.{CutsOff, IsLeft};
 
 use crate::stop::Stop;
 use qc_core::Server;
 use qc_flow::{Fill, FillStep};
-use qc_turn::{Seat, Turn};
-use qc_wire::Packets;
+use qc_turn::{Held, Seat, Task, Turn};
+use qc_types::Options;
 use std::sync::Wait;
 
 /// The bytes of a packet in front of its payload.
 const HEADER: usize = 4;
+
+/// Gives the turn back with the fill that a SELECT began on the server with these options. Nothing of the answer is stored yet.
+pub(crate) fn begin_fill(
+    held: Held<'_, Server>,
+    serial: u64,
+    options: &Options,
+    reply: &[u8],
+) -> Fill
+    requires ends { MayEnd (task.Fill serial) held }
+    requires fixed { KnowsFixed held }
+    requires room { HasRoom held }
+    requires options { options.now ≡ held.value.options }
+    requires answers { Answers serial reply.now held.value.journal.events }
+    ensures seated { IsSeatOf held.entry.turn.now held.exit.1.0.now }
+    ensures view { ((view held.exit.1.0.now).number ≡ (holder held.entry).number) × ((view held.exit.1.0.now).registry ≡ (holder held.entry).registry) }
+    ensures fills { IsFillOf result held.exit.1.0.now }
+    ensures left { IsLeft result.serial reply.now (view held.exit.1.0.now) }
+{
+    held.release(Task::Fill(serial));
+    Fill::of(serial, options)
+}
 
 /// The first packet of what is left of an entry's answer.
 fn next_packet(rest: &[u8]) -> &[u8]
@@ -24,11 +46,12 @@ fn next_packet(rest: &[u8]) -> &[u8]
     ensures within { length result.now ≤ length rest.now }
     ensures some { 0 < length result.now }
 {
-    let end = match Packets::new(rest).next() {
-        Some(Ok(packet)) => HEADER + packet.payload.len(),
-        _ => rest.len(),
-    };
-    &rest[..end.min(rest.len())]
+    if rest.len() < HEADER {
+        return rest;
+    }
+    let payload =
+        usize::from(rest[0]) + 256 * usize::from(rest[1]) + 65_536 * usize::from(rest[2]);
+    &rest[..(HEADER + payload).min(rest.len())]
 }
 
 /// Stores what is left of an entry's answer, packet by packet, and ends its fill.
