@@ -102,7 +102,7 @@ pub(crate) fn ask_told<R: Wait, L: Ledger>(
 }
 
 /// Gives the turn back after a SELECT. The fill that it began, if any, and what it answers.
-fn end_select(
+pub(crate) fn end_select(
     held: Held<'_, Server>,
     done: Result<Outcome, Stop>,
 ) -> Result<(Option<Fill>, Text), Stop>

@@ -3,7 +3,7 @@
 ghost use Rattle.std.specs.Prelude.{◌≡◌, ℕ, ◌<◌, ◌^◌, List, length, true, IfOk, OnErr};
 ghost use Rattle.qc_laws.specs.sizes.Names.{is_short_select};
 ghost use Rattle.qc_laws.specs.history.Answers.{CanBeKeyed};
-ghost use Rattle.qc_turn.specs.Seats.{holder};
+ghost use Rattle.qc_turn.specs.Seats.{MayRelease, holder};
 ghost use Rattle.qc_turn.specs.declared.task.Task.TheVariants as task;
 ghost use Rattle.qc_select.specs.Selects.{IsOfText};
 ghost use Rattle.qc_core_tests.specs.Selects.{answer_on, task_after};
@@ -138,6 +138,7 @@ fn decide(
     requires text { (text : List ℕ) × IsOfText state.now.state question.key question.select question.asked text × (length text < 2 ^ 32) }
     requires short { is_short_select question.select ≡ true }
     requires plain { IsPlain state.now }
+    ensures stands { MayRelease held.new }
     ensures same { IsSameHolder held.old held.new × KeepsTaken held.old held.new }
     ensures ok { IfOk result (λ t. MayEnd t held.new) }
     ensures answers { IfOk result (λ t. AnswersFill t (answer_on state.now.state question.select held.old.value.database) held.new.value.journal.events) }
@@ -157,6 +158,7 @@ pub(crate) fn select<L: Ledger>(
 ) -> Result<Outcome, Stop>
     requires idle { IsIdle held.old }
     requires rested { (holder held.old).task ≡ task.Rest }
+    ensures stands { MayRelease held.new }
     ensures same { IsSameHolder held.old held.new × KeepsTaken held.old held.new }
     ensures ok { IfOk result (λ outcome. MayEnd outcome.task held.new) }
     ensures answers { IfOk result (λ outcome. AnswersFill outcome.task outcome.reply held.new.value.journal.events) }

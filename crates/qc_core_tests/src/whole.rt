@@ -49,8 +49,7 @@ fn next_packet(rest: &[u8]) -> &[u8]
     if rest.len() < HEADER {
         return rest;
     }
-    let payload =
-        usize::from(rest[0]) + 256 * usize::from(rest[1]) + 65_536 * usize::from(rest[2]);
+    let payload = usize::from(rest[0]) + 256 * usize::from(rest[1]) + 65_536 * usize::from(rest[2]);
     &rest[..(HEADER + payload).min(rest.len())]
 }
 
