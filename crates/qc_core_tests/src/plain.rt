@@ -505,7 +505,9 @@ impl<'a> Plain<'a> {
     fn done(&mut self, seat: u32, serial: u64, words: u32) -> Result<(), AllocError> {
         self.rest(seat)?;
         if let Some(last) = self.last_part(serial) {
-            let before = self.chain_words(serial).saturating_sub(self.blocks.words(last));
+            let before = self
+                .chain_words(serial)
+                .saturating_sub(self.blocks.words(last));
             self.blocks.trim(last, words.saturating_sub(before))?;
         }
         self.complete(serial)?;

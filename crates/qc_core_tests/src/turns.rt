@@ -17,7 +17,6 @@ use crate::selects::{Outcome, select};
 use crate::stop::Stop;
 use crate::whole::fill_whole;
 use qc_core::Server;
-use qc_flow::Fill;
 use qc_model::events::Counters;
 use qc_turn::{Held, Seat, Task, Turn};
 use qc_types::{Options, Steps, Text};
@@ -90,8 +89,8 @@ fn text_of(query: usize) -> &'static [u8] {
     }
 }
 
-fn table_of(table: usize) -> &'static [u8] {
-    match TABLES.get(table) {
+fn table_of(table: u32) -> &'static [u8] {
+    match TABLES.get(table as usize) {
         Some(name) => *name,
         None => b"",
     }
@@ -250,7 +249,10 @@ fn asked_whole<R: Wait, L: Ledger>(
     };
     step_beside(rt, alloc, turn, other, plain, dice)?;
     fill_whole(rt, turn, seat, fill, reply.bytes())?;
-    plain.fill(seat.number(), packet_sizes(alloc, reply.bytes())?.as_slice())?;
+    plain.fill(
+        seat.number(),
+        packet_sizes(alloc, reply.bytes())?.as_slice(),
+    )?;
     *kept = reply;
     let (told, found) = compared(rt, alloc, turn, seat, plain, first)?;
     Ok(judged(alloc, told, found, plain)?)
@@ -367,7 +369,10 @@ fn other_step(plain: &mut Plain<'_>, dice: &mut Dice) -> Result<Step<'static>, S
             plain.flush()?;
             Ok(Step::Flush)
         }
-        8 => Ok(Step::Make(drop_or_make(plain, dice.below(2))?)),
+        8 => {
+            let table = dice.below(2).min(1) as u32;
+            Ok(Step::Make(drop_or_make(plain, table)?))
+        }
         _ => {
             plain.status()?;
             Ok(Step::Status)
@@ -377,24 +382,24 @@ fn other_step(plain: &mut Plain<'_>, dice: &mut Dice) -> Result<Step<'static>, S
 
 /// A row of a table, or the table where it is missing.
 fn change(plain: &mut Plain<'_>, dice: &mut Dice) -> Result<Change<'static>, AllocError> {
-    let number = dice.below(3);
-    if plain.is_missing(number as u32) {
-        return drop_or_make(plain, number);
+    let table = dice.below(3).min(2) as u32;
+    if plain.is_missing(table) {
+        return drop_or_make(plain, table);
     }
-    plain.commit(number as u32)?;
-    let key = if number == 2 { dice.below(80) } else { dice.below(12) };
-    Ok(Change::Row(table_of(number as usize), key as i64))
+    plain.commit(table)?;
+    let keys = if table == 2 { 80 } else { 12 };
+    let key = dice.below(keys).min(79) as i64;
+    Ok(Change::Row(table_of(table), key))
 }
 
 /// A table dropped, or made where it is missing.
-fn drop_or_make(plain: &mut Plain<'_>, number: u64) -> Result<Change<'static>, AllocError> {
-    let name = table_of(number as usize);
-    if plain.is_missing(number as u32) {
-        plain.make_table(number as u32)?;
-        Ok(Change::Table(name))
+fn drop_or_make(plain: &mut Plain<'_>, table: u32) -> Result<Change<'static>, AllocError> {
+    if plain.is_missing(table) {
+        plain.make_table(table)?;
+        Ok(Change::Table(table_of(table)))
     } else {
-        plain.drop_table(number as u32)?;
-        Ok(Change::DropTable(name))
+        plain.drop_table(table)?;
+        Ok(Change::DropTable(table_of(table)))
     }
 }
 
@@ -557,7 +562,15 @@ fn next_turn<R: Wait, L: Ledger>(
 {
     match dice.below(3) {
         0 => one_turn(
-            rt, alloc, turn, first, second, plain, dice, &mut kept.first, steps,
+            rt,
+            alloc,
+            turn,
+            first,
+            second,
+            plain,
+            dice,
+            &mut kept.first,
+            steps,
         ),
         1 => one_turn(
             rt,
@@ -571,7 +584,15 @@ fn next_turn<R: Wait, L: Ledger>(
             steps,
         ),
         _ => one_turn(
-            rt, alloc, turn, third, first, plain, dice, &mut kept.third, steps,
+            rt,
+            alloc,
+            turn,
+            third,
+            first,
+            plain,
+            dice,
+            &mut kept.third,
+            steps,
         ),
     }
 }
