@@ -94,7 +94,7 @@ pub(crate) fn ask_told<R: Wait, L: Ledger>(
         *kept = reply;
         return Ok(told?);
     };
-    fill_whole(rt, turn, seat, fill, reply.bytes())?;
+    let _filled = fill_whole(rt, turn, seat, fill, reply.bytes());
     *kept = reply;
     let more = rest_told(rt, alloc, turn, seat, next)?;
     let told = told?;

@@ -8,7 +8,6 @@ ghost use Rattle.qc_flow.specs.Fills.{IsFillOf};
 ghost use Rattle.qc_core_tests.specs.Seats.{Answers, HasRoom, IsPacket, IsResting, IsSame, KnowsFixed, MayEnd};
 ghost use Rattle.qc_core_tests.specs.Fillings.{CutsOff, IsLeft};
 
-use crate::stop::Stop;
 use qc_core::Server;
 use qc_flow::{Fill, FillStep};
 use qc_turn::{Held, Seat, Task, Turn};
@@ -53,14 +52,23 @@ fn next_packet(rest: &[u8]) -> &[u8]
     &rest[..(HEADER + payload).min(rest.len())]
 }
 
-/// Stores what is left of an entry's answer, packet by packet, and ends its fill.
+/// What became of an answer.
+#[derive(Clone, Copy)]
+pub(crate) struct Filled {
+    /// How many packets were put.
+    pub(crate) packets: u32,
+    /// What became of the last one. `More` where all were stored, and the fill was then ended.
+    pub(crate) last: FillStep,
+}
+
+/// Stores what is left of an entry's answer, packet by packet, and ends its fill. The seat rests then.
 pub(crate) fn fill_whole<R: Wait>(
     rt: &R,
     turn: &Turn<Server>,
     seat: &mut Seat<Server>,
     fill: Fill,
     reply: &[u8],
-) -> Result<(), Stop>
+) -> Filled
     requires seated { IsSeatOf turn.now seat.old }
     requires fills { IsFillOf fill seat.old }
     requires left { IsLeft fill.serial reply.now (view seat.old) }
@@ -68,13 +76,20 @@ pub(crate) fn fill_whole<R: Wait>(
 {
     let mut fill = fill;
     let mut rest = reply;
+    let mut packets = 0u32;
     while !rest.is_empty() {
         let packet = next_packet(rest);
-        let FillStep::More = fill.put(rt, turn, seat, packet) else {
-            return Err(Stop::Blocks);
-        };
+        packets = packets.saturating_add(1);
+        let last = fill.put(rt, turn, seat, packet);
+        match last {
+            FillStep::More => {}
+            _ => return Filled { packets, last },
+        }
         rest = &rest[packet.len()..];
     }
     let _ended = fill.end(rt, turn, seat);
-    Ok(())
+    Filled {
+        packets,
+        last: FillStep::More,
+    }
 }
