@@ -248,7 +248,7 @@ fn asked_whole<R: Wait, L: Ledger>(
         return Ok(judged(alloc, told?, found?, plain)?);
     };
     step_beside(rt, alloc, turn, other, plain, dice)?;
-    fill_whole(rt, turn, seat, fill, reply.bytes())?;
+    let _filled = fill_whole(rt, turn, seat, fill, reply.bytes());
     plain.fill(
         seat.number(),
         packet_sizes(alloc, reply.bytes())?.as_slice(),
