@@ -74,6 +74,8 @@ pub(crate) struct Plain<'a> {
     tasks: Vec<PlainTask>,
     counts: Counts,
     lines: String,
+    /// How many events of the server it was compared with.
+    seen: u64,
 }
 
 impl<'a> Plain<'a> {
@@ -104,6 +106,7 @@ impl<'a> Plain<'a> {
                 lowmem_prunes: 0,
             },
             lines: String::new(alloc),
+            seen: 0,
         })
     }
 
@@ -119,6 +122,15 @@ impl<'a> Plain<'a> {
     pub(crate) fn take_lines(&mut self) -> String {
         let alloc = self.alloc;
         std::mem::replace(&mut self.lines, String::new(alloc))
+    }
+
+    pub(crate) fn seen(&self) -> u64 {
+        self.seen
+    }
+
+    /// It is compared with so many events of the server.
+    pub(crate) fn see(&mut self, events: u64) {
+        self.seen = events;
     }
 
     pub(crate) fn counts(&self) -> Counts {

@@ -4,7 +4,9 @@ ghost use Rattle.std.specs.Prelude.{◌≡◌, ◌<◌};
 ghost use Rattle.qc_turn.specs.Seats.{IsSeatOf, MayRelease, view};
 ghost use Rattle.qc_turn.specs.Words.{last_seat};
 ghost use Rattle.qc_turn.specs.declared.task.Task.TheVariants as task;
-ghost use Rattle.qc_core_tests.specs.Seats.{IsFirst, IsResting, IsSame, MeetsAll};
+ghost use Rattle.qc_flow.specs.Fills.{IsFillOf};
+ghost use Rattle.qc_core_tests.specs.Seats.{IsFirst, IsIdle, IsResting, IsSame, IsSameHolder, MayRest, MeetsAll};
+ghost use Rattle.qc_core_tests.specs.Fillings.{IsLeft};
 
 use crate::calls::{Step, end_with, give_back, hand_back, make, take_turn};
 use crate::changes::Change;
@@ -17,9 +19,10 @@ use crate::selects::{Outcome, select};
 use crate::stop::Stop;
 use crate::whole::fill_whole;
 use qc_core::Server;
+use qc_flow::Fill;
 use qc_model::events::Counters;
 use qc_turn::{Held, Seat, Task, Turn};
-use qc_types::{Options, Steps, Text};
+use qc_types::{NoMemory, Options, Steps, Text};
 use std::alloc::{AllocError, Global};
 use std::marker::Brand;
 use std::sync::Wait;
@@ -133,18 +136,55 @@ fn differences(
     Ok(String::new(alloc))
 }
 
-/// A turn's event lines, or where they aren't those of the plain server.
+/// Whether these event lines are those of the plain server. Else both, and else what was found.
 fn judged(
     alloc: Global,
-    told: String,
-    found: String,
+    told: Result<String, AllocError>,
+    found: Result<String, AllocError>,
     plain: &mut Plain<'_>,
-) -> Result<String, AllocError> {
+) -> Result<String, Stop> {
+    let told = told?;
     let wanted = plain.take_lines();
     if told.as_str() != wanted.as_str() {
-        return format!(in alloc; "told {told} for {wanted}");
+        return Ok(format!(in alloc; "told {told} for {wanted}")?);
     }
-    Ok(found)
+    Ok(found?)
+}
+
+/// Where the events behind those that were compared before, the counters or the last entries aren't those of the plain server.
+fn compare(
+    held: &mut Held<'_, Server>,
+    alloc: Global,
+    plain: &mut Plain<'_>,
+) -> Result<String, Stop>
+    requires { MayRelease held.old }
+    ensures { held.new ≡ held.old }
+{
+    let told = lines_from(alloc, held.value().journal(), plain.seen());
+    plain.see(held.value().journal().len());
+    let found = differences(held, alloc, plain);
+    judged(alloc, told, found, plain)
+}
+
+/// The first of two differences, where nothing failed before.
+fn first_of(made: Result<(), Stop>, found: Result<String, Stop>) -> Result<String, Stop> {
+    made?;
+    found
+}
+
+/// A step under the turn.
+fn stepped(
+    held: &mut Held<'_, Server>,
+    alloc: Global,
+    plain: &mut Plain<'_>,
+    step: Step<'_>,
+) -> Result<String, Stop>
+    requires { IsIdle held.old }
+    ensures { MayRest held.new × IsSameHolder held.old held.new }
+{
+    let made = make(held, alloc, step);
+    let found = compare(held, alloc, plain);
+    first_of(made, found)
 }
 
 /// A step that keeps no task.
@@ -160,32 +200,26 @@ fn plain_step<R: Wait>(
     ensures { IsResting turn.now seat.new × IsSame seat.old seat.new }
 {
     let mut held = turn.take(rt, seat);
-    let first = held.value().journal().len();
-    let made = make(&mut held, alloc, step);
-    let told = lines_from(alloc, held.value().journal(), first);
-    let found = differences(&mut held, alloc, plain);
+    let found = stepped(&mut held, alloc, plain, step);
     give_back(held);
-    made?;
-    Ok(judged(alloc, told?, found?, plain)?)
+    found
 }
 
-/// The events behind the first so many, in words, and where the server isn't the plain one.
+/// Takes the turn to compare the server with the plain one.
 fn compared<R: Wait>(
     rt: &R,
     alloc: Global,
     turn: &Turn<Server>,
     seat: &mut Seat<Server>,
-    plain: &Plain<'_>,
-    first: u64,
-) -> Result<(String, String), AllocError>
+    plain: &mut Plain<'_>,
+) -> Result<String, Stop>
     requires { IsResting turn.now seat.old }
     ensures { IsResting turn.now seat.new × IsSame seat.old seat.new }
 {
     let mut held = turn.take(rt, seat);
-    let told = lines_from(alloc, held.value().journal(), first);
-    let found = differences(&mut held, alloc, plain);
+    let found = compare(&mut held, alloc, plain);
     hand_back(held);
-    Ok((told?, found?))
+    found
 }
 
 /// A SELECT, whose fill stays open where it begins an entry. Its reply is kept.
@@ -203,15 +237,13 @@ fn asked<R: Wait, L: Ledger>(
     ensures { IsSeatOf turn.now seat.new × IsSame seat.old seat.new }
 {
     let mut held = turn.take(rt, seat);
-    let first = held.value().journal().len();
     let done = select(&mut held, alloc, text_of(query), steps);
-    let told = lines_from(alloc, held.value().journal(), first);
-    let found = differences(&mut held, alloc, plain);
+    let found = compare(&mut held, alloc, plain);
     match done {
         Ok(Outcome { task, reply }) => {
             *kept = reply;
             end_with(held, task);
-            Ok(judged(alloc, told?, found?, plain)?)
+            found
         }
         Err(stop) => {
             give_back(held);
@@ -238,24 +270,52 @@ fn asked_whole<R: Wait, L: Ledger>(
     ensures other { IsSeatOf turn.now other.new × IsSame other.old other.new }
 {
     let mut held = turn.take(rt, seat);
-    let first = held.value().journal().len();
     let done = select(&mut held, alloc, text_of(query), steps);
-    let told = lines_from(alloc, held.value().journal(), first);
-    let found = differences(&mut held, alloc, plain);
+    let found = compare(&mut held, alloc, plain);
     let (fill, reply) = end_select(held, done)?;
-    let Some(fill) = fill else {
-        *kept = reply;
-        return Ok(judged(alloc, told?, found?, plain)?);
-    };
-    step_beside(rt, alloc, turn, other, plain, dice)?;
-    let _filled = fill_whole(rt, turn, seat, fill, reply.bytes());
-    plain.fill(
-        seat.number(),
-        packet_sizes(alloc, reply.bytes())?.as_slice(),
-    )?;
     *kept = reply;
-    let (told, found) = compared(rt, alloc, turn, seat, plain, first)?;
-    Ok(judged(alloc, told, found, plain)?)
+    match fill {
+        Some(fill) => {
+            let acted = step_beside(rt, alloc, turn, other, plain, dice);
+            let filled = filled(rt, alloc, turn, seat, plain, fill, kept.bytes());
+            first_of(acted, first_found(found, filled))
+        }
+        None => found,
+    }
+}
+
+/// The first of two differences.
+fn first_found(first: Result<String, Stop>, second: Result<String, Stop>) -> Result<String, Stop> {
+    let first = first?;
+    if first.is_empty() { second } else { Ok(first) }
+}
+
+/// Fills an entry with its answer.
+fn filled<R: Wait>(
+    rt: &R,
+    alloc: Global,
+    turn: &Turn<Server>,
+    seat: &mut Seat<Server>,
+    plain: &mut Plain<'_>,
+    fill: Fill,
+    reply: &[u8],
+) -> Result<String, Stop>
+    requires seated { IsSeatOf turn.now seat.old }
+    requires fills { IsFillOf fill seat.old }
+    requires left { IsLeft fill.serial reply.now (view seat.old) }
+    ensures { IsResting turn.now seat.new × IsSame seat.old seat.new }
+{
+    let _filled = fill_whole(rt, turn, seat, fill, reply);
+    let noted = note_fill(alloc, plain, seat.number(), reply);
+    let found = compared(rt, alloc, turn, seat, plain);
+    first_of(noted, found)
+}
+
+/// The plain server's entry is filled with a reply.
+fn note_fill(alloc: Global, plain: &mut Plain<'_>, seat: u32, reply: &[u8]) -> Result<(), Stop> {
+    let sizes = packet_sizes(alloc, reply)?;
+    plain.fill(seat, sizes.as_slice())?;
+    Ok(())
 }
 
 /// What another seat does, if it rests, between the start of an entry and its fill.
@@ -277,7 +337,11 @@ fn step_beside<R: Wait>(
         return Ok(());
     };
     let step = other_step(plain, dice)?;
-    take_turn(rt, alloc, turn, other, step)?;
+    made(take_turn(rt, alloc, turn, other, step))
+}
+
+fn made(told: Result<String, Stop>) -> Result<(), Stop> {
+    told?;
     Ok(())
 }
 
@@ -413,11 +477,16 @@ fn stream_step(
 ) -> Result<String, Stop>
     requires seated { IsSeatOf turn.now seat.old }
     requires streams { (serial : _) × ((view seat.old).task ≡ task.Stream serial) }
-    ensures { IsSeatOf turn.now seat.new × IsSame seat.old seat.new }
+    ensures { IsResting turn.now seat.new × IsSame seat.old seat.new }
 {
     let whole = streams(turn, seat, kept);
-    plain.rest(seat.number())?;
+    let rested = plain.rest(seat.number());
     stop_streaming(turn, seat);
+    streamed(alloc, whole, rested)
+}
+
+fn streamed(alloc: Global, whole: bool, rested: Result<(), AllocError>) -> Result<String, Stop> {
+    rested?;
     Ok(String::from_str(alloc, if whole { "" } else { "stream" })?)
 }
 
@@ -432,12 +501,17 @@ fn fill_step<R: Wait>(
 ) -> Result<String, Stop>
     requires seated { IsSeatOf turn.now seat.old }
     requires fills { (view seat.old).task ≡ task.Fill serial }
-    ensures { IsSeatOf turn.now seat.new × IsSame seat.old seat.new }
+    ensures { IsResting turn.now seat.new × IsSame seat.old seat.new }
 {
-    plain.gone(seat.number())?;
-    let told = give_up(rt, alloc, turn, seat, serial)?;
-    let (_, found) = compared(rt, alloc, turn, seat, plain, 0)?;
-    Ok(judged(alloc, told, found, plain)?)
+    let noted = plain.gone(seat.number());
+    let _told = give_up(rt, alloc, turn, seat, serial);
+    let found = compared(rt, alloc, turn, seat, plain);
+    ended(noted, found)
+}
+
+fn ended(noted: Result<(), AllocError>, found: Result<String, Stop>) -> Result<String, Stop> {
+    noted?;
+    found
 }
 
 /// One turn of a seat, beside another one.
@@ -482,33 +556,81 @@ const BASE: &[Step<'static>] = &[
     Step::Make(Change::Row(b"t", 1)),
 ];
 
-/// Connects the first seat, and makes the database and its tables, of which the last one has so many rows that their packets need two of the smallest blocks.
+/// The steps of the first seat before the others come: after them, the last table has so many rows that their packets need two of the smallest blocks.
+fn base(alloc: Global) -> Result<Vec<Step<'static>>, AllocError> {
+    let mut steps = Vec::new(alloc);
+    steps.extend_from_slice(BASE)?;
+    for key in 0..70 {
+        steps.push(Step::Make(Change::Row(b"v", key)))?;
+    }
+    Ok(steps)
+}
+
+/// A commit of the first seat before there are entries. What was found is put behind the rest.
+fn base_step<R: Wait>(
+    rt: &R,
+    alloc: Global,
+    turn: &Turn<Server>,
+    seat: &mut Seat<Server>,
+    plain: &mut Plain<'_>,
+    step: Step<'_>,
+    all: &mut String,
+) -> Result<(), Stop>
+    requires { IsResting turn.now seat.old }
+    ensures { IsResting turn.now seat.new × IsSame seat.old seat.new }
+{
+    let noted = plain.commit(99);
+    let found = plain_step(rt, alloc, turn, seat, plain, step);
+    put_behind(all, ended(noted, found))
+}
+
+fn put_behind(all: &mut String, found: Result<String, Stop>) -> Result<(), Stop> {
+    let found = found?;
+    all.push_str(&found)?;
+    Ok(())
+}
+
+/// Makes the database and its tables.
 fn begin<R: Wait>(
     rt: &R,
     alloc: Global,
     turn: &Turn<Server>,
     seat: &mut Seat<Server>,
     plain: &mut Plain<'_>,
+    steps: &[Step<'_>],
 ) -> Result<String, Stop>
     requires { IsResting turn.now seat.old }
     ensures { IsResting turn.now seat.new × IsSame seat.old seat.new }
 {
-    let mut all = plain_step(rt, alloc, turn, seat, plain, Step::Join)?;
-    for step in BASE {
-        plain.commit(99)?;
-        let found = plain_step(rt, alloc, turn, seat, plain, *step)?;
-        all.push_str(&found)?;
-    }
-    for key in 0..70 {
-        plain.commit(2)?;
-        let row = Step::Make(Change::Row(b"v", key));
-        let found = plain_step(rt, alloc, turn, seat, plain, row)?;
-        all.push_str(&found)?;
+    let mut all = String::new(alloc);
+    for step in steps {
+        base_step(rt, alloc, turn, seat, plain, *step, &mut all)?;
     }
     Ok(all)
 }
 
-/// Three seats connect, and take so many turns. The first difference, or nothing.
+/// Three seats connect.
+fn join_all<R: Wait>(
+    rt: &R,
+    alloc: Global,
+    turn: &Turn<Server>,
+    first: &mut Seat<Server>,
+    second: &mut Seat<Server>,
+    third: &mut Seat<Server>,
+    plain: &mut Plain<'_>,
+) -> Result<String, Stop>
+    requires { IsResting turn.now first.old × IsResting turn.now second.old × IsResting turn.now third.old }
+    ensures first { IsResting turn.now first.new × IsSame first.old first.new }
+    ensures second { IsResting turn.now second.new × IsSame second.old second.new }
+    ensures third { IsResting turn.now third.new × IsSame third.old third.new }
+{
+    let one = plain_step(rt, alloc, turn, first, plain, Step::Join);
+    let two = plain_step(rt, alloc, turn, second, plain, Step::Join);
+    let three = plain_step(rt, alloc, turn, third, plain, Step::Join);
+    first_found(one, first_found(two, three))
+}
+
+/// Three seats connect, the first one makes the database, and they take so many turns. The first difference, or nothing.
 fn play_turns<R: Wait, L: Ledger>(
     rt: &R,
     alloc: Global,
@@ -525,13 +647,11 @@ fn play_turns<R: Wait, L: Ledger>(
     ensures second { IsSeatOf turn.now second.new × IsSame second.old second.new }
     ensures third { IsSeatOf turn.now third.new × IsSame third.old third.new }
 {
-    let found = begin(rt, alloc, turn, first, plain)?;
-    if !found.is_empty() {
-        return Ok(found);
-    }
-    plain_step(rt, alloc, turn, second, plain, Step::Join)?;
-    plain_step(rt, alloc, turn, third, plain, Step::Join)?;
-    take_turns(rt, alloc, turn, first, second, third, plain, course, steps)
+    let base = base(alloc)?;
+    let joined = join_all(rt, alloc, turn, first, second, third, plain);
+    let begun = begin(rt, alloc, turn, first, plain, base.as_slice());
+    let found = take_turns(rt, alloc, turn, first, second, third, plain, course, steps);
+    first_found(first_found(joined, begun), found)
 }
 
 /// What the last SELECT of each seat answered.
@@ -540,6 +660,16 @@ struct Kept {
     first: Text,
     second: Text,
     third: Text,
+}
+
+impl Kept {
+    fn new(alloc: Global) -> Result<Kept, NoMemory> {
+        Ok(Kept {
+            first: Text::of(alloc, b"")?,
+            second: Text::of(alloc, b"")?,
+            third: Text::of(alloc, b"")?,
+        })
+    }
 }
 
 /// One turn of one of the three seats.
@@ -615,20 +745,26 @@ fn take_turns<R: Wait, L: Ledger>(
     ensures third { IsSeatOf turn.now third.new × IsSame third.old third.new }
 {
     let mut dice = Dice { seed: course.seed };
-    let mut kept = Kept {
-        first: Text::of(alloc, b"")?,
-        second: Text::of(alloc, b"")?,
-        third: Text::of(alloc, b"")?,
-    };
+    let mut kept = Kept::new(alloc)?;
     for number in 0..course.turns {
         let found = next_turn(
             rt, alloc, turn, first, second, third, plain, &mut dice, &mut kept, steps,
-        )?;
+        );
+        let found = numbered(alloc, number, found)?;
         if !found.is_empty() {
-            return Ok(format!(in alloc; "turn {number}: {found}")?);
+            return Ok(found);
         }
     }
     Ok(String::new(alloc))
+}
+
+/// A difference with the number of its turn.
+fn numbered(alloc: Global, number: u32, found: Result<String, Stop>) -> Result<String, Stop> {
+    let found = found?;
+    if found.is_empty() {
+        return Ok(found);
+    }
+    Ok(format!(in alloc; "turn {number}: {found}")?)
 }
 
 /// How turns are taken: the seed of their dice, their count, and how many blocks each seat has room for.
@@ -637,6 +773,14 @@ struct Course {
     seed: u64,
     turns: u32,
     room: u32,
+}
+
+/// Gets a seat room for so many blocks, unless memory lacks. Without it a SELECT is refused.
+fn get_room(alloc: Global, turn: &Turn<Server>, seat: &mut Seat<Server>, room: u32)
+    requires { IsResting turn.now seat.old }
+    ensures { IsResting turn.now seat.new × IsSame seat.old seat.new }
+{
+    let _ = seat.with_room(alloc, room);
 }
 
 /// The same by three seats with room for as many blocks as the course says, which rest again at the end.
@@ -656,9 +800,9 @@ fn play_settled<R: Wait, L: Ledger>(
     ensures second { IsResting turn.now second.new × IsSame second.old second.new }
     ensures third { IsResting turn.now third.new × IsSame third.old third.new }
 {
-    let _ = first.with_room(alloc, course.room);
-    let _ = second.with_room(alloc, course.room);
-    let _ = third.with_room(alloc, course.room);
+    get_room(alloc, turn, first, course.room);
+    get_room(alloc, turn, second, course.room);
+    get_room(alloc, turn, third, course.room);
     let found = play_turns(rt, alloc, turn, first, second, third, plain, course, steps);
     settle(rt, alloc, turn, first);
     settle(rt, alloc, turn, second);

@@ -3,6 +3,3 @@ use Rattle.qc_core_tests.proofs.turns.begin.Given as goal
 
 abbrev pub invariant-loop-step : goal.invariant-loop-step
 invariant-loop-step g l = IsResting l.turn l.seat × IsSame l.fn.seat l.seat
-
-abbrev pub invariant-loop-key : goal.invariant-loop-key
-invariant-loop-key g l = IsResting l.turn l.seat × IsSame l.fn.seat l.seat
