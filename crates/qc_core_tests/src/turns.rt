@@ -33,6 +33,7 @@ const TEXTS: &[(&str, &[u32])] = &[
     ("SELECT id FROM t", &[0]),
     ("SELECT id FROM u", &[1]),
     ("SELECT id FROM v", &[2]),
+    ("SELECT id FROM w", &[3]),
     ("SELECT id FROM t WHERE id = 1", &[0]),
     ("SELECT id FROM u WHERE id = 2", &[1]),
     ("SELECT t.id FROM t JOIN u ON t.id = u.id", &[0, 1]),
@@ -46,7 +47,7 @@ const TEXTS: &[(&str, &[u32])] = &[
     ),
 ];
 
-const TABLES: &[&[u8]] = &[b"t", b"u", b"v"];
+const TABLES: &[&[u8]] = &[b"t", b"u", b"v", b"w"];
 
 /// The bytes of a key in front of its text, where the database has a name of one letter.
 const KEY_FRONT: usize = 17;
@@ -386,7 +387,7 @@ fn select_step<R: Wait, L: Ledger>(
     ensures seat { IsSeatOf turn.now seat.new × IsSame seat.old seat.new }
     ensures other { IsSeatOf turn.now other.new × IsSame other.old other.new }
 {
-    let query = dice.below(8) as usize;
+    let query = dice.below(9) as usize;
     plain.select(seat.number(), query)?;
     if dice.below(6) == 0 {
         asked(rt, alloc, turn, seat, plain, query, kept, steps)
@@ -434,7 +435,7 @@ fn other_step(plain: &mut Plain<'_>, dice: &mut Dice) -> Result<Step<'static>, S
             Ok(Step::Flush)
         }
         8 => {
-            let table = dice.below(2).min(1) as u32;
+            let table = dice.below(3).min(2) as u32;
             Ok(Step::Make(drop_or_make(plain, table)?))
         }
         _ => {
@@ -446,12 +447,12 @@ fn other_step(plain: &mut Plain<'_>, dice: &mut Dice) -> Result<Step<'static>, S
 
 /// A row of a table, or the table where it is missing.
 fn change(plain: &mut Plain<'_>, dice: &mut Dice) -> Result<Change<'static>, AllocError> {
-    let table = dice.below(3).min(2) as u32;
+    let table = dice.below(4).min(3) as u32;
     if plain.is_missing(table) {
         return drop_or_make(plain, table);
     }
     plain.commit(table)?;
-    let keys = if table == 2 { 80 } else { 12 };
+    let keys = if table == 3 { 80 } else { 12 };
     let key = dice.below(keys).min(79) as i64;
     Ok(Change::Row(table_of(table), key))
 }
@@ -553,6 +554,7 @@ const BASE: &[Step<'static>] = &[
     Step::Make(Change::Table(b"t")),
     Step::Make(Change::Table(b"u")),
     Step::Make(Change::Table(b"v")),
+    Step::Make(Change::Table(b"w")),
     Step::Make(Change::Row(b"t", 1)),
 ];
 
@@ -561,7 +563,7 @@ fn base(alloc: Global) -> Result<Vec<Step<'static>>, AllocError> {
     let mut steps = Vec::new(alloc);
     steps.extend_from_slice(BASE)?;
     for key in 0..70 {
-        steps.push(Step::Make(Change::Row(b"v", key)))?;
+        steps.push(Step::Make(Change::Row(b"w", key)))?;
     }
     Ok(steps)
 }
