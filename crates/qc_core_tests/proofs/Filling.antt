@@ -27,7 +27,8 @@ use Rattle.qc_flow.specs.declared.fills.FillStep.{FillStep}
 use Rattle.qc_flow.specs.declared.fills.FillStep.TheVariants as step
 use Rattle.qc_flow.proofs.Begins.{fills_begin}
 use Rattle.qc_core_tests.specs.Fillings.{IsLeft, CutsOff}
-use Rattle.qc_core_tests.specs.Seats.{Answers, HasRoom, IsPacket, KnowsFixed, MayEnd}
+use Rattle.qc_flow.specs.Seats.{GoesOn}
+use Rattle.qc_core_tests.specs.Seats.{Answers, HasRoom, IsPacket, IsSame, KnowsFixed, MayEnd}
 
 -- ---- the packet in front
 
@@ -66,6 +67,15 @@ whole_of serial v i = record {
   start = i.start;
   answered = ap (option_map concat) i.answered ∙ ap (λ l. Some l) (concat-append i.earlier i.later ∙ (ap (λ l. concat i.earlier ++ l) (sym i.spells) ∙ (append-nil (concat i.earlier) ∙ sym i.stored)));
 }
+
+-- nothing is left
+pub whole_left : (serial : ℕ) (rest : List ℕ) (v : View Parts Event) → length rest ≡ 0 → IsLeft serial rest v → IsWholeAnswer serial v
+whole_left serial [] v none i = whole_of serial v i
+whole_left serial (b ∷ bs) v none i = absurd (omega (arith, none))
+
+-- a seat whose fill went on or ended is the seat that it was
+pub goes_same : (old new : Seat Parts Event ghosts) → GoesOn (view old) (view new) → IsSame old new
+goes_same old new g = record { number = ap (λ (v : View Parts Event). v.number) g.same; registry = ap (λ (v : View Parts Event). v.registry) g.same }
 
 -- ---- the first packet
 

@@ -71,6 +71,7 @@ fn read(alloc: Global, state: &SessionState, text: &[u8]) -> Result<Question, St
 }
 
 /// Whether the seat's ranges have room for each chain.
+#[tactic(auto, using(crate::proofs::Selecting::ranges_back))]
 pub(crate) fn has_room(held: &mut Held<'_, Server>) -> bool
     ensures room { result ≡ true → HasRoom held.old }
     ensures same { held.new ≡ held.old }
@@ -80,7 +81,7 @@ pub(crate) fn has_room(held: &mut Held<'_, Server>) -> bool
 }
 
 /// What a SELECT answers now.
-#[tactic(auto, using(crate::proofs::Selecting::held_bounded))]
+#[tactic(auto, using(crate::proofs::Selecting::held_bounded, crate::proofs::Selecting::value_back))]
 fn answer<L: Ledger>(
     held: &mut Held<'_, Server>,
     alloc: Global,
@@ -126,7 +127,7 @@ fn task_of(selected: &Selected) -> Task
 }
 
 /// Decides a SELECT. The task that the seat has then.
-#[tactic(auto, using(crate::proofs::Selecting::may_ask))]
+#[tactic(auto, using(crate::proofs::Selecting::may_ask, crate::proofs::Selecting::taken_kept))]
 fn decide(
     held: &mut Held<'_, Server>,
     alloc: Global,

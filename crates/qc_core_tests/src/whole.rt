@@ -18,6 +18,7 @@ use std::sync::Wait;
 const HEADER: usize = 4;
 
 /// Gives the turn back with the fill that a SELECT began on the server with these options. Nothing of the answer is stored yet.
+#[tactic(auto, using(crate::proofs::Selecting::ends_content, crate::proofs::Filling::fill_begun))]
 pub(crate) fn begin_fill(
     held: Held<'_, Server>,
     serial: u64,
@@ -80,10 +81,9 @@ pub(crate) fn fill_whole<R: Wait>(
     while !rest.is_empty() {
         let packet = next_packet(rest);
         packets = packets.saturating_add(1);
-        let last = fill.put(rt, turn, seat, packet);
-        match last {
+        match fill.put(rt, turn, seat, packet) {
             FillStep::More => {}
-            _ => return Filled { packets, last },
+            last => return Filled { packets, last },
         }
         rest = &rest[packet.len()..];
     }
