@@ -68,6 +68,16 @@ impl Blocks {
         largest
     }
 
+    /// The words of a block, or 0 where there is none of this name.
+    pub(crate) fn words(&self, name: u32) -> u32 {
+        for tile in self.tiles.as_slice() {
+            if tile.name == name {
+                return tile.words;
+            }
+        }
+        0
+    }
+
     /// The blocks, the free ones, and the words of these.
     pub(crate) fn totals(&self) -> (u32, u32, u32) {
         let mut all = 0u32;

@@ -13,12 +13,13 @@ use std::alloc::Global;
 use std::marker::Brand;
 use std::sync::ledger::{Blank, Ledger};
 
-/// A change: a new database of the name d, a table there with one column of numbers, or a row of one number.
+/// A change: a new database of the name d, a table there with one column of numbers, a row of one number, or a table dropped.
 #[derive(Clone, Copy)]
 pub(crate) enum Change<'a> {
     Database,
     Table(&'a [u8]),
     Row(&'a [u8], i64),
+    DropTable(&'a [u8]),
 }
 
 /// A table of the database d.
@@ -51,6 +52,7 @@ fn operation(alloc: Global, change: Change<'_>) -> Result<RowOp, NoMemory> {
             row.push(Value::Int(key))?;
             Ok(RowOp::Put(named(alloc, name)?, row))
         }
+        Change::DropTable(name) => Ok(RowOp::DropTable(named(alloc, name)?)),
     }
 }
 
@@ -84,7 +86,8 @@ fn is_small(op: &RowOp) -> bool
             table.name.bytes().len() <= 64 && are_small(columns.items())
         }
         RowOp::Put(_, row) => is_number(row.items()),
-        RowOp::Del(_, _) | RowOp::DropTable(_) | RowOp::DropDb(_) => false,
+        RowOp::DropTable(_) => true,
+        RowOp::Del(_, _) | RowOp::DropDb(_) => false,
     }
 }
 

@@ -13,9 +13,9 @@ use crate::hall::open;
 use crate::lines::lines_from;
 use crate::selects::{Outcome, has_room, select};
 use crate::stop::Stop;
-use crate::whole::{begin_fill, fill_whole};
+use crate::whole::{Filled, begin_fill, fill_whole};
 use qc_core::Server;
-use qc_flow::Fill;
+use qc_flow::{Fill, FillStep};
 use qc_model::events::Counters;
 use qc_turn::{Held, Seat, Task, Turn};
 use qc_types::{Options, Steps, Text};
@@ -95,11 +95,24 @@ pub(crate) fn ask_told<R: Wait, L: Ledger>(
         *kept = reply;
         return Ok(told?);
     };
-    let _filled = fill_whole(rt, turn, seat, fill, reply.bytes());
+    let filled = fill_whole(rt, turn, seat, fill, reply.bytes());
     *kept = reply;
     let more = rest_told(rt, alloc, turn, seat, next)?;
-    let told = told?;
-    Ok(format!(in alloc; "{told}, {more}")?)
+    Ok(filled_told(alloc, told?, more, filled)?)
+}
+
+/// The events of a SELECT and those of its fill. Where not all packets were stored, also how many were put, and what became of the last one.
+fn filled_told(
+    alloc: Global,
+    told: String,
+    more: String,
+    filled: Filled,
+) -> Result<String, AllocError> {
+    let Filled { packets, last } = filled;
+    match last {
+        FillStep::More => format!(in alloc; "{told}, {more}"),
+        _ => format!(in alloc; "{told}, {more}, put {packets}: {last:?}"),
+    }
 }
 
 /// Gives the turn back after a SELECT. The fill that it began, if any, and what it answers.

@@ -26,10 +26,17 @@ struct PlainTask {
     serial: u64,
 }
 
-/// A block with the serial of its entry, or the number of its table.
+/// A table that an entry names, and its block.
 #[derive(Clone, Copy, Debug)]
-struct Owned {
-    owner: u64,
+struct PlainTable {
+    number: u32,
+    block: u32,
+}
+
+/// A block of the chain of an entry.
+#[derive(Clone, Copy, Debug)]
+struct Part {
+    serial: u64,
     block: u32,
 }
 
@@ -51,35 +58,40 @@ pub(crate) enum Choice {
     Plain,
 }
 
-/// The server: entries from the least to the most recently used one, the blocks of tables and of chains, the tasks, and the events in words since the last
-/// look.
+/// The server: which tables are missing, entries from the least to the most recently used one, the blocks of tables and of chains, the tasks, and the events
+/// in words since the last look.
 #[derive(Drop)]
 pub(crate) struct Plain<'a> {
     alloc: Global,
     queries: &'a [Query<'a>],
     unit: u32,
+    limit: u32,
     blocks: Blocks,
+    missing: Vec<u32>,
     entries: Vec<PlainEntry>,
-    tables: Vec<Owned>,
-    chains: Vec<Owned>,
+    tables: Vec<PlainTable>,
+    chains: Vec<Part>,
     tasks: Vec<PlainTask>,
     counts: Counts,
     lines: String,
 }
 
 impl<'a> Plain<'a> {
-    /// A server with a region of so many words, whose chains grow by so many, and nothing in it.
+    /// A server with a region of so many words, whose chains grow by so many, which keeps no reply of more bytes than the limit, and nothing in it.
     pub(crate) fn new(
         alloc: Global,
         queries: &'a [Query<'a>],
         words: u32,
         unit: u32,
+        limit: u32,
     ) -> Result<Plain<'a>, AllocError> {
         Ok(Plain {
             alloc,
             queries,
             unit,
+            limit,
             blocks: Blocks::new(alloc, words)?,
+            missing: Vec::new(alloc),
             entries: Vec::new(alloc),
             tables: Vec::new(alloc),
             chains: Vec::new(alloc),
@@ -140,6 +152,11 @@ impl<'a> Plain<'a> {
         }
     }
 
+    /// Whether a table was dropped and not made again.
+    pub(crate) fn is_missing(&self, table: u32) -> bool {
+        self.missing.as_slice().contains(&table)
+    }
+
     fn is_used(&self, serial: u64) -> bool {
         self.tasks
             .as_slice()
@@ -162,8 +179,7 @@ impl<'a> Plain<'a> {
         let mut left = Vec::new(self.alloc);
         let mut gone = Vec::new(self.alloc);
         for table in self.tables.as_slice() {
-            let number = table.owner as u32;
-            if kept.contains(&number) || self.is_named(number) {
+            if kept.contains(&table.number) || self.is_named(table.number) {
                 left.push(*table)?;
             } else {
                 gone.push(table.block)?;
@@ -181,7 +197,7 @@ impl<'a> Plain<'a> {
         let mut left = Vec::new(self.alloc);
         let mut gone = Vec::new(self.alloc);
         for part in self.chains.as_slice() {
-            if self.entry(part.owner).is_some() || self.is_used(part.owner) {
+            if self.entry(part.serial).is_some() || self.is_used(part.serial) {
                 left.push(*part)?;
             } else {
                 gone.push(part.block)?;
@@ -243,7 +259,7 @@ impl<'a> Plain<'a> {
         self.tables
             .as_slice()
             .iter()
-            .any(|owned| owned.owner == u64::from(table))
+            .any(|owned| owned.number == table)
     }
 
     /// Takes the blocks of a start: the first of its chain, and its text's. Where one can't be had, nothing but the need, and the largest free block then.
@@ -254,8 +270,8 @@ impl<'a> Plain<'a> {
         for table in query.tables {
             if !self.has_table(*table) {
                 match self.allocate(64, query.tables)? {
-                    Some(block) => self.tables.push(Owned {
-                        owner: u64::from(*table),
+                    Some(block) => self.tables.push(PlainTable {
+                        number: *table,
                         block,
                     })?,
                     None => return Ok(Err((64, self.blocks.largest()))),
@@ -295,8 +311,26 @@ impl<'a> Plain<'a> {
                 let line = format!(in self.alloc; "rival {}", entry.serial)?;
                 self.run_plain(&line)
             }
+            None if self.lacks_table(query) => self.refuse(),
             None => self.start(seat, query),
         }
+    }
+
+    /// Whether a table of a SELECT is missing.
+    fn lacks_table(&self, query: usize) -> bool {
+        for table in self.tables_of(query) {
+            if self.is_missing(*table) {
+                return true;
+            }
+        }
+        false
+    }
+
+    /// A SELECT of a table that is missing.
+    fn refuse(&mut self) -> Result<Choice, AllocError> {
+        self.counts.com_select = self.counts.com_select.wrapping_add(1);
+        self.tell("error 1146")?;
+        Ok(Choice::Plain)
     }
 
     fn run_plain(&mut self, line: &str) -> Result<Choice, AllocError> {
@@ -331,8 +365,8 @@ impl<'a> Plain<'a> {
                     complete: false,
                     text,
                 })?;
-                self.chains.push(Owned {
-                    owner: serial,
+                self.chains.push(Part {
+                    serial,
                     block: first,
                 })?;
                 self.tasks.push(PlainTask { seat, serial })?;
@@ -352,7 +386,7 @@ impl<'a> Plain<'a> {
     /// Pins or unpins the blocks of a chain.
     fn pin(&mut self, serial: u64, pinned: bool) {
         for part in self.chains.as_slice() {
-            if part.owner == serial {
+            if part.serial == serial {
                 self.blocks.pin(part.block, pinned);
             }
         }
@@ -406,22 +440,76 @@ impl<'a> Plain<'a> {
         None
     }
 
-    /// The seat has filled its entry with so many bytes, which its one block holds.
-    pub(crate) fn done(&mut self, seat: u32, bytes: u32) -> Result<(), AllocError> {
+    /// The seat fills its entry with packets of so many bytes each, and ends the fill.
+    pub(crate) fn fill(&mut self, seat: u32, packets: &[u32]) -> Result<(), AllocError> {
         let Some(serial) = self.task(seat) else {
             return Ok(());
         };
         if self.entry(serial).is_none() {
             return self.rest(seat);
         }
-        self.rest(seat)?;
-        let mut last = 0;
-        for part in self.chains.as_slice() {
-            if part.owner == serial {
-                last = part.block;
+        let mut bytes = 0u32;
+        for packet in packets {
+            bytes = bytes.wrapping_add(*packet);
+            if bytes > self.limit {
+                let why = format!(in self.alloc; "toolarge {bytes} {}", self.limit)?;
+                return self.give_up(seat, serial, &why);
+            }
+            if !self.grow(serial, bytes.div_ceil(8))? {
+                let largest = self.blocks.largest();
+                let why = format!(in self.alloc; "noroom {} {largest}", self.unit)?;
+                return self.give_up(seat, serial, &why);
             }
         }
-        self.blocks.trim(last, bytes.div_ceil(8))?;
+        self.done(seat, serial, bytes.div_ceil(8))
+    }
+
+    /// Gives the chain of an entry blocks until they have so many words. Whether they could be had.
+    fn grow(&mut self, serial: u64, words: u32) -> Result<bool, AllocError> {
+        for _ in 0..10_000 {
+            if self.chain_words(serial) >= words {
+                return Ok(true);
+            }
+            let Some(block) = self.allocate(self.unit, &[])? else {
+                return Ok(false);
+            };
+            self.chains.push(Part { serial, block })?;
+            self.pin(serial, true);
+        }
+        Ok(false)
+    }
+
+    /// The words of the blocks of a chain.
+    fn chain_words(&self, serial: u64) -> u32 {
+        let mut words = 0u32;
+        for part in self.chains.as_slice() {
+            if part.serial == serial {
+                words = words.wrapping_add(self.blocks.words(part.block));
+            }
+        }
+        words
+    }
+
+    /// The last block of a chain.
+    fn last_part(&self, serial: u64) -> Option<u32> {
+        let mut last = None;
+        for part in self.chains.as_slice() {
+            if part.serial == serial {
+                last = Some(part.block);
+            }
+        }
+        last
+    }
+
+    /// The seat has filled its entry with so many words.
+    fn done(&mut self, seat: u32, serial: u64, words: u32) -> Result<(), AllocError> {
+        self.rest(seat)?;
+        if let Some(last) = self.last_part(serial) {
+            let before = self
+                .chain_words(serial)
+                .saturating_sub(self.blocks.words(last));
+            self.blocks.trim(last, words.saturating_sub(before))?;
+        }
         self.complete(serial)?;
         self.touch(serial)?;
         let line = format!(in self.alloc; "done {serial}")?;
@@ -441,18 +529,23 @@ impl<'a> Plain<'a> {
         Ok(())
     }
 
-    /// The seat gives its fill up.
+    /// The session of the seat ends before its fill.
     pub(crate) fn gone(&mut self, seat: u32) -> Result<(), AllocError> {
-        let Some(serial) = self.task(seat) else {
-            return Ok(());
-        };
+        match self.task(seat) {
+            Some(serial) => self.give_up(seat, serial, "ended"),
+            None => Ok(()),
+        }
+    }
+
+    /// The seat gives the fill of an entry up, for this reason. The entry may have left before.
+    fn give_up(&mut self, seat: u32, serial: u64, why: &str) -> Result<(), AllocError> {
         let there = self.entry(serial).is_some();
         if there {
             self.drop_entry(serial, &[])?;
         }
         self.rest(seat)?;
         if there {
-            let line = format!(in self.alloc; "gone {serial} ended")?;
+            let line = format!(in self.alloc; "gone {serial} {why}")?;
             self.tell(&line)?;
         }
         Ok(())
@@ -467,6 +560,24 @@ impl<'a> Plain<'a> {
             }
         }
         self.tell("commit")
+    }
+
+    /// A table is dropped.
+    pub(crate) fn drop_table(&mut self, table: u32) -> Result<(), AllocError> {
+        self.missing.push(table)?;
+        self.commit(table)
+    }
+
+    /// A table is made that was missing.
+    pub(crate) fn make_table(&mut self, table: u32) -> Result<(), AllocError> {
+        let mut left = Vec::new(self.alloc);
+        for number in self.missing.as_slice() {
+            if *number != table {
+                left.push(*number)?;
+            }
+        }
+        self.missing = left;
+        self.commit(table)
     }
 
     fn first_on(&self, table: u32) -> Option<u64> {

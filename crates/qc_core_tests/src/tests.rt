@@ -343,30 +343,98 @@ fn each_move_tells_what_it_should(rt: HostRuntime) -> Result<(), Fail> {
     Ok(())
 }
 
-/// Regions of so many bytes, whose chains grow by so many, and how many turns are taken there.
-const REGIONS: &[(u32, u32, u32)] = &[
-    (1024, 512, 500),
-    (2048, 512, 1000),
-    (3072, 512, 1000),
-    (4096, 1024, 1000),
-    (8192, 512, 1000),
-    (8192, 1024, 1000),
-    (16_384, 4096, 1000),
-    (16_384, 512, 1000),
+/// The packets have 5, 33, 9, 6 and 9 bytes. The fourth passes the limit, and the fifth isn't put.
+const TOO_LARGE: (&[(u32, Move<'static>)], &[&str]) = (
+    &[(2, Ask("SELECT id FROM t")), (2, Take(Status)), (2, Count)],
+    &[
+        "start 1, gone 1 toolarge 53 50, put 4: TooLarge(53)",
+        "status 1 1 131072",
+        "1 0 1 0 0 0",
+    ],
+);
+
+#[test]
+fn the_packet_that_passes_the_limit_ends_its_fill(rt: HostRuntime) -> Result<(), Fail> {
+    let options = Options {
+        size: 1_048_576,
+        limit: 50,
+        unit: 4096,
+        kind: 1,
+    };
+    let (moves, wanted) = TOO_LARGE;
+    let mut all = Vec::new(rt.alloc());
+    all.extend_from_slice(&BASE)?;
+    all.extend_from_slice(moves)?;
+    let told = play_moves(&rt, rt.alloc(), options, all.as_slice()).map_err(|_| "stopped")?;
+    assert!(rt; told.len() == wanted.len() + 4);
+    for (line, wanted) in told.as_slice()[4..].iter().zip(wanted.iter()) {
+        assert!(rt; line.as_str() == *wanted, "{line} for {wanted}");
+    }
+    Ok(())
+}
+
+/// 91 rows: the packets have 5, 33, 9, 6, 90 times 7, and 9 bytes, 692 in all. Two blocks of 64 words hold these. With those of the table and of the text
+/// four blocks are used, 256 of the 1,024 words.
+const LONG: (&[(u32, Move<'static>)], &[&str]) = (
+    &[
+        (2, Ask("SELECT id FROM t")),
+        (2, Take(Status)),
+        (2, Ask("SELECT id FROM t")),
+        (2, End),
+        (2, Count),
+    ],
+    &[
+        "start 1, done 1",
+        "status 5 1 768",
+        "hit 1",
+        "whole",
+        "1 1 1 0 0 1",
+    ],
+);
+
+#[test]
+fn a_reply_of_two_blocks_is_kept(rt: HostRuntime) -> Result<(), Fail> {
+    let (moves, wanted) = LONG;
+    let mut all = Vec::new(rt.alloc());
+    all.extend_from_slice(&BASE)?;
+    for key in 10..100 {
+        all.push((2, Take(Make(Row(b"t", key)))))?;
+    }
+    all.extend_from_slice(moves)?;
+    let told = play_moves(&rt, rt.alloc(), sized(8192), all.as_slice()).map_err(|_| "stopped")?;
+    assert!(rt; told.len() == wanted.len() + 94);
+    for (line, wanted) in told.as_slice()[94..].iter().zip(wanted.iter()) {
+        assert!(rt; line.as_str() == *wanted, "{line} for {wanted}");
+    }
+    Ok(())
+}
+
+/// Regions of so many bytes, whose chains grow by so many, with this limit of a reply, and how many turns are taken there.
+const REGIONS: &[(u32, u32, u32, u32)] = &[
+    (1024, 512, 1_048_576, 500),
+    (2048, 512, 1_048_576, 1000),
+    (3072, 512, 1_048_576, 1000),
+    (4096, 1024, 1_048_576, 1000),
+    (8192, 512, 1_048_576, 1000),
+    (8192, 512, 300, 500),
+    (8192, 1024, 1_048_576, 1000),
+    (16_384, 4096, 1_048_576, 1000),
+    (16_384, 512, 1_048_576, 1000),
+    (16_384, 512, 60, 500),
 ];
 
 #[test]
 fn random_turns_agree_with_the_plain_server(rt: HostRuntime) -> Result<(), Fail> {
-    for (size, unit, turns) in REGIONS {
+    for (size, unit, limit, turns) in REGIONS {
         let options = Options {
             size: *size,
-            limit: 1_048_576,
+            limit: *limit,
             unit: *unit,
             kind: 1,
         };
-        let seed = u64::from(*size) + u64::from(*unit);
+        let seed = u64::from(*size) + u64::from(*unit) + u64::from(*limit);
         let found = play_random(&rt, rt.alloc(), options, seed, *turns).map_err(|_| "stopped")?;
-        assert!(rt; found.is_empty(), "{size} {unit}: {found}");
+        assert!(rt; found.is_empty(), "{size} {unit} {limit}: {found}");
     }
     Ok(())
 }

@@ -6,17 +6,17 @@ ghost use Rattle.qc_turn.specs.Words.{last_seat};
 ghost use Rattle.qc_turn.specs.declared.task.Task.TheVariants as task;
 ghost use Rattle.qc_core_tests.specs.Seats.{IsFirst, IsResting, IsSame, MeetsAll};
 
-use crate::calls::{Step, end_with, give_back, hand_back, make};
+use crate::calls::{Step, end_with, give_back, hand_back, make, take_turn};
 use crate::changes::Change;
 use crate::fills::{give_up, settle, stop_streaming, streams};
 use crate::hall::open;
 use crate::lines::lines_from;
-use crate::plain::{Choice, Counts, Plain, Query};
+use crate::moves::end_select;
+use crate::plain::{Counts, Plain, Query};
 use crate::selects::{Outcome, select};
 use crate::stop::Stop;
 use crate::whole::fill_whole;
 use qc_core::Server;
-use qc_flow::Fill;
 use qc_model::events::Counters;
 use qc_turn::{Held, Seat, Task, Turn};
 use qc_types::{Options, Steps, Text};
@@ -89,8 +89,8 @@ fn text_of(query: usize) -> &'static [u8] {
     }
 }
 
-fn table_of(table: usize) -> &'static [u8] {
-    match TABLES.get(table) {
+fn table_of(table: u32) -> &'static [u8] {
+    match TABLES.get(table as usize) {
         Some(name) => *name,
         None => b"",
     }
@@ -188,7 +188,7 @@ fn compared<R: Wait>(
     Ok((told?, found?))
 }
 
-/// A SELECT. Its reply is kept.
+/// A SELECT, whose fill stays open where it begins an entry. Its reply is kept.
 fn asked<R: Wait, L: Ledger>(
     rt: &R,
     alloc: Global,
@@ -206,50 +206,104 @@ fn asked<R: Wait, L: Ledger>(
     let first = held.value().journal().len();
     let done = select(&mut held, alloc, text_of(query), steps);
     let told = lines_from(alloc, held.value().journal(), first);
-    let Ok(Outcome { task, reply }) = done else {
-        give_back(held);
-        return Err(Stop::Text);
-    };
     let found = differences(&mut held, alloc, plain);
-    *kept = reply;
-    end_with(held, task);
-    Ok(judged(alloc, told?, found?, plain)?)
+    match done {
+        Ok(Outcome { task, reply }) => {
+            *kept = reply;
+            end_with(held, task);
+            Ok(judged(alloc, told?, found?, plain)?)
+        }
+        Err(stop) => {
+            give_back(held);
+            Err(stop)
+        }
+    }
 }
 
-/// A SELECT. Where it begins an entry, that is filled. Its reply is kept.
+/// A SELECT. Where it begins an entry, another seat may act before that is filled. Its reply is kept.
 fn asked_whole<R: Wait, L: Ledger>(
     rt: &R,
     alloc: Global,
     turn: &Turn<Server>,
     seat: &mut Seat<Server>,
+    other: &mut Seat<Server>,
     plain: &mut Plain<'_>,
+    dice: &mut Dice,
     query: usize,
     kept: &mut Text,
     steps: &mut Steps<L>,
 ) -> Result<String, Stop>
-    requires { IsResting turn.now seat.old }
-    ensures { IsSeatOf turn.now seat.new × IsSame seat.old seat.new }
+    requires { IsResting turn.now seat.old × IsSeatOf turn.now other.old }
+    ensures seat { IsSeatOf turn.now seat.new × IsSame seat.old seat.new }
+    ensures other { IsSeatOf turn.now other.new × IsSame other.old other.new }
 {
     let mut held = turn.take(rt, seat);
-    let options = held.value().options();
     let first = held.value().journal().len();
     let done = select(&mut held, alloc, text_of(query), steps);
     let told = lines_from(alloc, held.value().journal(), first);
-    let Ok(Outcome { task, reply }) = done else {
-        give_back(held);
-        return Err(Stop::Text);
-    };
     let found = differences(&mut held, alloc, plain);
-    end_with(held, task);
-    let Task::Fill(serial) = task else {
+    let (fill, reply) = end_select(held, done)?;
+    let Some(fill) = fill else {
         *kept = reply;
         return Ok(judged(alloc, told?, found?, plain)?);
     };
-    fill_whole(rt, turn, seat, Fill::of(serial, &options), reply.bytes())?;
-    plain.done(seat.number(), reply.bytes().len().min(1_000_000_000) as u32)?;
+    step_beside(rt, alloc, turn, other, plain, dice)?;
+    let _filled = fill_whole(rt, turn, seat, fill, reply.bytes());
+    plain.fill(
+        seat.number(),
+        packet_sizes(alloc, reply.bytes())?.as_slice(),
+    )?;
     *kept = reply;
     let (told, found) = compared(rt, alloc, turn, seat, plain, first)?;
     Ok(judged(alloc, told, found, plain)?)
+}
+
+/// What another seat does, if it rests, between the start of an entry and its fill.
+fn step_beside<R: Wait>(
+    rt: &R,
+    alloc: Global,
+    turn: &Turn<Server>,
+    other: &mut Seat<Server>,
+    plain: &mut Plain<'_>,
+    dice: &mut Dice,
+) -> Result<(), Stop>
+    requires { IsSeatOf turn.now other.old }
+    ensures { IsSeatOf turn.now other.new × IsSame other.old other.new }
+{
+    if dice.below(4) != 0 {
+        return Ok(());
+    }
+    let Task::Rest = other.task() else {
+        return Ok(());
+    };
+    let step = other_step(plain, dice)?;
+    take_turn(rt, alloc, turn, other, step)?;
+    Ok(())
+}
+
+/// The bytes of each packet of a reply.
+fn packet_sizes(alloc: Global, reply: &[u8]) -> Result<Vec<u32>, AllocError> {
+    let mut sizes = Vec::new(alloc);
+    let mut rest = reply;
+    for _ in 0..reply.len() {
+        if rest.is_empty() {
+            break;
+        }
+        let size = packet_size(rest);
+        sizes.push(size)?;
+        rest = &rest[rest.len().min(size as usize)..];
+    }
+    Ok(sizes)
+}
+
+/// The bytes of a packet, by the three in front that give its payload's.
+fn packet_size(packet: &[u8]) -> u32 {
+    match packet {
+        [low, middle, high, ..] => {
+            4 + u32::from(*low) + 256 * u32::from(*middle) + 65_536 * u32::from(*high)
+        }
+        _ => 4,
+    }
 }
 
 /// A SELECT, which is filled at once or not.
@@ -258,20 +312,24 @@ fn select_step<R: Wait, L: Ledger>(
     alloc: Global,
     turn: &Turn<Server>,
     seat: &mut Seat<Server>,
+    other: &mut Seat<Server>,
     plain: &mut Plain<'_>,
-    query: usize,
-    fill: bool,
+    dice: &mut Dice,
     kept: &mut Text,
     steps: &mut Steps<L>,
 ) -> Result<String, Stop>
-    requires { IsResting turn.now seat.old }
-    ensures { IsSeatOf turn.now seat.new × IsSame seat.old seat.new }
+    requires { IsResting turn.now seat.old × IsSeatOf turn.now other.old }
+    ensures seat { IsSeatOf turn.now seat.new × IsSame seat.old seat.new }
+    ensures other { IsSeatOf turn.now other.new × IsSame other.old other.new }
 {
+    let query = dice.below(8) as usize;
     plain.select(seat.number(), query)?;
-    if fill {
-        asked_whole(rt, alloc, turn, seat, plain, query, kept, steps)
-    } else {
+    if dice.below(6) == 0 {
         asked(rt, alloc, turn, seat, plain, query, kept, steps)
+    } else {
+        asked_whole(
+            rt, alloc, turn, seat, other, plain, dice, query, kept, steps,
+        )
     }
 }
 
@@ -281,46 +339,67 @@ fn next_step<R: Wait, L: Ledger>(
     alloc: Global,
     turn: &Turn<Server>,
     seat: &mut Seat<Server>,
+    other: &mut Seat<Server>,
     plain: &mut Plain<'_>,
     dice: &mut Dice,
     kept: &mut Text,
     steps: &mut Steps<L>,
 ) -> Result<String, Stop>
-    requires { IsResting turn.now seat.old }
-    ensures { IsSeatOf turn.now seat.new × IsSame seat.old seat.new }
+    requires { IsResting turn.now seat.old × IsSeatOf turn.now other.old }
+    ensures seat { IsSeatOf turn.now seat.new × IsSame seat.old seat.new }
+    ensures other { IsSeatOf turn.now other.new × IsSame other.old other.new }
 {
-    let choice = dice.below(40);
-    if choice <= 25 {
-        let query = dice.below(8) as usize;
-        let fill = dice.below(6) != 0;
-        select_step(rt, alloc, turn, seat, plain, query, fill, kept, steps)
+    if dice.below(40) <= 25 {
+        select_step(rt, alloc, turn, seat, other, plain, dice, kept, steps)
     } else {
-        let step = other_step(plain, dice, choice)?;
+        let step = other_step(plain, dice)?;
         plain_step(rt, alloc, turn, seat, plain, step)
     }
 }
 
-/// The step that a number from 26 on stands for, as the plain server takes it.
-fn other_step(plain: &mut Plain<'_>, dice: &mut Dice, choice: u64) -> Result<Step<'static>, Stop> {
-    match choice {
-        26..=30 => {
-            let table = dice.below(3).min(2);
-            plain.commit(table as u32)?;
-            let key = dice.below(25).min(24) as i64;
-            Ok(Step::Make(Change::Row(table_of(table as usize), key)))
-        }
-        31 => {
+/// A step that is no SELECT, as the plain server takes it.
+fn other_step(plain: &mut Plain<'_>, dice: &mut Dice) -> Result<Step<'static>, Stop> {
+    match dice.below(14) {
+        0..=4 => Ok(Step::Make(change(plain, dice)?)),
+        5 => {
             plain.reset()?;
             Ok(Step::Reset)
         }
-        32 | 33 => {
+        6 | 7 => {
             plain.flush()?;
             Ok(Step::Flush)
+        }
+        8 => {
+            let table = dice.below(2).min(1) as u32;
+            Ok(Step::Make(drop_or_make(plain, table)?))
         }
         _ => {
             plain.status()?;
             Ok(Step::Status)
         }
+    }
+}
+
+/// A row of a table, or the table where it is missing.
+fn change(plain: &mut Plain<'_>, dice: &mut Dice) -> Result<Change<'static>, AllocError> {
+    let table = dice.below(3).min(2) as u32;
+    if plain.is_missing(table) {
+        return drop_or_make(plain, table);
+    }
+    plain.commit(table)?;
+    let keys = if table == 2 { 80 } else { 12 };
+    let key = dice.below(keys).min(79) as i64;
+    Ok(Change::Row(table_of(table), key))
+}
+
+/// A table dropped, or made where it is missing.
+fn drop_or_make(plain: &mut Plain<'_>, table: u32) -> Result<Change<'static>, AllocError> {
+    if plain.is_missing(table) {
+        plain.make_table(table)?;
+        Ok(Change::Table(table_of(table)))
+    } else {
+        plain.drop_table(table)?;
+        Ok(Change::DropTable(table_of(table)))
     }
 }
 
@@ -361,22 +440,24 @@ fn fill_step<R: Wait>(
     Ok(judged(alloc, told, found, plain)?)
 }
 
-/// One turn of a seat.
+/// One turn of a seat, beside another one.
 fn one_turn<R: Wait, L: Ledger>(
     rt: &R,
     alloc: Global,
     turn: &Turn<Server>,
     seat: &mut Seat<Server>,
+    other: &mut Seat<Server>,
     plain: &mut Plain<'_>,
     dice: &mut Dice,
     kept: &mut Text,
     steps: &mut Steps<L>,
 ) -> Result<String, Stop>
-    requires { IsSeatOf turn.now seat.old }
-    ensures { IsSeatOf turn.now seat.new × IsSame seat.old seat.new }
+    requires { IsSeatOf turn.now seat.old × IsSeatOf turn.now other.old }
+    ensures seat { IsSeatOf turn.now seat.new × IsSame seat.old seat.new }
+    ensures other { IsSeatOf turn.now other.new × IsSame other.old other.new }
 {
     match seat.task() {
-        Task::Rest => next_step(rt, alloc, turn, seat, plain, dice, kept, steps),
+        Task::Rest => next_step(rt, alloc, turn, seat, other, plain, dice, kept, steps),
         Task::Stream(_) => {
             if dice.below(3) == 0 {
                 return Ok(String::new(alloc));
@@ -401,7 +482,7 @@ const BASE: &[Step<'static>] = &[
     Step::Make(Change::Row(b"t", 1)),
 ];
 
-/// Connects the first seat, and makes the database and its tables.
+/// Connects the first seat, and makes the database and its tables, of which the last one has so many rows that their packets need two of the smallest blocks.
 fn begin<R: Wait>(
     rt: &R,
     alloc: Global,
@@ -416,6 +497,12 @@ fn begin<R: Wait>(
     for step in BASE {
         plain.commit(99)?;
         let found = plain_step(rt, alloc, turn, seat, plain, *step)?;
+        all.push_str(&found)?;
+    }
+    for key in 0..70 {
+        plain.commit(2)?;
+        let row = Step::Make(Change::Row(b"v", key));
+        let found = plain_step(rt, alloc, turn, seat, plain, row)?;
         all.push_str(&found)?;
     }
     Ok(all)
@@ -474,18 +561,39 @@ fn next_turn<R: Wait, L: Ledger>(
     ensures third { IsSeatOf turn.now third.new × IsSame third.old third.new }
 {
     match dice.below(3) {
-        0 => one_turn(rt, alloc, turn, first, plain, dice, &mut kept.first, steps),
+        0 => one_turn(
+            rt,
+            alloc,
+            turn,
+            first,
+            second,
+            plain,
+            dice,
+            &mut kept.first,
+            steps,
+        ),
         1 => one_turn(
             rt,
             alloc,
             turn,
             second,
+            third,
             plain,
             dice,
             &mut kept.second,
             steps,
         ),
-        _ => one_turn(rt, alloc, turn, third, plain, dice, &mut kept.third, steps),
+        _ => one_turn(
+            rt,
+            alloc,
+            turn,
+            third,
+            first,
+            plain,
+            dice,
+            &mut kept.third,
+            steps,
+        ),
     }
 }
 
@@ -641,6 +749,7 @@ fn play_random_by<R: Wait, L: Ledger>(
         queries.as_slice(),
         options.size / 8,
         options.unit / 8,
+        options.limit,
     )?;
     let (turn, mut first) = open(alloc, options)?;
     let found = play_second(rt, alloc, &turn, &mut first, &mut plain, course, &mut steps);
