@@ -79,23 +79,32 @@ goes_same old new g = record { number = ap (λ (v : View Parts Event). v.number)
 
 -- ---- the first packet
 
--- the packet in front is cut off by its length
-pub cut_off : (bytes rest : List ℕ) (packets : List (List ℕ)) (n : ℕ) → 0 < length rest → (4 ≤ length rest → n ≡ 4 + length_at rest) → bytes ≡ take n rest → rest ≡ concat packets → AllByRecursion IsPacket packets → CutsOff bytes rest packets
-cut_off bytes rest [] n some is cut spells each = absurd (omega (arith, some, ap (λ (l : List ℕ). length l) spells))
-cut_off bytes rest (p ∷ ps) n some is cut spells each =
-    let one = each.0 in
-    let behind = concat ps in
-    let split : rest ≡ packet one.sequence one.payload ++ behind = spells ∙ ap (λ (l : List ℕ). l ++ behind) one.is in
+-- what stands in front of packets
+pub front_of : (p rest behind : List ℕ) → rest ≡ p ++ behind → IsPacket p → (length p ≡ 4 + length_at rest) × (length p ≤ length rest)
+front_of p rest behind spells one =
     let size = packet_length one.sequence one.payload in
-    let long : length p ≡ 4 + length one.payload = ap (λ (l : List ℕ). length l) one.is ∙ size in
-    let all = ap (λ (l : List ℕ). length l) spells ∙ length-append p behind in
-    let at : length_at rest ≡ length one.payload = ap length_at split ∙ front_length one.sequence one.payload behind one.few in
-    let whole : n ≡ length p = omega (arith, is (omega (arith, all, long)), at, long) in
-    let same : bytes ≡ p = cut ∙ ((λ i. take (whole i) (spells i)) ∙ take_at p behind) in
+    let is = ap (λ (l : List ℕ). length l) one.is in
+    let all = ap (λ (l : List ℕ). length l) spells in
+    let parts = length-append p behind in
+    let at : length_at rest ≡ length one.payload = ap length_at (spells ∙ ap (λ (l : List ℕ). l ++ behind) one.is) ∙ front_length one.sequence one.payload behind one.few in
+    (omega (arith, is, size, at), omega (arith, all, parts))
+
+-- a whole packet stands in front
+pub front_whole : (rest : List ℕ) (packets : List (List ℕ)) → 0 < length rest → rest ≡ concat packets → AllByRecursion IsPacket packets → 4 + length_at rest ≤ length rest
+front_whole rest [] some spells each = absurd (omega (arith, some, ap (λ (l : List ℕ). length l) spells))
+front_whole rest (p ∷ ps) some spells each = let f = front_of p rest (concat ps) spells each.0 in omega (arith, f.0, f.1)
+
+-- the packet in front is cut off by its length
+pub cut_off : (bytes rest : List ℕ) (packets : List (List ℕ)) → 0 < length rest → bytes ≡ take (4 + length_at rest) rest → rest ≡ concat packets → AllByRecursion IsPacket packets → CutsOff bytes rest packets
+cut_off bytes rest [] some cut spells each = absurd (omega (arith, some, ap (λ (l : List ℕ). length l) spells))
+cut_off bytes rest (p ∷ ps) some cut spells each =
+    let behind = concat ps in
+    let whole = sym (front_of p rest behind spells each.0).0 in
+    let same : bytes ≡ p = cut ∙ ((λ i. take (whole i) (spells i)) ∙ take_at p behind (length p) refl) in
     record {
       others = ps;
       first = ap (λ (b : List ℕ). b ∷ ps) (sym same);
-      behind = (λ i. drop (length (same i)) (spells i)) ∙ drop_at p behind;
+      behind = (λ i. drop (length (same i)) (spells i)) ∙ drop_at p behind (length p) refl;
     }
 
 -- ---- a fill begins

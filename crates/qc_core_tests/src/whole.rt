@@ -39,7 +39,7 @@ pub(crate) fn begin_fill(
     Fill::of(serial, options)
 }
 
-/// The first packet of what is left of an entry's answer.
+/// The first packet of what is left of an entry's answer, or all of it where no whole packet stands in front.
 fn next_packet(rest: &[u8]) -> &[u8]
     requires some { 0 < length rest.now }
     ensures cut { (packets : List (List ℕ)) → rest.now ≡ concat packets → AllByRecursion IsPacket packets → CutsOff result.now rest.now packets }
@@ -49,8 +49,14 @@ fn next_packet(rest: &[u8]) -> &[u8]
     if rest.len() < HEADER {
         return rest;
     }
-    let payload = usize::from(rest[0]) + 256 * usize::from(rest[1]) + 65_536 * usize::from(rest[2]);
-    &rest[..(HEADER + payload).min(rest.len())]
+    let end = HEADER
+        + usize::from(rest[0])
+        + 256 * usize::from(rest[1])
+        + 65_536 * usize::from(rest[2]);
+    if rest.len() < end {
+        return rest;
+    }
+    &rest[..end]
 }
 
 /// What became of an answer.
