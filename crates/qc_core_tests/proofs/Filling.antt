@@ -27,7 +27,8 @@ use Rattle.qc_flow.specs.declared.fills.FillStep.{FillStep}
 use Rattle.qc_flow.specs.declared.fills.FillStep.TheVariants as step
 use Rattle.qc_flow.proofs.Begins.{fills_begin}
 use Rattle.qc_core_tests.specs.Fillings.{IsLeft, CutsOff}
-use Rattle.qc_core_tests.specs.Seats.{Answers, HasRoom, IsPacket, KnowsFixed, MayEnd}
+use Rattle.qc_flow.specs.Seats.{GoesOn}
+use Rattle.qc_core_tests.specs.Seats.{Answers, HasRoom, IsPacket, IsSame, KnowsFixed, MayEnd}
 
 -- ---- the packet in front
 
@@ -67,25 +68,43 @@ whole_of serial v i = record {
   answered = ap (option_map concat) i.answered ∙ ap (λ l. Some l) (concat-append i.earlier i.later ∙ (ap (λ l. concat i.earlier ++ l) (sym i.spells) ∙ (append-nil (concat i.earlier) ∙ sym i.stored)));
 }
 
+-- nothing is left
+pub whole_left : (serial : ℕ) (rest : List ℕ) (v : View Parts Event) → length rest ≡ 0 → IsLeft serial rest v → IsWholeAnswer serial v
+whole_left serial [] v none i = whole_of serial v i
+whole_left serial (b ∷ bs) v none i = absurd (omega (arith, none))
+
+-- a seat whose fill went on or ended is the seat that it was
+pub goes_same : (old new : Seat Parts Event ghosts) → GoesOn (view old) (view new) → IsSame old new
+goes_same old new g = record { number = ap (λ (v : View Parts Event). v.number) g.same; registry = ap (λ (v : View Parts Event). v.registry) g.same }
+
 -- ---- the first packet
 
--- the packet in front is cut off by its length
-pub cut_off : (bytes rest : List ℕ) (packets : List (List ℕ)) (n : ℕ) → 0 < length rest → (4 ≤ length rest → n ≡ 4 + length_at rest) → bytes ≡ take n rest → rest ≡ concat packets → AllByRecursion IsPacket packets → CutsOff bytes rest packets
-cut_off bytes rest [] n some is cut spells each = absurd (omega (arith, some, ap (λ (l : List ℕ). length l) spells))
-cut_off bytes rest (p ∷ ps) n some is cut spells each =
-    let one = each.0 in
-    let behind = concat ps in
-    let split : rest ≡ packet one.sequence one.payload ++ behind = spells ∙ ap (λ (l : List ℕ). l ++ behind) one.is in
+-- what stands in front of packets
+pub front_of : (p rest behind : List ℕ) → rest ≡ p ++ behind → IsPacket p → (length p ≡ 4 + length_at rest) × (length p ≤ length rest)
+front_of p rest behind spells one =
     let size = packet_length one.sequence one.payload in
-    let long : length p ≡ 4 + length one.payload = ap (λ (l : List ℕ). length l) one.is ∙ size in
-    let all = ap (λ (l : List ℕ). length l) spells ∙ length-append p behind in
-    let at : length_at rest ≡ length one.payload = ap length_at split ∙ front_length one.sequence one.payload behind one.few in
-    let whole : n ≡ length p = omega (arith, is (omega (arith, all, long)), at, long) in
-    let same : bytes ≡ p = cut ∙ ((λ i. take (whole i) (spells i)) ∙ take_at p behind) in
+    let is = ap (λ (l : List ℕ). length l) one.is in
+    let all = ap (λ (l : List ℕ). length l) spells in
+    let parts = length-append p behind in
+    let at : length_at rest ≡ length one.payload = ap length_at (spells ∙ ap (λ (l : List ℕ). l ++ behind) one.is) ∙ front_length one.sequence one.payload behind one.few in
+    (omega (arith, is, size, at), omega (arith, all, parts))
+
+-- a whole packet stands in front
+pub front_whole : (rest : List ℕ) (packets : List (List ℕ)) → 0 < length rest → rest ≡ concat packets → AllByRecursion IsPacket packets → 4 + length_at rest ≤ length rest
+front_whole rest [] some spells each = absurd (omega (arith, some, ap (λ (l : List ℕ). length l) spells))
+front_whole rest (p ∷ ps) some spells each = let f = front_of p rest (concat ps) spells each.0 in omega (arith, f.0, f.1)
+
+-- the packet in front is cut off by its length
+pub cut_off : (bytes rest : List ℕ) (packets : List (List ℕ)) → 0 < length rest → bytes ≡ take (4 + length_at rest) rest → rest ≡ concat packets → AllByRecursion IsPacket packets → CutsOff bytes rest packets
+cut_off bytes rest [] some cut spells each = absurd (omega (arith, some, ap (λ (l : List ℕ). length l) spells))
+cut_off bytes rest (p ∷ ps) some cut spells each =
+    let behind = concat ps in
+    let whole = sym (front_of p rest behind spells each.0).0 in
+    let same : bytes ≡ p = cut ∙ ((λ i. take (whole i) (spells i)) ∙ take_at p behind (length p) refl) in
     record {
       others = ps;
       first = ap (λ (b : List ℕ). b ∷ ps) (sym same);
-      behind = (λ i. drop (length (same i)) (spells i)) ∙ drop_at p behind;
+      behind = (λ i. drop (length (same i)) (spells i)) ∙ drop_at p behind (length p) refl;
     }
 
 -- ---- a fill begins

@@ -15,9 +15,12 @@ use Rattle.qc_trx.specs.Endings.{IsOriginIn}
 use Rattle.qc_trx.specs.SnapshotStates.{SnapshotState}
 use Rattle.qc_turn.specs.Releases.{SpellsReleased}
 use Rattle.qc_turn.specs.Rules.{ContentRule}
-use Rattle.qc_turn.specs.Seats.{Held, holder, words, with_ranges, MayRelease}
+use Rattle.qc_turn.specs.Seats.{Held, holder, taken, words, with_ranges, with_value, MayRelease, SameHolder}
+use Rattle.qc_turn.specs.Steps.{Taken}
+use Rattle.qc_turn.specs.declared.view.View.{View}
+use Rattle.qc_turn.specs.declared.view.Holding.TheVariants.{Holds}
 use Rattle.qc_turn.specs.Tasks.{IsListed, listed_for, own, is_stream, task_in, blocks_in, released_task, released_blocks}
-use Rattle.qc_turn.specs.Views.{after_release, content_of, with_word_set, bytes_on}
+use Rattle.qc_turn.specs.Views.{after_release, base_of, content_of, with_holding, with_word_set, bytes_on}
 use Rattle.qc_turn.specs.declared.task.ListedTask.{ListedTask}
 use Rattle.qc_turn.specs.declared.task.Task.{Task}
 use Rattle.qc_turn.specs.declared.task.Task.TheVariants as task
@@ -46,7 +49,7 @@ use Rattle.qc_chain.specs.Chains.{Ranged}
 use Rattle.qc_select.specs.Selects.{MayAsk, Decided, Decides, how_of, selected_tasks}
 use Rattle.qc_select.specs.declared.selected.Selected.{Selected}
 use Rattle.qc_select.specs.declared.selected.Selected.TheVariants as selected
-use Rattle.qc_core_tests.specs.Seats.{IsIdle, IsPlain, IsSameHolder, MayAskNow, MayBegin, MayEnd}
+use Rattle.qc_core_tests.specs.Seats.{IsIdle, IsPlain, IsSameHolder, KeepsTaken, KnowsFixed, MayAskNow, MayBegin, MayEnd}
 use Rattle.qc_core_tests.specs.Selects.{task_after}
 
 -- a session with no transaction may ask
@@ -141,6 +144,35 @@ found_same h k found f = record {
   word_set = ap (λ u. u.word_set) f.holder;
   task = ap (λ u. u.task) f.holder;
 }
+
+pub found_keeps : (h k : Held Parts Event ghosts) (found : List FoundWord) → Finds h (with_ranges k h.ranges) found → KeepsTaken h k
+found_keeps h k found f = record {
+  fixed = ap (λ u. u.fixed) f.holder;
+  taken = ap (λ u. base_of k.value u.holding) f.holder;
+}
+
+-- ---- what a seat took
+
+-- what is read through a borrow stays
+pub value_back : (h : Held Parts Event ghosts) (x : Parts) → x ≡ h.value → with_value h x ≡ h
+value_back h x e = λ i. with_value h (e i)
+
+pub ranges_back : (h : Held Parts Event ghosts) (x : Parts) (r : Ranged) → x ≡ h.value → r ≡ h.ranges → with_ranges (with_value h x) r ≡ h
+ranges_back h x r e f = λ i. with_ranges (with_value h (e i)) (f i)
+
+pub taken_kept : (h k m : Held Parts Event ghosts) → SameHolder h k → holder m ≡ holder k → KeepsTaken h m
+taken_kept h k m s e = record {
+  fixed = ap (λ u. u.fixed) (e ∙ s.holder);
+  taken = ap (λ u. base_of m.value u.holding) (e ∙ s.holder);
+}
+
+pub took_fixed : (h : Held Parts Event ghosts) (v : View Parts Event) → Taken ghosts v h.value (words h) → holder h ≡ with_holding v (Holds h.value (words h)) → KnowsFixed h
+took_fixed h v t holds =
+    let same : taken h ≡ h.value = ap (λ u. base_of h.value u.holding) holds in
+    ap (λ u. u.fixed) holds ∙ (t.fixed ∙ ap (λ x. ghosts.fixed x) (sym same))
+
+pub knows_on : (h k : Held Parts Event ghosts) → KnowsFixed h → KeepsTaken h k → KnowsFixed k
+knows_on h k f e = e.fixed ∙ (f ∙ ap (λ x. ghosts.fixed x) (sym e.taken))
 
 -- ---- a seat that did nothing under the turn
 

@@ -18,6 +18,7 @@ use qc_types::NoMemory;
 use std::alloc::Global;
 
 /// Makes room for the next event of the seat's session, and gives its number.
+#[tactic(auto, using(crate::proofs::Selecting::taken_kept))]
 pub(crate) fn prepare(held: &mut Held<'_, Server>) -> Result<Who, Stop>
     requires { IsIdle held.old }
     ensures rest { MayRest held.new × IsSameHolder held.old held.new }

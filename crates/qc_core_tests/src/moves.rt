@@ -72,6 +72,7 @@ fn begin_told<R: Wait, L: Ledger>(
 }
 
 /// A SELECT. Where it begins an entry, that is filled.
+#[tactic(auto, using(crate::proofs::Selecting::took_fixed, crate::proofs::Selecting::knows_on))]
 pub(crate) fn ask_told<R: Wait, L: Ledger>(
     rt: &R,
     alloc: Global,
@@ -166,7 +167,7 @@ fn rest_told<R: Wait>(
 }
 
 /// The counters in words: Com_select, hits, inserts, not cached, prunes, and entries.
-#[tactic(auto, using(crate::proofs::Selecting::somewhere_sound))]
+#[tactic(auto, using(crate::proofs::Selecting::somewhere_sound, crate::proofs::Selecting::value_back))]
 fn counters_told(held: &mut Held<'_, Server>, alloc: Global) -> Result<String, AllocError>
     requires { MayRelease held.old }
     ensures { held.new ≡ held.old }

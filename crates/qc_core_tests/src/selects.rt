@@ -71,6 +71,7 @@ fn read(alloc: Global, state: &SessionState, text: &[u8]) -> Result<Question, St
 }
 
 /// Whether the seat's ranges have room for each chain.
+#[tactic(auto, using(crate::proofs::Selecting::ranges_back))]
 pub(crate) fn has_room(held: &mut Held<'_, Server>) -> bool
     ensures room { result ≡ true → HasRoom held.old }
     ensures same { held.new ≡ held.old }
@@ -80,7 +81,7 @@ pub(crate) fn has_room(held: &mut Held<'_, Server>) -> bool
 }
 
 /// What a SELECT answers now.
-#[tactic(auto, using(crate::proofs::Selecting::held_bounded))]
+#[tactic(auto, using(crate::proofs::Selecting::held_bounded, crate::proofs::Selecting::value_back))]
 fn answer<L: Ledger>(
     held: &mut Held<'_, Server>,
     alloc: Global,
@@ -125,8 +126,32 @@ fn task_of(selected: &Selected) -> Task
     }
 }
 
+/// Decides a SELECT by its key. The task that the seat has then.
+#[tactic(auto, using(crate::proofs::Selecting::may_ask, crate::proofs::Selecting::taken_kept))]
+fn decide_key(
+    held: &mut Held<'_, Server>,
+    alloc: Global,
+    who: Who,
+    key: Text,
+    select: &Select,
+    asked: Asked,
+    state: &SessionState,
+) -> Result<Task, NoMemory>
+    requires may { MayAskNow who held.old }
+    requires text { (text : List ℕ) × IsOfText state.now.state key select.now asked text × (length text < 2 ^ 32) }
+    requires short { is_short_select select.now ≡ true }
+    requires plain { IsPlain state.now }
+    ensures stands { MayRelease held.new }
+    ensures same { IsSameHolder held.old held.new × KeepsTaken held.old held.new }
+    ensures ok { IfOk result (λ t. MayEnd t held.new) }
+    ensures answers { IfOk result (λ t. AnswersFill t (answer_on state.now.state select.now held.old.value.database) held.new.value.journal.events) }
+    ensures err { OnErr result (MayRest held.new) }
+{
+    let selected = run_select(held, alloc, who, key, select, asked, state)?;
+    Ok(task_of(&selected))
+}
+
 /// Decides a SELECT. The task that the seat has then.
-#[tactic(auto, using(crate::proofs::Selecting::may_ask))]
 fn decide(
     held: &mut Held<'_, Server>,
     alloc: Global,
@@ -145,8 +170,7 @@ fn decide(
     ensures err { OnErr result (MayRest held.new) }
 {
     let Question { key, select, asked } = question;
-    let selected = run_select(held, alloc, who, key, &select, asked, state)?;
-    Ok(task_of(&selected))
+    decide_key(held, alloc, who, key, &select, asked, state)
 }
 
 /// A SELECT. What came of it.

@@ -18,6 +18,7 @@ use std::sync::Wait;
 const HEADER: usize = 4;
 
 /// Gives the turn back with the fill that a SELECT began on the server with these options. Nothing of the answer is stored yet.
+#[tactic(auto, using(crate::proofs::Selecting::ends_content, crate::proofs::Filling::fill_begun))]
 pub(crate) fn begin_fill(
     held: Held<'_, Server>,
     serial: u64,
@@ -38,7 +39,7 @@ pub(crate) fn begin_fill(
     Fill::of(serial, options)
 }
 
-/// The first packet of what is left of an entry's answer.
+/// The first packet of what is left of an entry's answer, or all of it where no whole packet stands in front.
 fn next_packet(rest: &[u8]) -> &[u8]
     requires some { 0 < length rest.now }
     ensures cut { (packets : List (List ℕ)) → rest.now ≡ concat packets → AllByRecursion IsPacket packets → CutsOff result.now rest.now packets }
@@ -48,8 +49,14 @@ fn next_packet(rest: &[u8]) -> &[u8]
     if rest.len() < HEADER {
         return rest;
     }
-    let payload = usize::from(rest[0]) + 256 * usize::from(rest[1]) + 65_536 * usize::from(rest[2]);
-    &rest[..(HEADER + payload).min(rest.len())]
+    let end = HEADER
+        + usize::from(rest[0])
+        + 256 * usize::from(rest[1])
+        + 65_536 * usize::from(rest[2]);
+    if rest.len() < end {
+        return rest;
+    }
+    &rest[..end]
 }
 
 /// What became of an answer.
@@ -80,10 +87,9 @@ pub(crate) fn fill_whole<R: Wait>(
     while !rest.is_empty() {
         let packet = next_packet(rest);
         packets = packets.saturating_add(1);
-        let last = fill.put(rt, turn, seat, packet);
-        match last {
+        match fill.put(rt, turn, seat, packet) {
             FillStep::More => {}
-            _ => return Filled { packets, last },
+            last => return Filled { packets, last },
         }
         rest = &rest[packet.len()..];
     }

@@ -1,0 +1,41 @@
+use Rattle.std.proofs.Common.{length, sym, subst, ap, ◌∙◌}
+use Rattle.qc_model.specs.declared.events.Event.{Event}
+use Rattle.qc_turn.specs.Seats.{view}
+use Rattle.qc_turn.specs.declared.view.View.{View}
+use Rattle.qc_core.specs.declared.parts.Parts.{Parts}
+use Rattle.qc_core_tests.specs.Fillings.{IsLeft}
+use Rattle.qc_core_tests.proofs.Filling.{goes_same, left_behind, next_of, put_ended, whole_left}
+use Rattle.qc_core_tests.proofs.Meetings.{same_again}
+use Rattle.qc_core_tests.proofs.whole.fill_whole.Goals as goal
+
+pub put-requires-clause-next : goal.put-requires-clause-next
+put-requires-clause-next g c =
+    let l = c.loop-rest in
+    let i = l.invariant in
+    next_of l.fill.serial l.rest c.next_packet-packet.result (view l.seat) i.left (c.next_packet-packet.ensures.cut i.left.later i.left.spells i.left.cut)
+
+pub loop-rest-preserved : goal.loop-rest-preserved
+loop-rest-preserved g c =
+    let l = c.loop-rest in
+    let i = l.invariant in
+    let p = c.put.new in
+    let e = c.in-More.ensures in
+    let s = e.step in
+    let left = left_behind l.fill.serial l.rest c.next_packet-packet.result (view l.seat) (view p.seat) i.left (c.next_packet-packet.ensures.cut i.left.later i.left.spells i.left.cut) c.put.ensures.goes_on.seen s.content in
+    record {
+      seated = c.put.ensures.seated.0;
+      fills = s.fills;
+      left = subst (λ n. IsLeft n _ (view p.seat)) (sym s.same.0) left;
+      same = same_again c.args.seat.now l.seat p.seat i.same (goes_same l.seat p.seat c.put.ensures.goes_on);
+    }
+
+pub end-requires-clause-whole : goal.end-requires-clause-whole
+end-requires-clause-whole g c =
+    let l = c.loop-rest in
+    whole_left l.fill.serial l.rest (view l.seat) c.loop-rest-test.false l.invariant.left
+
+pub returns : goal.returns
+returns g c =
+    let l = c.loop-rest in
+    let e = c.end.ensures in
+    (record { seated = e.seated.0; task = e.ended.rests.task }, same_again c.args.seat.now l.seat c.end.new.seat l.invariant.same (goes_same l.seat c.end.new.seat e.goes_on))
