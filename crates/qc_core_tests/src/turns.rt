@@ -101,7 +101,7 @@ fn table_of(table: u32) -> &'static [u8] {
 }
 
 /// Where the server isn't the plain one: its counters, or one of the last entries.
-#[tactic(auto, using(crate::proofs::Selecting::somewhere_sound))]
+#[tactic(auto, using(crate::proofs::Selecting::somewhere_sound, crate::proofs::Selecting::value_back))]
 fn differences(
     held: &mut Held<'_, Server>,
     alloc: Global,
@@ -153,6 +153,7 @@ fn judged(
 }
 
 /// Where the events behind those that were compared before, the counters or the last entries aren't those of the plain server.
+#[tactic(auto, using(crate::proofs::Selecting::value_back))]
 fn compare(
     held: &mut Held<'_, Server>,
     alloc: Global,
@@ -254,6 +255,7 @@ fn asked<R: Wait, L: Ledger>(
 }
 
 /// A SELECT. Where it begins an entry, another seat may act before that is filled. Its reply is kept.
+#[tactic(auto, using(crate::proofs::Selecting::took_fixed, crate::proofs::Selecting::knows_on))]
 fn asked_whole<R: Wait, L: Ledger>(
     rt: &R,
     alloc: Global,
