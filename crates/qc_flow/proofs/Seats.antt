@@ -39,6 +39,7 @@ module _ (v : View Parts Event) (b : Parts) (ws : List ℕ) (taken : Taken ghost
       record {
         seen = starts_trans x.journal.events b.journal.events v.seen (o.later, o.events) taken.seen;
         same = λ i. record v { seen = new.seen; events = events i; connected = connected i; task = new.task; blocks = new.blocks; content = new.content; holding = sym free i; word_set = sym unset i; found = sym taken.none_found i };
+        told = λ h. refl;
       }
 
   pub released_on : (w : View Parts Event) (x : Parts) (us : List ℕ) → settled w ≡ settled v → Onward b x → GoesOn v (after_release ghosts (with_word_set w false) x us)

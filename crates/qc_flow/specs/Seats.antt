@@ -5,13 +5,17 @@ use Rattle.qc_model.specs.Agrees.{is_ended}
 use Rattle.qc_model.specs.Journal.{Journal}
 use Rattle.qc_turn.specs.declared.task.Task.TheVariants as task
 use Rattle.qc_turn.specs.declared.view.View.{View}
+use Rattle.qc_turn.specs.Views.{of_seat}
 use Rattle.qc_turn.specs.Words.{StartsWith}
+use Rattle.qc_core.specs.contracts.server.ServerKept.TheImpl.{ghosts}
 use Rattle.qc_core.specs.declared.parts.Parts.{Parts}
 
--- The seat has seen more, and may have another task. All else of it stays: it is connected as before, and its session has the same events.
+-- The seat has seen more, and may have another task. All else of it stays: it is connected as before, and its session has the same events. Where it knew
+-- those of its events that are in what it had seen, it knows those that are in what it has seen now.
 pub record GoesOn (old new : View Parts Event) : Type 0 where
   pub seen : StartsWith new.seen old.seen
   pub same : new ≡ record old { seen = new.seen; task = new.task; blocks = new.blocks; content = new.content }
+  pub told : old.events ≡ of_seat ghosts old.number old.seen → new.events ≡ of_seat ghosts new.number new.seen
 
 -- the seat has no task
 pub record IsAtRest (v : View Parts Event) : Type 0 where
