@@ -1,0 +1,13 @@
+pub mod Shorts
+pub mod Smalls
+pub mod Conflicts
+pub mod Fitting
+pub mod Sounds
+pub mod States
+pub mod Endings
+pub mod Choices
+pub mod Words
+pub mod Switches
+pub mod Keeping
+pub mod TableChanges
+pub mod Looking

@@ -1,0 +1,5 @@
+pub mod Sound
+pub mod Ends
+pub mod Statements
+pub mod Forms
+pub mod Selects
