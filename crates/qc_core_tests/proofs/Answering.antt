@@ -4,14 +4,15 @@ use Rattle.std.specs.Prelude.{◌&&◌, not, Option, Some, None, Result, Ok, Err
 use Rattle.std.specs.List.{list_all, list_any, concat, AllByRecursion}
 use Rattle.std.proofs.lemmas.Bool.{and_from}
 use Rattle.qc_types.specs.declared.names.TableName.{TableName}
+use Rattle.qc_types.specs.declared.names.Why.{Why}
 use Rattle.qc_types.specs.declared.options.Options.{Options}
 use Rattle.qc_types.specs.declared.sql_error.SqlError.{SqlError}
 use Rattle.qc_sql.specs.declared.session.Asked.{Asked}
 use Rattle.qc_sql.specs.declared.statements.Select.{Select}
-use Rattle.qc_sql.specs.Database.{Database, touches}
+use Rattle.qc_sql.specs.Database.{Database}
 use Rattle.qc_sql.specs.Packets.{most_payload, numbered, packet_list, packets, payloads}
 use Rattle.qc_sql.specs.Rows.{Rows, rows}
-use Rattle.qc_sql.specs.Rules.{Why, select_tables, why_not}
+use Rattle.qc_sql.specs.Rules.{select_tables, why_not}
 use Rattle.qc_eval.specs.Plans.{PlanView}
 use Rattle.qc_laws.specs.history.Seen.{IsPlace, is_current}
 use Rattle.qc_laws.specs.sizes.Names.{is_short_select}
@@ -24,9 +25,8 @@ use Rattle.qc_model.specs.declared.events.Event.TheVariants as event
 use Rattle.qc_model.specs.declared.events.How.TheVariants as how
 use Rattle.qc_model.specs.declared.events.Reason.TheVariants as reason
 use Rattle.qc_model.specs.declared.events.Who.{Who}
-use Rattle.qc_model.specs.Choice.{changed_since}
-use Rattle.qc_model.specs.Journal.{Journal, last_change, present}
-use Rattle.qc_model.specs.Session.{State, Transaction, answer_packets, base, flags_of, key_of_text, of_transaction, rows_reply, seen_in, select_reply, snapshot_of, status_of}
+use Rattle.qc_model.specs.Journal.{Journal, present}
+use Rattle.qc_model.specs.Session.{State, Transaction, answer_packets, base, flags_of, key_of_text, rows_reply, seen_in, select_reply, snapshot_of, status_of}
 use Rattle.qc_select.specs.Selects.{IsOfText, planned, reason_by, given}
 use Rattle.qc_select.proofs.Pruned.{present_stays}
 use Rattle.qc_model.specs.Cache.{is_prune}
@@ -44,7 +44,7 @@ use Rattle.qc_core_tests.specs.Selects.{answer_on, task_after}
 current_all : (state : State) (j : Journal) (ts : List TableName) → state.transaction ≡ None → list_all (is_current state j) ts ≡ true
 current_all state j [] none = refl
 current_all state j (t ∷ ts) none =
-    let one : is_current state j t ≡ true = λ i. not (list_any (touches t) (of_transaction (none i))) && not (changed_since (option_and_then (λ (x : Transaction). x.snapshot) (none i)) (last_change j t)) in
+    let one : is_current state j t ≡ true = λ i. is_current (record state { transaction = none i }) j t in
     and_from (is_current state j t) (list_all (is_current state j) ts) one (current_all state j ts none)
 
 planned_ok : (r : Result Rows SqlError) (plan : PlanView) → Ok plan ≡ planned r → (q : Rows) × (r ≡ Ok q)

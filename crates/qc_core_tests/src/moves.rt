@@ -117,7 +117,7 @@ fn filled_told(
 
 /// Gives the turn back after a SELECT. The fill that it began, if any, and what it answers.
 pub(crate) fn end_select(
-    held: Held<'_, Server>,
+    mut held: Held<'_, Server>,
     done: Result<Outcome, Stop>,
 ) -> Result<(Option<Fill>, Text), Stop>
     requires fixed { KnowsFixed held }
@@ -128,7 +128,6 @@ pub(crate) fn end_select(
     ensures view { ((view held.exit.1.0.now).number ≡ (holder held.entry).number) × ((view held.exit.1.0.now).registry ≡ (holder held.entry).registry) }
     ensures fills { IfOk result (λ begun. MayFill begun.0 begun.1 held.exit.1.0.now) }
 {
-    let mut held = held;
     let Outcome { task, reply } = match done {
         Ok(outcome) => outcome,
         Err(stop) => {

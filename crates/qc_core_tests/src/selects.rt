@@ -51,7 +51,7 @@ fn state_of(alloc: Global, session: u8) -> Result<SessionState, NoMemory>
 }
 
 /// What the cache is asked for a text.
-#[tactic(auto, using(qc_replies::proofs::Trimmed::trimmed_below, qc_laws::proofs::sizes::Parsed::parsed_names_are_short))]
+#[tactic(auto, using(qc_replies::proofs::Trimmed::trimmed_below))]
 fn read(alloc: Global, state: &SessionState, text: &[u8]) -> Result<Question, Stop>
     requires keyed { CanBeKeyed state.now.state }
     requires within { length text.now < 2 ^ 32 }

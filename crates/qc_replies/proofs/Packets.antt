@@ -6,7 +6,7 @@ use mathlib.Core.List.{map-map}
 use Rattle.qc_types.specs.declared.names.Value.{Value}
 use Rattle.qc_sql.specs.declared.replies.ColumnDef.{ColumnDef}
 use Rattle.qc_sql.specs.declared.replies.Reply.TheVariants as reply
-use Rattle.qc_sql.specs.Packets.{packet, packets, numbered, count_payload, column_payload, row_payload, eof_payload}
+use Rattle.qc_sql.specs.Packets.{packet, packet_list, numbered, count_payload, column_payload, row_payload, eof_payload}
 use Rattle.qc_sql.specs.Rows.{text_of}
 use Rattle.qc_replies.specs.Answers.{Appends, head_payloads, tail_payloads, value_payload}
 
@@ -27,17 +27,9 @@ all_put ps n m old new f = sym (append-nil new) ∙ sym (f []) ∙ ap (λ (l : L
 
 -- the whole reply, of what stands in front of the rows and of the rest
 pub whole_is : (columns : List ColumnDef) (rows : List (List Value)) (status : ℕ)
-    → concat (numbered 1 (head_payloads columns status ++ tail_payloads rows status)) ≡ packets (reply.Rows columns (map (map text_of) rows) status)
+    → numbered 1 (head_payloads columns status ++ tail_payloads rows status) ≡ packet_list (reply.Rows columns (map (map text_of) rows) status)
 whole_is columns rows status =
     let eof = eof_payload status in
     let texts : map value_payload rows ≡ map row_payload (map (map text_of) rows) = sym (map-map row_payload (map text_of) rows) in
-    ap (λ (l : List (List ℕ)). concat (numbered 1 (count_payload (length columns) ∷ l)))
+    ap (λ (l : List (List ℕ)). numbered 1 (count_payload (length columns) ∷ l))
     (append_assoc (map column_payload columns) (eof ∷ []) (map value_payload rows ++ eof ∷ []) ∙ ap (λ (l : List (List ℕ)). map column_payload columns ++ eof ∷ (l ++ eof ∷ [])) texts)
-
--- what stands in front of the rows, and then the rows
-pub whole_reply : (columns : List ColumnDef) (rows : List (List Value)) (status n : ℕ) (start head all : List ℕ) → start ≡ []
-    → Appends (head_payloads columns status) 1 start n head → all ≡ head ++ concat (numbered n (tail_payloads rows status))
-    → all ≡ packets (reply.Rows columns (map (map text_of) rows) status)
-whole_reply columns rows status n start head all empty put rest =
-    let payloads = head_payloads columns status ++ tail_payloads rows status in
-    rest ∙ sym (put (tail_payloads rows status)) ∙ ap (λ (s : List ℕ). s ++ concat (numbered 1 payloads)) empty ∙ whole_is columns rows status

@@ -43,19 +43,6 @@ cell_more (Some row) cells i x lt there is before =
     ∙ ap (λ (l : List Value). cell_texts cells ++ map text_of l) (sym (drop_more row i value.Null lt))
     ∙ before
 
--- ---- columns
-
--- one column more
-pub column_more : (columns : List ColumnDef) (i n : ℕ) (c : ColumnDef) (old now new : List ℕ) → i < length columns → c ≡ get_or columns i c → new ≡ now ++ packet n (column_payload c)
-    → ((behind : List (List ℕ)) → old ++ concat (numbered 2 (map column_payload columns ++ behind)) ≡ now ++ concat (numbered n (map column_payload (drop i columns) ++ behind))) × FitColumns (drop i columns)
-    → ((behind : List (List ℕ)) → old ++ concat (numbered 2 (map column_payload columns ++ behind)) ≡ new ++ concat (numbered ((n + 1) % 256) (map column_payload (drop (i + 1) columns) ++ behind))) × FitColumns (drop (i + 1) columns)
-column_more columns i n c old now new lt is put before =
-    let rest = drop (i + 1) columns in
-    let next : drop i columns ≡ c ∷ rest = drop_more columns i c lt ∙ ap (λ (x : ColumnDef). x ∷ rest) (sym is) in (
-      λ behind. before.0 behind ∙ ap (λ (l : List ColumnDef). now ++ concat (numbered n (map column_payload l ++ behind))) next ∙ one_more n (column_payload c) now new put (map column_payload rest ++ behind),
-      (subst FitColumns next before.1).1,
-    )
-
 -- ---- a loaded plan
 
 rows_fit : (n : ℕ) (rows : List (List Value)) → AllByRecursion (FitsRow n) rows → AllByRecursion (λ row. length (row_payload (map text_of row)) ≤ most_payload) rows → AreRowsOf n rows

@@ -46,7 +46,7 @@ pub fn answer_select<L: Ledger>(
     match Plan::prepare(alloc, select, database, db, flags, session) {
         Ok(mut plan) => {
             plan.load(alloc, steps)?;
-            let reply = rows_reply(alloc, &mut plan, status_of(flags), steps)?;
+            let reply = rows_reply(alloc, plan, status_of(flags), steps)?;
             Ok(Answer { error: None, reply })
         }
         Err(Or::Other(error)) => error_answer(alloc, &error),

@@ -1,8 +1,8 @@
 -- Rows put behind the others of a table.
-use Rattle.std.proofs.Common.{◌≡◌, ℕ, ◌+◌, ◌-◌, ◌<◌, ◌≤◌, ℤ, Bool, true, false, List, [], ◌∷◌, ◌++◌, length, length-append, get_or, set, suc, refl, sym, ap, ◌∙◌, arith, subst, Option, Some, None, nat_eq}
+use Rattle.std.proofs.Common.{◌≡◌, ℕ, ◌+◌, ◌-◌, ◌<◌, ◌≤◌, ℤ, Bool, true, false, List, [], ◌∷◌, ◌++◌, map, length, length-append, append-nil, append_assoc, get_or, set, zero, suc, refl, sym, ap, ◌∙◌, arith, subst, Option, Some, None, nat_eq}
 use Rattle.std.specs.Prelude.{IfSome, Result, Ok, Err, int_lt, nat_le}
 use Rattle.std.specs.Result.{IsErrAnd}
-use Rattle.std.specs.List.{slice_get}
+use Rattle.std.specs.List.{list_all, slice_get}
 use Rattle.std.specs.List.Sorted.{IsStrictlySortedBy}
 use Rattle.std.specs.Map.{keys_of}
 use Rattle.std.specs.BTreeMap.{insert_entry}
@@ -21,16 +21,16 @@ use Rattle.qc_sql.specs.Database.{MapOf, Table, key_of, most_rows, with_row}
 use Rattle.qc_model.specs.Licence.{kind_fits, row_fits}
 use Rattle.qc_model.specs.Sound.{IsSoundTable}
 use Rattle.qc_table.specs.declared.cells.Cells.{Cells}
-use Rattle.qc_table.specs.Stored.{and_one, column_of, is_ints, rows_of, takes, values_of, AreFilled, AreMade, HasRoom, HaveRoom, IsCells, IsColumn, IsFilled, IsMade, IsStore, TakeRow}
+use Rattle.qc_table.specs.Puts.{put_at, values_at, with_rows}
+use Rattle.qc_table.specs.Stored.{and_more, column_of, is_ints, rows_of, takes, values_of, AreFilled, AreMade, HasRoom, HaveRoom, IsCells, IsColumn, IsFilled, IsMade, IsStore, TakeRow, TakeRows, TakesAll}
 use Rattle.qc_table.specs.Views.{kind_at, value_at}
-use Rattle.qc_table.specs.Changes.{is_above, last_of}
+use Rattle.qc_table.specs.Changes.{last_from, last_of, rise_behind, stands_behind}
 use Rattle.qc_table.specs.Fitting.{is_within, IsChanged}
-use Rattle.qc_table.specs.Tables.{Changes, IsDraft, IsStored}
-use Rattle.qc_table.proofs.Drafts.{put_is_row}
+use Rattle.qc_table.specs.Tables.{Changes, IsStored, with_changes}
 use Rattle.qc_table.proofs.Merges.{kind_taken, merged_sound, rows_wide}
-use Rattle.qc_table.proofs.Merging.{rises_none}
-use Rattle.qc_table.proofs.Rows.{row_length, value_of_kind}
-use Rattle.qc_table.proofs.Stores.{column_shown, keys_read, rows_filled, rows_length, store_filled}
+use Rattle.qc_table.proofs.Merging.{one_more, rises_none}
+use Rattle.qc_table.proofs.Rows.{both, keyed, keyed_length, row_length, value_of_kind}
+use Rattle.qc_table.proofs.Stores.{column_ready, column_shown, keys_read, rows_filled, rows_length, store_filled}
 
 -- ---- a list of columns of which one is set
 
@@ -82,57 +82,65 @@ as_was None c is ready = absurd cc
 as_was (Some b) c is ready = let same : b ≡ c = cc in (ready, ap values_of (sym same), ap is_ints (sym same))
 
 -- columns of which some got room have the same values
-pub same_values : (row : List Value) (bs cs : List Cells) (i : ℕ) → TakeRow row bs → AreMadeTo (λ j vs. vs) bs cs i → AreMade (λ j vs. vs) bs cs
-same_values row bs cs i take m = (
+pub same_values : (rows : List (List Value)) (bs cs : List Cells) (i : ℕ) → TakeRows rows bs → AreMadeTo (λ j vs. vs) bs cs i → AreMade (λ j vs. vs) bs cs
+same_values rows bs cs i take m = (
   m.size,
   λ j c is.
       elim (nat_le i j) as (λ b. nat_le i j ≡ b → IsMade (λ vs. vs) (slice_get bs j) c) [
-        | true ↦ λ p. let was = m.rest j c (grind (arith, nat_tests)) is in as_was (slice_get bs j) c was (take.1 j c was).0
+        | true ↦ λ p. let was = m.rest j c (grind (arith, nat_tests)) is in as_was (slice_get bs j) c was (take j c was).0
         | false ↦ λ p. m.front j c (grind (arith, nat_tests)) is
       ] refl,
 )
 
--- columns of which those in front of an index have room for a row
-abbrev pub RoomTo : ℕ → List Value → List Cells → Type 0
-RoomTo i row cs = (j : ℕ) (c : Cells) → j < i → slice_get cs j ≡ Some c → HasRoom (value_at row j) c
+-- columns of which those in front of an index have room for rows
+abbrev pub RoomTo : ℕ → List (List Value) → List Cells → Type 0
+RoomTo i rows cs = (j : ℕ) (c : Cells) → j < i → slice_get cs j ≡ Some c → HasRoom (values_at j rows) c
 
-pub more_room : (row : List Value) (cs : List Cells) (i : ℕ) (x : Cells) → i < length cs → RoomTo i row cs → HasRoom (value_at row i) x → RoomTo (i + 1) row (set cs i x)
-more_room row cs i x low room one j c below is =
-    elim (nat_eq j i) as (λ b. nat_eq j i ≡ b → HasRoom (value_at row j) c) [
+pub more_room : (rows : List (List Value)) (cs : List Cells) (i : ℕ) (x : Cells) → i < length cs → RoomTo i rows cs → HasRoom (values_at i rows) x → RoomTo (i + 1) rows (set cs i x)
+more_room rows cs i x low room one j c below is =
+    elim (nat_eq j i) as (λ b. nat_eq j i ≡ b → HasRoom (values_at j rows) c) [
       | true ↦ λ p.
           let here : j ≡ i = grind (arith, nat_tests) in
           let same : c ≡ x = set_here cs i x c low (subst (λ k. slice_get (set cs i x) k ≡ Some c) here is) in
-          rw (here, same) one
+          subst (λ k. HasRoom (values_at k rows) c) (sym here) (subst (HasRoom (values_at i rows)) (sym same) one)
       | false ↦ λ p.
           let apart : j ≡ i → ⊥ = λ e. grind (arith, nat_tests) in
           room j c (omega (arith, apart, below)) (set_there cs i j x c apart is)
     ] refl
 
-pub all_room : (row : List Value) (cs : List Cells) (i : ℕ) → RoomTo i row cs → length cs ≤ i → HaveRoom 0 row cs
-all_room row cs i room all j c low is = let within = slice_get_within cs j c is in room j c (omega (arith, all, within)) is
+pub all_room : (rows : List (List Value)) (cs : List Cells) (i : ℕ) → RoomTo i rows cs → length cs ≤ i → HaveRoom rows cs
+all_room rows cs i room all j c is = let within = slice_get_within cs j c is in room j c (omega (arith, all, within)) is
 
--- ---- the rows of columns with one more value each
+-- ---- the rows of columns with more values each
 
 pub made_from : (f : List Value → List Value) (o : Option Cells) (c : Cells) → IsMade f o c → (b : Cells) × ((o ≡ Some b) × IsMade f (Some b) c)
 made_from f None c h = absurd h
 made_from f (Some b) c h = (b, (refl, h))
 
-one_filled : (o : Option Kind) (n : ℕ) (v : Value) (vs : List Value) (b c d : Cells) → IsColumn o n b → values_of b ≡ vs → IsMade (λ ws. ws) (Some b) c → IsMade (and_one v) (Some c) d → IsFilled o (vs ++ v ∷ []) d
-one_filled None n v vs b c d h is m k = absurd h
-one_filled (Some kind) n v vs b c d h is m k = (k.0, k.1 ∙ ap (and_one v) (m.1 ∙ is), k.2 ∙ (m.2 ∙ h.2))
+more_filled : (o : Option Kind) (n : ℕ) (ws vs : List Value) (b c d : Cells) → IsColumn o n b → values_of b ≡ vs → IsMade (λ us. us) (Some b) c → IsMade (and_more ws) (Some c) d → IsFilled o (vs ++ ws) d
+more_filled None n ws vs b c d h is m k = absurd h
+more_filled (Some kind) n ws vs b c d h is m k = (k.0, k.1 ∙ ap (and_more ws) (m.1 ∙ is), k.2 ∙ (m.2 ∙ h.2))
 
-pub filled_more : (columns : List Column) (keys : List ℤ) (bs cs ds : List Cells) (key : ℤ) (row : List Value) → IsStore columns (length keys) bs → AreMade (λ j vs. vs) bs cs → AreMade (λ j. and_one (value_at row j)) cs ds
-    → AreFilled columns (rows_of (length columns) keys bs ++ (key, row) ∷ []) (length columns) ds
-filled_more columns keys bs cs ds key row store same more = (
+-- the values of rows under their keys
+keyed_values : (columns : List Column) (j : ℕ) (new : List (List Value)) → column_of j (keyed columns new) ≡ values_at j new
+keyed_values columns j [] = refl
+keyed_values columns j (row ∷ new) = ap (λ vs. value_at row j ∷ vs) (keyed_values columns j new)
+
+column_more : (columns : List Column) (j : ℕ) (rows : MapOf ℤ (List Value)) (new : List (List Value)) → column_of j (rows ++ keyed columns new) ≡ column_of j rows ++ values_at j new
+column_more columns j rows new = map-append (λ (e : ℤ × List Value). value_at e.1 j) rows (keyed columns new) ∙ ap (λ vs. column_of j rows ++ vs) (keyed_values columns j new)
+
+pub filled_more : (columns : List Column) (keys : List ℤ) (bs cs ds : List Cells) (new : List (List Value)) → IsStore columns (length keys) bs → AreMade (λ j vs. vs) bs cs → AreMade (λ j. and_more (values_at j new)) cs ds
+    → AreFilled columns (rows_of (length columns) keys bs ++ keyed columns new) (length columns) ds
+filled_more columns keys bs cs ds new store same more = (
   more.0 ∙ (same.0 ∙ store.0),
   λ j d is.
       let rows = rows_of (length columns) keys bs in
       let within : j < length columns = subst (λ n. j < n) (more.0 ∙ (same.0 ∙ store.0)) (slice_get_within ds j d is) in
-      let c = made_from (and_one (value_at row j)) (slice_get cs j) d (more.1 j d is) in
+      let c = made_from (and_more (values_at j new)) (slice_get cs j) d (more.1 j d is) in
       let b = made_from (λ vs. vs) (slice_get bs j) c.0 (same.1 j c.0 c.1.0) in
       let shown = column_shown columns keys bs j b.0 store within b.1.0 in
-      subst (λ vs. IsFilled (kind_at columns j) vs d) (sym (map-append (λ (e : ℤ × List Value). value_at e.1 j) rows ((key, row) ∷ [])))
-      (one_filled (kind_at columns j) (length keys) (value_at row j) (column_of j rows) b.0 c.0 d (store.1 j b.0 b.1.0) shown b.1.1 c.1.1),
+      subst (λ vs. IsFilled (kind_at columns j) vs d) (sym (column_more columns j rows new))
+      (more_filled (kind_at columns j) (length keys) (values_at j new) (column_of j rows) b.0 c.0 d (store.1 j b.0 b.1.0) shown b.1.1 c.1.1),
 )
 
 -- ---- a key above the others
@@ -144,7 +152,7 @@ pub higher : (x y : ℤ) → int_cmp x y ≡ Less → int_cmp y x ≡ Greater
 higher x y h = int_cmp_total.antisymm y x ∙ ap ordering_reverse h
 
 -- among rows that rise, one whose key stands above the last stands behind all
-put_behind : (e : ℤ × List Value) (es : MapOf ℤ (List Value)) (k : ℤ) (v : List Value) → IsStrictlySortedBy int_cmp (keys_of (e ∷ es)) → int_cmp (last_of e.0 (keys_of es)) k ≡ Less
+put_behind : (e : ℤ × List Value) (es : MapOf ℤ (List Value)) (k : ℤ) (v : List Value) → IsStrictlySortedBy int_cmp (keys_of (e ∷ es)) → int_cmp (last_from e.0 (keys_of es)) k ≡ Less
     → (int_cmp e.0 k ≡ Less) × (insert_entry int_cmp (e ∷ es) k v ≡ (e ∷ es) ++ (k, v) ∷ [])
 put_behind e [] k v rise last = (last, rw (higher e.0 k last) refl)
 put_behind e (f ∷ es) k v rise last =
@@ -152,9 +160,14 @@ put_behind e (f ∷ es) k v rise last =
     let low = int_cmp_total.trans e.0 f.0 k (sorted_head int_cmp e.0 (keys_of (f ∷ es)) rise).0 rest.0 in
     (low, rw (higher e.0 k low) (ap (λ m. e ∷ m) rest.1))
 
-pub behind : (es : MapOf ℤ (List Value)) (k : ℤ) (v : List Value) → IsStrictlySortedBy int_cmp (keys_of es) → is_above k (keys_of es) ≡ true → insert_entry int_cmp es k v ≡ es ++ (k, v) ∷ []
+behind : (es : MapOf ℤ (List Value)) (k : ℤ) (v : List Value) → IsStrictlySortedBy int_cmp (keys_of es) → stands_behind (last_of (keys_of es)) k ≡ true → insert_entry int_cmp es k v ≡ es ++ (k, v) ∷ []
 behind [] k v rise above = refl
-behind (e ∷ es) k v rise above = (put_behind e es k v rise (lower (last_of e.0 (keys_of es)) k above)).1
+behind (e ∷ es) k v rise above = (put_behind e es k v rise (lower (last_from e.0 (keys_of es)) k above)).1
+
+last_appended : (ks : List ℤ) (k : ℤ) → last_of (ks ++ k ∷ []) ≡ Some k
+last_appended [] k = refl
+last_appended (j ∷ []) k = refl
+last_appended (j ∷ i ∷ ks) k = last_appended (i ∷ ks) k
 
 -- ---- the table
 
@@ -162,11 +175,33 @@ rises_one : (k : ℤ) → IsStrictlySortedBy int_cmp (k ∷ [])
 unfolding IsStrictlySortedBy
 rises_one k = (tt, tt)
 
-pub put_sound : (t : Table) (row : List Value) → IsSoundTable t → length t.rows ≤ most_rows → row_fits t.columns row ≡ true → IsSoundTable (with_row row t)
-put_sound t row sound within fits =
-    let draft : IsDraft t [] = record { base = record { sound = sound; within = within }; changes = tt; ordered = rises_none } in
-    let one : Changes = (key_of t.columns row, Some row) ∷ [] in
-    subst IsSoundTable (put_is_row t [] row draft) (merged_sound t one sound ((fits, refl), tt) (rises_one (key_of t.columns row)))
+abbrev table : List Column → MapOf ℤ (List Value) → Table
+table columns rows = record { columns = columns; rows = rows }
+
+pub put_sound : (t : Table) (row : List Value) → IsSoundTable t → row_fits t.columns row ≡ true → IsSoundTable (with_row row t)
+put_sound t row sound fits =
+    let key = key_of t.columns row in
+    let one : Changes = (key, Some row) ∷ [] in
+    let is : with_changes t one ≡ with_row row t = ap (table t.columns) (one_more key (Some row) t.rows [] sound.ordered rises_none) in
+    subst IsSoundTable is (merged_sound t one sound ((fits, refl), tt) (rises_one key))
+
+rows_sound : (t : Table) (new : List (List Value)) → IsSoundTable t → list_all (row_fits t.columns) new ≡ true → IsSoundTable (with_rows new t)
+rows_sound t [] sound fits = sound
+rows_sound t (row ∷ new) sound fits = let each = both _ _ fits in rows_sound (with_row row t) new (put_sound t row sound each.0) each.1
+
+-- rows whose keys rise behind the others stand behind all
+risen : (columns : List Column) (rows : MapOf ℤ (List Value)) (new : List (List Value)) → IsSoundTable (table columns rows) → list_all (row_fits columns) new ≡ true → rise_behind (last_of (keys_of rows)) (map (key_of columns) new) ≡ true
+    → with_rows new (table columns rows) ≡ table columns (rows ++ keyed columns new)
+risen columns rows [] sound fits rise = ap (table columns) (sym (append-nil rows))
+risen columns rows (row ∷ new) sound fits rise =
+    let key = key_of columns row in
+    let each = both _ _ fits in
+    let up = both _ _ rise in
+    let one : insert_entry int_cmp rows key row ≡ rows ++ (key, row) ∷ [] = behind rows key row sound.ordered up.0 in
+    let sound_one : IsSoundTable (table columns (rows ++ (key, row) ∷ [])) = subst (λ es. IsSoundTable (table columns es)) one (put_sound (table columns rows) row sound each.0) in
+    let last : last_of (keys_of (rows ++ (key, row) ∷ [])) ≡ Some key = ap last_of (map-append (λ (e : ℤ × List Value). e.0) rows ((key, row) ∷ [])) ∙ last_appended (keys_of rows) key in
+    let rest = risen columns (rows ++ (key, row) ∷ []) new sound_one each.1 (subst (λ l. rise_behind l (map (key_of columns) new) ≡ true) (sym last) up.1) in
+    ap (λ es. with_rows new (table columns es)) one ∙ (rest ∙ ap (table columns) (append_assoc rows ((key, row) ∷ []) (keyed columns new)))
 
 -- columns that are sound take a row that fits
 taken_by : (columns : List Column) (n : ℕ) (c : Cells) (j : ℕ) (row : List Value) (o : Option Kind) → kind_at columns j ≡ o → IsColumn o n c → row_fits columns row ≡ true → IsCells c × (takes (is_ints c) (value_at row j) ≡ true)
@@ -180,13 +215,29 @@ row_taken columns n cs row store fits = (
   λ j c is. taken_by columns n c j row (kind_at columns j) refl (store.1 j c is) fits,
 )
 
+fits_at : (columns : List Column) (new : List (List Value)) (i : ℕ) → list_all (row_fits columns) new ≡ true → i < length new → row_fits columns (put_at new i) ≡ true
+fits_at columns [] i fits low = absurd (omega arith)
+fits_at columns (row ∷ new) zero fits low = (both _ _ fits).0
+fits_at columns (row ∷ new) (suc i) fits low = fits_at columns new i (both _ _ fits).1 (omega arith)
+
+-- columns that are sound take rows that fit
+pub rows_taken : (columns : List Column) (n : ℕ) (cs : List Cells) (new : List (List Value)) → IsStore columns n cs → list_all (row_fits columns) new ≡ true → TakeRows new cs
+rows_taken columns n cs new store fits = λ j c is. (
+  column_ready (kind_at columns j) n c (store.1 j c is),
+  λ i low. subst (λ m. j < m) (store.0 ∙ sym (row_length columns (put_at new i) (fits_at columns new i fits low))) (slice_get_within cs j c is),
+  λ i low. (taken_by columns n c j (put_at new i) (kind_at columns j) refl (store.1 j c is) (fits_at columns new i fits low)).1,
+)
+
 most : (n : ℕ) → nat_le n most_rows ≡ true → n ≤ most_rows
 most n h = grind (arith, nat_tests)
 
-pub put_stored : (t t' : Table) (row : List Value) (r : Result Bool NoMemory) → IsStored t → row_fits t.columns row ≡ true → IsChanged (with_row row t) t r t' → IsStored t'
-put_stored t t' row (Ok true) s fits c = record { sound = subst IsSoundTable (sym c.0) (put_sound t row s.sound s.within fits); within = most (length t'.rows) c.1 }
-put_stored t t' row (Ok false) s fits c = subst IsStored (sym c) s
-put_stored t t' row (Err e) s fits c = subst IsStored (sym c) s
+pub put_stored : (t t' : Table) (new : List (List Value)) (r : Result Bool NoMemory) → IsStored t → list_all (row_fits t.columns) new ≡ true → IsChanged (with_rows new t) t r t' → IsStored t'
+put_stored t t' new (Ok true) s fits c = record { sound = subst IsSoundTable (sym c.0) (rows_sound t new s.sound fits); within = most (length t'.rows) c.1 }
+put_stored t t' new (Ok false) s fits c = subst IsStored (sym c) s
+put_stored t t' new (Err e) s fits c = subst IsStored (sym c) s
+
+pub one_stored : (t t' : Table) (row : List Value) (r : Result Bool NoMemory) → IsStored t → row_fits t.columns row ≡ true → IsChanged (with_row row t) t r t' → IsStored t'
+one_stored t t' row r s fits c = put_stored t t' (row ∷ []) r s (rw fits refl) c
 
 -- ---- what is stored of a table
 
@@ -224,55 +275,53 @@ same_stored columns keys keys' bs cs store sound same is =
     let s = stood columns rows keys' cs (is ∙ sym (keys_read (length columns) keys bs)) (filled_same columns keys bs cs store same) sound in
     (s.0, ap (λ (es : MapOf ℤ (List Value)). let t : Table = record { columns = columns; rows = es } in t) s.1)
 
--- columns with room take a row as before
-pub same_taken : (row : List Value) (bs cs : List Cells) → TakeRow row bs → AreMade (λ j vs. vs) bs cs → TakeRow row cs
-same_taken row bs cs take same = (
-  same.0 ∙ take.0,
-  λ j c is.
-      let b = made_from (λ vs. vs) (slice_get bs j) c (same.1 j c is) in
-      (b.1.1.0, rw b.1.1.2 (take.1 j b.0 b.1.0).1),
-)
+-- columns with room take rows as before
+pub same_taken : (new : List (List Value)) (bs cs : List Cells) → TakeRows new bs → AreMade (λ j vs. vs) bs cs → TakeRows new cs
+same_taken new bs cs take same = λ j c is.
+    let b = made_from (λ vs. vs) (slice_get bs j) c (same.1 j c is) in
+    let taken = take j b.0 b.1.0 in
+    (b.1.1.0, taken.1, subst (TakesAll j new) (sym b.1.1.2) taken.2)
 
 -- what a call that is refused leaves as it was
 pub unchanged : (wanted before after : Table) (r : Result Bool NoMemory) (P : NoMemory → Type 0) → IsErrAnd r P → after ≡ before → IsChanged wanted before r after
 unchanged wanted before after (Ok b) P h same = absurd h
 unchanged wanted before after (Err e) P h same = same
 
-one_more_within : (n : ℕ) → n < most_rows → nat_le (n + 1) most_rows ≡ true
-one_more_within n h = grind (arith, nat_tests)
+more_within : (n m : ℕ) → n + m ≤ most_rows → nat_le (n + m) most_rows ≡ true
+more_within n m h = grind (arith, nat_tests)
 
-pub appended : (columns : List Column) (keys keys' : List ℤ) (bs cs ds : List Cells) (row : List Value) → IsStore columns (length keys) bs → IsSoundTable (stored columns keys bs) → row_fits columns row ≡ true → length keys < most_rows
-    → is_above (key_of columns row) keys ≡ true → AreMade (λ j vs. vs) bs cs → AreMade (λ j. and_one (value_at row j)) cs ds → keys' ≡ keys ++ key_of columns row ∷ []
-    → (IsStore columns (length keys') ds × IsSoundTable (stored columns keys' ds)) × ((stored columns keys' ds ≡ with_row row (stored columns keys bs)) × (is_within (stored columns keys' ds) ≡ true))
-appended columns keys keys' bs cs ds row store sound fits few above same more is =
+keyed_keys : (columns : List Column) (new : List (List Value)) → keys_of (keyed columns new) ≡ map (key_of columns) new
+keyed_keys columns [] = refl
+keyed_keys columns (row ∷ new) = ap (λ ks. key_of columns row ∷ ks) (keyed_keys columns new)
+
+pub appended : (columns : List Column) (keys keys' : List ℤ) (bs cs ds : List Cells) (new : List (List Value)) → IsStore columns (length keys) bs → IsSoundTable (stored columns keys bs) → list_all (row_fits columns) new ≡ true → length keys + length new ≤ most_rows
+    → rise_behind (last_of keys) (map (key_of columns) new) ≡ true → AreMade (λ j vs. vs) bs cs → AreMade (λ j. and_more (values_at j new)) cs ds → keys' ≡ keys ++ map (key_of columns) new
+    → (IsStore columns (length keys') ds × IsSoundTable (stored columns keys' ds)) × ((stored columns keys' ds ≡ with_rows new (stored columns keys bs)) × (is_within (stored columns keys' ds) ≡ true))
+appended columns keys keys' bs cs ds new store sound fits few rise same more is =
     let t = stored columns keys bs in
     let rows = rows_of (length columns) keys bs in
-    let key = key_of columns row in
-    let all : MapOf ℤ (List Value) = rows ++ (key, row) ∷ [] in
+    let all : MapOf ℤ (List Value) = rows ++ keyed columns new in
     let read = keys_read (length columns) keys bs in
     let count : length rows ≡ length keys = rows_length (length columns) keys bs in
-    let high : is_above key (keys_of rows) ≡ true = rw read above in
-    let put : insert_entry int_cmp rows key row ≡ all = behind rows key row sound.ordered high in
-    let put_whole : with_row row t ≡ record { columns = columns; rows = all } = ap (λ (es : MapOf ℤ (List Value)). let u : Table = record { columns = columns; rows = es } in u) put in
-    let sound_all = subst IsSoundTable put_whole (put_sound t row sound (omega (arith, count, few)) fits) in
-    let all_keys : keys_of all ≡ keys ++ key ∷ [] = map-append (λ (e : ℤ × List Value). e.0) rows ((key, row) ∷ []) ∙ ap (λ ks. ks ++ key ∷ []) read in
-    let s = stood columns all keys' ds (is ∙ sym all_keys) (filled_more columns keys bs cs ds key row store same more) sound_all in
-    let length_all : length all ≡ length keys + 1 = length-append rows ((key, row) ∷ []) ∙ ap (λ n. n + 1) count in (
+    let high : rise_behind (last_of (keys_of rows)) (map (key_of columns) new) ≡ true = subst (λ ks. rise_behind (last_of ks) (map (key_of columns) new) ≡ true) (sym read) rise in
+    let put_all : with_rows new t ≡ table columns all = risen columns rows new sound fits high in
+    let sound_all = subst IsSoundTable put_all (rows_sound t new sound fits) in
+    let all_keys : keys_of all ≡ keys ++ map (key_of columns) new =
+    map-append (λ (e : ℤ × List Value). e.0) rows (keyed columns new) ∙ (ap (λ ks. ks ++ keys_of (keyed columns new)) read ∙ ap (λ ks. keys ++ ks) (keyed_keys columns new)) in
+    let s = stood columns all keys' ds (is ∙ sym all_keys) (filled_more columns keys bs cs ds new store same more) sound_all in
+    let length_all : length all ≡ length keys + length new = length-append rows (keyed columns new) ∙ (ap (λ n. n + length (keyed columns new)) count ∙ ap (λ n. length keys + n) (keyed_length (key_of columns) new)) in (
       s.0,
-      (
-        ap (λ (es : MapOf ℤ (List Value)). let u : Table = record { columns = columns; rows = es } in u) s.1 ∙ sym put_whole,
-        rw (s.1, length_all) (one_more_within (length keys) few),
-      ),
+      (ap (table columns) s.1 ∙ sym put_all, rw (s.1, length_all) (more_within (length keys) (length new) few)),
     )
 
 -- ---- the last key
 
-last_is : (j : ℤ) (js : List ℤ) (d : ℤ) → get_or (j ∷ js) (length js) d ≡ last_of j js
+last_is : (j : ℤ) (js : List ℤ) (d : ℤ) → get_or (j ∷ js) (length js) d ≡ last_from j js
 last_is j [] d = refl
 last_is j (i ∷ js) d = last_is i js d
 
-pub above_is : (k : ℤ) (js : List ℤ) (d : ℤ) → (length js ≡ 0 → ⊥) → int_lt (get_or js (length js - 1) d) k ≡ is_above k js
-above_is k [] d some = absurd (some refl)
-above_is k (j ∷ js) d some =
+pub last_read : (js : List ℤ) (d : ℤ) → (length js ≡ 0 → ⊥) → Some (get_or js (length js - 1) d) ≡ last_of js
+last_read [] d some = absurd (some refl)
+last_read (j ∷ js) d some =
     let back : suc (length js) - 1 ≡ length js = omega arith in
-    ap (λ i. int_lt (get_or (j ∷ js) i d) k) back ∙ ap (λ x. int_lt x k) (last_is j js d)
+    ap (λ i. Some (get_or (j ∷ js) i d)) back ∙ ap Some (last_is j js d)

@@ -1,4 +1,4 @@
--- Databases that one operation changes where they stand.
+-- Databases that operations change where they stand.
 use Rattle.std.proofs.Common.{◌≡◌, ◌<◌, ◌≤◌, Bool, true, false, cond, List, [], ◌∷◌, length, get_or, refl, ap, sym, ◌∙◌, subst, arith, Some}
 use Rattle.std.specs.Prelude.{◌&&◌, not, Result, Ok, Err}
 use Rattle.std.specs.Result.{IsErrAnd}
@@ -10,10 +10,10 @@ use Rattle.std.specs.List.{list_all}
 use Rattle.qc_types.specs.declared.memory.NoMemory.{NoMemory}
 use Rattle.qc_types.specs.declared.names.TableName.{TableName}
 use Rattle.qc_sql.specs.declared.tables.RowOp.{RowOp}
-use Rattle.qc_sql.specs.Database.{Name, MapOf, Database, Table, Tables, name_cmp, at_name, apply_one, change_at, change_table, empty_database}
+use Rattle.qc_sql.specs.Database.{Name, MapOf, Database, Table, Tables, name_cmp, at_name, apply, change_at, change_table, empty_database}
 use Rattle.qc_model.specs.Licence.{is_within_rows}
 use Rattle.qc_table.specs.Borrowed.{IsSetAt, EndsWith}
-use Rattle.qc_table.specs.Fitting.{IsCarriedOut, IsChanged, fitting, is_within}
+use Rattle.qc_table.specs.Fitting.{AreCarriedOut, IsChanged, fitting, is_within}
 use Rattle.qc_table.specs.Tables.{IsHeld}
 use Rattle.qc_sql.specs.Order.{IsOrdered}
 use Rattle.qc_sql.proofs.Order.{stays_ordered}
@@ -91,18 +91,18 @@ stays m m' name v v' ends found same = changed name m v v' m' (λ w. w) ends fou
 
 -- ---- one table
 
-pub table_carried : (op : RowOp) (d d' : Database) (t : TableName) (make : Table → Table) → apply_one op d ≡ change_table t make d
+pub table_carried : (ops : List RowOp) (d d' : Database) (t : TableName) (make : Table → Table) → apply ops d ≡ change_table t make d
     → (ts ts' : Tables) → IsSetAt t.db d ts' d' × EndsWith t.db d ts' d' → Some ts ≡ at_name t.db d
     → (v v' : Table) → IsSetAt t.name ts v' ts' × EndsWith t.name ts v' ts' → Some v ≡ at_name t.name ts
-    → is_within_rows d ≡ true → (r : Result Bool NoMemory) → IsChanged (make v) v r v' → IsCarriedOut op d r d'
-table_carried op d d' t make is ts ts' outer found v v' inner there within (Ok true) c =
+    → is_within_rows d ≡ true → (r : Result Bool NoMemory) → IsChanged (make v) v r v' → AreCarriedOut ops d r d'
+table_carried ops d d' t make is ts ts' outer found v v' inner there within (Ok true) c =
     let tables = changed t.name ts v v' ts' (λ _. v') inner there refl in
     let one : are_within ts' ≡ true = rw tables (each_changed is_within t.name v' ts (tables_within d t.db ts found within) c.1) in (
       changed t.db d ts ts' d' (change_at t.name make) outer found (changed t.name ts v v' ts' make inner there c.0) ∙ sym is,
       within_changed d d' t.db ts ts' outer found within one,
     )
-table_carried op d d' t make is ts ts' outer found v v' inner there within (Ok false) c = stays d d' t.db ts ts' outer found (stays ts ts' t.name v v' inner there c)
-table_carried op d d' t make is ts ts' outer found v v' inner there within (Err e) c = stays d d' t.db ts ts' outer found (stays ts ts' t.name v v' inner there c)
+table_carried ops d d' t make is ts ts' outer found v v' inner there within (Ok false) c = stays d d' t.db ts ts' outer found (stays ts ts' t.name v v' inner there c)
+table_carried ops d d' t make is ts ts' outer found v v' inner there within (Err e) c = stays d d' t.db ts ts' outer found (stays ts ts' t.name v v' inner there c)
 
 pub is_new : (b : Bool) → not b ≡ true → b ≡ false
 is_new true h = absurd cc
@@ -113,21 +113,27 @@ is_new false h = refl
 pub none_held : IsHeld empty_database
 none_held = record { ordered = record { names = none_in_order; tables = tt }; within = refl }
 
-pub carried_held : (op : RowOp) (d d' : Database) (r : Result Bool NoMemory) → IsHeld d → IsCarriedOut op d r d' → IsHeld d'
-carried_held op d d' (Ok true) held c = record { ordered = subst IsOrdered (sym c.0) (stays_ordered (op ∷ []) d held.ordered); within = c.1 }
-carried_held op d d' (Ok false) held c = subst IsHeld (sym c) held
-carried_held op d d' (Err e) held c = subst IsHeld (sym c) held
+pub carried_held : (ops : List RowOp) (d d' : Database) (r : Result Bool NoMemory) → IsHeld d → AreCarriedOut ops d r d' → IsHeld d'
+carried_held ops d d' (Ok true) held c = record { ordered = subst IsOrdered (sym c.0) (stays_ordered ops d held.ordered); within = c.1 }
+carried_held ops d d' (Ok false) held c = subst IsHeld (sym c) held
+carried_held ops d d' (Err e) held c = subst IsHeld (sym c) held
 
-pub carried_fits : (op : RowOp) (d d' : Database) (r : Result Bool NoMemory) → r ≡ Ok true → IsCarriedOut op d r d' → fitting (apply_one op d) ≡ Ok d'
-carried_fits op d d' (Ok true) is c = ap fitting (sym c.0) ∙ rw (none_full d' c.1) refl
-carried_fits op d d' (Ok false) is c = absurd cc
-carried_fits op d d' (Err e) is c = absurd cc
+pub carried_fits : (ops : List RowOp) (d d' : Database) (r : Result Bool NoMemory) → r ≡ Ok true → AreCarriedOut ops d r d' → fitting (apply ops d) ≡ Ok d'
+carried_fits ops d d' (Ok true) is c = ap fitting (sym c.0) ∙ rw (none_full d' c.1) refl
+carried_fits ops d d' (Ok false) is c = absurd cc
+carried_fits ops d d' (Err e) is c = absurd cc
+
+-- what comes to nothing leaves all as it was
+pub left : (ops : List RowOp) (d d' : Database) (r : Result Bool NoMemory) → r ≡ Ok false → AreCarriedOut ops d r d' → d' ≡ d
+left ops d d' (Ok true) is c = absurd cc
+left ops d d' (Ok false) is c = c
+left ops d d' (Err e) is c = c
 
 pub alone : {X : Type 0} (x : X) (xs : List X) → length xs < 2 → 1 ≤ length xs → x ≡ get_or xs 0 x → xs ≡ x ∷ []
 alone x [] few some is = absurd (omega arith)
 alone x (y ∷ []) few some is = ap (λ z. z ∷ []) (sym is)
 alone x (y ∷ z ∷ zs) few some is = absurd (omega arith)
 
-pub refused : (op : RowOp) (d d' : Database) (r : Result Bool NoMemory) (P : NoMemory → Type 0) → IsErrAnd r P → d' ≡ d → IsCarriedOut op d r d'
-refused op d d' (Ok b) P h same = absurd h
-refused op d d' (Err e) P h same = same
+pub refused : (ops : List RowOp) (d d' : Database) (r : Result Bool NoMemory) (P : NoMemory → Type 0) → IsErrAnd r P → d' ≡ d → AreCarriedOut ops d r d'
+refused ops d d' (Ok b) P h same = absurd h
+refused ops d d' (Err e) P h same = same

@@ -11,6 +11,7 @@ pub mod Merges
 pub mod Merging
 pub mod Parts
 pub mod Places
+pub mod Putting
 pub mod Replacing
 pub mod RowKeys
 pub mod Rows

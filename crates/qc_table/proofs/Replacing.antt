@@ -95,7 +95,7 @@ put_back columns keys bs ds at row store sound fits few there made =
     let at_key : slice_get (keys_of rows) at ≡ Some key = rw read there in
     let put : insert_entry int_cmp rows key row ≡ all = put_there rows at key row sound.ordered at_key in
     let put_whole : with_row row t ≡ record { columns = columns; rows = all } = ap (λ (es : MapOf ℤ (List Value)). let u : Table = record { columns = columns; rows = es } in u) put in
-    let sound_all = subst IsSoundTable put_whole (put_sound t row sound few fits) in
+    let sound_all = subst IsSoundTable put_whole (put_sound t row sound fits) in
     let all_keys : keys_of all ≡ keys = keys_put rows at key row at_key ∙ read in
     let s = stood columns all keys ds (sym all_keys) (filled_put columns keys bs ds at key row store made) sound_all in (
       s.0,

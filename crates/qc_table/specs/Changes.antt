@@ -1,19 +1,29 @@
 -- What changes by key make of entries by rising key.
-use Rattle.std.specs.Prelude.{ℤ, Bool, true, int_lt, List, [], ◌∷◌, ◌++◌, Option, Some, None}
+use Rattle.std.specs.Prelude.{ℤ, Bool, true, ◌&&◌, int_lt, List, [], ◌∷◌, ◌++◌, Option, Some, None}
 use Rattle.std.specs.Ordering.{int_cmp, match_ordering}
 use Rattle.std.specs.BTreeMap.{insert_entry, is_at}
 use Rattle.std.specs.Map.{remove_entry}
 use Rattle.qc_sql.specs.Database.{MapOf}
 
 -- the last of keys that begin with one
-abbrev pub last_of : ℤ → List ℤ → ℤ
-last_of k [] = k
-last_of k (j ∷ js) = last_of j js
+abbrev pub last_from : ℤ → List ℤ → ℤ
+last_from k [] = k
+last_from k (j ∷ js) = last_from j js
 
--- a key stands above the last of the others
-abbrev pub is_above : ℤ → List ℤ → Bool
-is_above k [] = true
-is_above k (j ∷ js) = int_lt (last_of j js) k
+-- the last of some keys
+abbrev pub last_of : List ℤ → Option ℤ
+last_of [] = None
+last_of (k ∷ ks) = Some (last_from k ks)
+
+-- a key stands above the last one, where there is one
+abbrev pub stands_behind : Option ℤ → ℤ → Bool
+stands_behind None k = true
+stands_behind (Some j) k = int_lt j k
+
+-- keys rise behind the last one, where there is one
+abbrev pub rise_behind : Option ℤ → List ℤ → Bool
+rise_behind last [] = true
+rise_behind last (k ∷ ks) = stands_behind last k && rise_behind (Some k) ks
 
 module _ {X : Type 0} where
   -- a value is put under the key, or what the key has goes

@@ -1,5 +1,5 @@
 -- How the values of a column are stored.
-use Rattle.std.specs.Prelude.{◌≡◌, ℕ, ◌+◌, ◌-◌, ◌<◌, ◌≤◌, ℤ, List, [], ◌∷◌, map, length, take, drop, slice_index, if◌then◌else◌}
+use Rattle.std.specs.Prelude.{◌≡◌, ℕ, ◌+◌, ◌-◌, ◌/◌, ◌≤◌, ℤ, List, [], ◌∷◌, map, length, take, drop, slice_index, if◌then◌else◌}
 use Rattle.std.specs.Vec.{vec_capacity, vec_len}
 use Rattle.qc_types.specs.declared.names.Value.{Value}
 use Rattle.qc_types.specs.declared.names.Value.TheVariants as value
@@ -43,16 +43,16 @@ pub record IsTexts (c : Texts) : Type 0 where
 abbrev pub part_at : List ℕ → List ℕ → ℕ → List ℕ
 part_at ends bytes i = let from = slice_index (0 ∷ ends) i in take (slice_index ends i - from) (drop from bytes)
 
--- room for one more number
-pub record HasIntRoom (c : Ints) : Type 0 where
-  pub values : vec_len c.values < vec_capacity c.values
-  pub nulls : vec_len c.nulls < vec_capacity c.nulls
+-- room for more numbers
+pub record HasIntRoom (more : ℕ) (c : Ints) : Type 0 where
+  pub values : vec_len c.values + more ≤ vec_capacity c.values
+  pub nulls : (vec_len c.values + more + 63) / 64 ≤ vec_capacity c.nulls
 
--- room for one more text of a length
-pub record HasTextRoom (count : ℕ) (c : Texts) : Type 0 where
+-- room for more texts, of so many bytes together
+pub record HasTextRoom (more count : ℕ) (c : Texts) : Type 0 where
   pub bytes : vec_len c.bytes + count ≤ vec_capacity c.bytes
-  pub ends : vec_len c.ends < vec_capacity c.ends
-  pub nulls : vec_len c.nulls < vec_capacity c.nulls
+  pub ends : vec_len c.ends + more ≤ vec_capacity c.ends
+  pub nulls : (vec_len c.ends + more + 63) / 64 ≤ vec_capacity c.nulls
 
 -- how many bytes a value has, where it is a text
 abbrev pub text_length : Value → ℕ

@@ -1,12 +1,12 @@
 -- A database whose tables have no more rows than may be stored, or the first table that has more.
-use Rattle.std.specs.Prelude.{◌≡◌, Bool, true, false, Option, Some, None, Result, Ok, Err, nat_le, nat_lt, length, if◌then◌else◌}
+use Rattle.std.specs.Prelude.{◌≡◌, Bool, true, false, List, [], ◌∷◌, Option, Some, None, Result, Ok, Err, nat_le, nat_lt, length, if◌then◌else◌}
 use Rattle.qc_types.specs.declared.names.TableName.{TableName}
 use Rattle.qc_types.specs.declared.memory.NoMemory.{NoMemory}
 use Rattle.qc_types.specs.declared.memory.Or.{Or}
 use Rattle.qc_types.specs.declared.memory.Or.TheVariants as or
 use Rattle.qc_table.specs.declared.database.TableFull.{TableFull}
 use Rattle.qc_sql.specs.declared.tables.RowOp.{RowOp}
-use Rattle.qc_sql.specs.Database.{Name, Database, Table, Tables, apply_one, most_rows}
+use Rattle.qc_sql.specs.Database.{Name, Database, Table, Tables, apply, most_rows}
 use Rattle.qc_model.specs.Licence.{is_within_rows}
 use Rattle.qc_model.specs.Machine.{full_in, full_table}
 
@@ -28,11 +28,14 @@ abbrev pub IsRefusal : TableName → Or TableFull → Type 0
 IsRefusal t or.Memory = Unit {0}
 IsRefusal t (or.Other full) = full.table ≡ t
 
--- at `Ok true` the operation was carried out and no table has too many rows, and else all is as before
+-- at `Ok true` the operations were carried out and no table has too many rows, and else all is as before
+abbrev pub AreCarriedOut : List RowOp → Database → Result Bool NoMemory → Database → Type 0
+AreCarriedOut ops before (Ok true) after = (after ≡ apply ops before) × (is_within_rows after ≡ true)
+AreCarriedOut ops before (Ok false) after = after ≡ before
+AreCarriedOut ops before (Err e) after = after ≡ before
+
 abbrev pub IsCarriedOut : RowOp → Database → Result Bool NoMemory → Database → Type 0
-IsCarriedOut op before (Ok true) after = (after ≡ apply_one op before) × (is_within_rows after ≡ true)
-IsCarriedOut op before (Ok false) after = after ≡ before
-IsCarriedOut op before (Err e) after = after ≡ before
+IsCarriedOut op = AreCarriedOut (op ∷ [])
 
 abbrev pub is_within : Table → Bool
 is_within t = nat_le (length t.rows) most_rows

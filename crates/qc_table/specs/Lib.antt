@@ -3,6 +3,7 @@ pub mod Borrowed
 pub mod Changes
 pub mod Columns
 pub mod Fitting
+pub mod Puts
 pub mod Stored
 pub mod Tables
 pub mod Views

@@ -1,5 +1,5 @@
 -- A table as it is stored: its keys, and its columns.
-use Rattle.std.specs.Prelude.{◌≡◌, ℕ, ℤ, Bool, true, false, List, [], ◌∷◌, ◌++◌, ◌<◌, ◌≤◌, map, length, Option, Some, None, slice_index_or, slice_set}
+use Rattle.std.specs.Prelude.{◌≡◌, ℕ, ℤ, Bool, true, false, List, [], ◌++◌, ◌<◌, map, length, sum_by, Option, Some, None, slice_index_or, slice_set}
 use Rattle.std.specs.List.{slice_get, range_with_len}
 use Rattle.std.specs.Prelude.{zip}
 use Rattle.qc_types.specs.declared.names.Value.{Value}
@@ -10,6 +10,7 @@ use Rattle.qc_sql.specs.Database.{MapOf, is_int}
 use Rattle.qc_table.specs.declared.cells.Cells.{Cells}
 use Rattle.qc_table.specs.declared.cells.Cells.TheVariants as cells
 use Rattle.qc_table.specs.Columns.{ints_of, text_length, texts_of, HasIntRoom, HasTextRoom, IsInts, IsTexts}
+use Rattle.qc_table.specs.Puts.{put_at, values_at, AreWide}
 use Rattle.qc_table.specs.Views.{kind_at, value_at}
 
 abbrev pub values_of : Cells → List Value
@@ -64,18 +65,26 @@ IsFilled (Some k) vs c = IsCells c × (values_of c ≡ vs) × (is_ints c ≡ is_
 abbrev pub AreFilled : List Column → MapOf ℤ (List Value) → ℕ → List Cells → Type 0
 AreFilled columns rows n cs = (length cs ≡ n) × ((j : ℕ) (c : Cells) → slice_get cs j ≡ Some c → IsFilled (kind_at columns j) (column_of j rows) c)
 
--- room for one more value
-abbrev pub HasRoom : Value → Cells → Type 0
-HasRoom v (cells.Ints c) = HasIntRoom c
-HasRoom v (cells.Texts c) = HasTextRoom (text_length v) c
+-- room for more values
+abbrev pub HasRoom : List Value → Cells → Type 0
+HasRoom vs (cells.Ints c) = HasIntRoom (length vs) c
+HasRoom vs (cells.Texts c) = HasTextRoom (length vs) (sum_by text_length vs) c
+
+-- a column takes the values of rows at an index
+abbrev pub TakesAll : ℕ → List (List Value) → Bool → Type 0
+TakesAll j rows b = (i : ℕ) → i < length rows → takes b (value_at (put_at rows i) j) ≡ true
 
 -- columns that take the values of a row
 abbrev pub TakeRow : List Value → List Cells → Type 0
 TakeRow row cs = (length cs ≡ length row) × ((j : ℕ) (c : Cells) → slice_get cs j ≡ Some c → IsCells c × (takes (is_ints c) (value_at row j) ≡ true))
 
--- columns that have room for the values of a row from an index on
-abbrev pub HaveRoom : ℕ → List Value → List Cells → Type 0
-HaveRoom from row cs = (j : ℕ) (c : Cells) → from ≤ j → slice_get cs j ≡ Some c → HasRoom (value_at row j) c
+-- columns that take the values of rows
+abbrev pub TakeRows : List (List Value) → List Cells → Type 0
+TakeRows rows cs = (j : ℕ) (c : Cells) → slice_get cs j ≡ Some c → IsCells c × AreWide j rows × TakesAll j rows (is_ints c)
+
+-- columns that have room for the values of rows
+abbrev pub HaveRoom : List (List Value) → List Cells → Type 0
+HaveRoom rows cs = (j : ℕ) (c : Cells) → slice_get cs j ≡ Some c → HasRoom (values_at j rows) c
 
 -- a column of the same kind whose values are made of its own
 abbrev pub IsMade : (List Value → List Value) → Option Cells → Cells → Type 0
@@ -103,6 +112,6 @@ CanPutRow i row cs = (j : ℕ) (c : Cells) → slice_get cs j ≡ Some c → Can
 abbrev pub with_one : ℕ → Value → List Value → List Value
 with_one i v vs = slice_set vs i v
 
--- one more value
-abbrev pub and_one : Value → List Value → List Value
-and_one v vs = vs ++ v ∷ []
+-- more values
+abbrev pub and_more : List Value → List Value → List Value
+and_more vs ws = ws ++ vs

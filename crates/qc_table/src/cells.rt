@@ -1,12 +1,14 @@
 //! Columns as they are stored.
 
-ghost use Rattle.std.specs.Prelude.{◌≡◌, ◌-◌, ◌<◌, ◌≤◌, [], ◌∷◌, ◌++◌, length, take, drop, true, false, option_copied, IsOk, OnOk, Some};
-ghost use Rattle.qc_table.specs.Columns.{text_length};
-ghost use Rattle.qc_table.specs.Stored.{is_ints, takes, values_of, with_one, CanPut, HasRoom, IsCells, IsMade};
+ghost use Rattle.std.specs.Prelude.{◌≡◌, ◌-◌, ◌<◌, ◌≤◌, [], ◌∷◌, ◌++◌, List, length, take, drop, true, false, option_copied, IsOk, OnOk, Some};
+ghost use Rattle.qc_types.specs.declared.names.Value.{Value};
+ghost use Rattle.qc_table.specs.Puts.{values_at, AreWide};
+ghost use Rattle.qc_table.specs.Stored.{and_more, is_ints, takes, values_of, with_one, CanPut, HasRoom, IsCells, IsMade, TakesAll};
 ghost use Rattle.qc_sql.specs.Database.{is_int};
 ghost use Rattle.qc_table.specs.Views.{int_value, text_value, value_at, IsNulls};
 
 use crate::ints::Ints;
+use crate::puts::Puts;
 use crate::texts::Texts;
 use qc_sql::tables::Kind;
 use qc_types::{NoMemory, Value};
@@ -32,17 +34,18 @@ impl Cells {
         }
     }
 
-    /// Makes room for a value. Linear in its length over many calls.
-    pub(crate) fn reserve(&mut self, value: &Value) -> Result<(), NoMemory>
+    /// Makes room for the values of rows in a column. Linear in what they hold over many calls.
+    pub(crate) fn reserve(&mut self, puts: &Puts<'_>, column: usize) -> Result<(), NoMemory>
         requires ready { IsCells self.old }
+        requires wide { AreWide column puts.now.rows }
         ensures ready { IsCells self.new }
         ensures kind { is_ints self.new ≡ is_ints self.old }
         ensures values { values_of self.new ≡ values_of self.old }
-        ensures room { OnOk result (HasRoom value.now self.new) }
+        ensures room { OnOk result (HasRoom (values_at column puts.now.rows) self.new) }
     {
         match self {
-            Cells::Ints(ints) => ints.reserve(),
-            Cells::Texts(texts) => texts.reserve(byte_count(value)),
+            Cells::Ints(ints) => ints.reserve(puts.len()),
+            Cells::Texts(texts) => texts.reserve(puts.len(), puts.byte_count(column)?),
         }
     }
 
@@ -53,11 +56,26 @@ impl Cells {
         ensures ready { OnOk result (IsCells self.new) }
         ensures kind { OnOk result (is_ints self.new ≡ is_ints self.old) }
         ensures values { OnOk result (values_of self.new ≡ values_of self.old ++ value.now ∷ []) }
-        ensures succeeds { HasRoom value.now self.old → IsOk result }
+        ensures room { (rest : List Value) → HasRoom (value.now ∷ rest) self.old → IsOk result × HasRoom rest self.new }
     {
         match self {
             Cells::Ints(ints) => ints.push(number(value)),
             Cells::Texts(texts) => texts.push(bytes(value)),
+        }
+    }
+
+    /// Puts the values of rows in a column of its kind at the end, for which there is room. Linear in what they hold.
+    pub(crate) fn push_all(&mut self, puts: &Puts<'_>, column: usize)
+        requires ready { IsCells self.old }
+        requires wide { AreWide column puts.now.rows }
+        requires takes { TakesAll column puts.now.rows (is_ints self.old) }
+        requires room { HasRoom (values_at column puts.now.rows) self.old }
+        ensures { IsMade (and_more (values_at column puts.now.rows)) (Some self.old) self.new }
+    {
+        for index in 0..puts.len() {
+            if self.push(puts.value(index, column)).is_err() {
+                unreachable!()
+            }
         }
     }
 
@@ -166,15 +184,5 @@ fn is_same(text: Option<&[u8]>, other: Option<&[u8]>) -> bool
         (None, None) => true,
         (Some(text), Some(other)) => text == other,
         (None, Some(_)) | (Some(_), None) => false,
-    }
-}
-
-/// How many bytes a value has, where it is a text.
-fn byte_count(value: &Value) -> usize
-    ensures { result ≡ text_length value.now }
-{
-    match value {
-        Value::Str(text) => text.bytes().len(),
-        Value::Null | Value::Int(_) => 0,
     }
 }

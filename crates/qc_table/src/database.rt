@@ -4,8 +4,8 @@ ghost use Rattle.std.specs.Prelude.{◌≡◌, true, is_some, length, option_cop
 ghost use Rattle.qc_types.specs.Answers.{Gives};
 ghost use Rattle.qc_sql.specs.Database.{apply, empty_database, table_of, tables_of};
 ghost use Rattle.qc_sql.specs.Order.{IsOrdered};
-ghost use Rattle.qc_model.specs.Licence.{is_within_rows, op_fits, ops_fit};
-ghost use Rattle.qc_table.specs.Fitting.{fitting, IsCarriedOut};
+ghost use Rattle.qc_model.specs.Licence.{is_within_rows, ops_fit};
+ghost use Rattle.qc_table.specs.Fitting.{fitting, AreCarriedOut};
 ghost use Rattle.qc_table.specs.Views.{tables_in};
 
 use crate::draft::Draft;
@@ -118,32 +118,30 @@ impl Database {
 
     /// Makes of it what the operations make, the first of them first, or names the first table that would have too many rows; it is as before then, and also
     /// where memory runs out. One operation alone is carried out in place where no other one shares the database: it costs the logarithm of how many databases
-    /// and tables there are, and what the table holds that it touches. Where no other one shares the version of that table, a row costs less: what it holds,
-    /// over many calls, where its key stands above all others, and beside it the logarithm of how many rows there are where it replaces one and no VARCHAR
-    /// changes. Else it costs as much as `apply`, which copies each table that is touched. The copy is shared with no one, so what comes next changes it in
-    /// place.
+    /// and tables there are, and what the table holds that it touches. Where no other one shares the version of that table either, rows cost less: what they
+    /// hold, over many calls, where all operations put rows into that table whose keys rise above all others, and of one row that replaces another, where no
+    /// VARCHAR changes, what it holds and the logarithm of how many rows there are. Else it costs as much as `apply`, which copies each table that is touched.
+    /// The copy is shared with no one, so what comes next changes it in place.
     pub fn change(&mut self, alloc: Global, ops: &Ops) -> Result<(), Or<TableFull>>
         requires { ops_fit ops.now self.old ≡ true }
         ensures made { Gives (λ _. self.new) (λ full. full.table) result (fitting (apply ops.now self.old)) }
         ensures kept { OnErr result (self.new ≡ self.old) }
     {
-        if let [op] = ops.items() {
-            if self.change_alone(alloc, op)? {
-                return Ok(());
-            }
+        if self.change_in_place(alloc, ops.items())? {
+            return Ok(());
         }
         *self = self.apply(alloc, ops)?;
         Ok(())
     }
 
-    /// Carries out one operation in place, or leaves all as it was where another one shares the database, where a table would have too many rows, and
-    /// where memory runs out.
-    fn change_alone(&mut self, alloc: Global, op: &RowOp) -> Result<bool, NoMemory>
-        requires { op_fits op.now self.old ≡ true }
-        ensures { IsCarriedOut op.now self.old result self.new }
+    /// Carries out operations in place, or leaves all as it was where another one shares the database, where they aren't of the kinds that are carried out so,
+    /// where a table would have too many rows, and where memory runs out.
+    fn change_in_place(&mut self, alloc: Global, ops: &[RowOp]) -> Result<bool, NoMemory>
+        requires { ops_fit ops.now self.old ≡ true }
+        ensures { AreCarriedOut ops.now self.old result self.new }
     {
         match Arc::get_mut(&mut self.databases) {
-            Some(databases) => carry_out(databases, alloc, op),
+            Some(databases) => carry_out(databases, alloc, ops),
             None => Ok(false),
         }
     }

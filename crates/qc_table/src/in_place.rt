@@ -1,14 +1,15 @@
-//! Databases that one operation changes where they stand.
+//! Databases that operations change where they stand.
 
 ghost use Rattle.std.specs.Prelude.{◌≡◌, [], true, IfOk};
 ghost use Rattle.qc_sql.specs.declared.tables.RowOp.TheVariants as op;
 ghost use Rattle.qc_sql.specs.Database.{with_row, without_row};
-ghost use Rattle.qc_model.specs.Licence.{columns_fit, is_within_rows, op_fits, row_fits};
-ghost use Rattle.qc_table.specs.Fitting.{IsCarriedOut, IsChanged};
+ghost use Rattle.qc_model.specs.Licence.{columns_fit, is_within_rows, op_fits, ops_fit, row_fits};
+ghost use Rattle.qc_table.specs.Fitting.{AreCarriedOut, IsCarriedOut, IsChanged};
 
 use crate::draft_table::DraftTable;
 use crate::merge::empty;
 use crate::name_map::NameMap;
+use crate::puts::Puts;
 use crate::table_version::TableVersion;
 use qc_sql::tables::{Columns, RowOp, StoredRow};
 use qc_types::{NoMemory, TableName, Text};
@@ -17,13 +18,50 @@ use std::alloc::Global;
 /// The tables of each database.
 pub(crate) type Databases = NameMap<NameMap<TableVersion>>;
 
-/// Carries out one operation. Answers `false`, and leaves all as it was, where a table would have too many rows. Costs the logarithm of how many databases
-/// and tables there are, and what the table holds that is touched.
+/// Carries out operations: rows that come behind the others of one table, or one operation of any kind. Answers `false`, and leaves all as it was, where they
+/// are others, and where a table would have too many rows. Costs the logarithm of how many databases and tables there are, and what the rows hold over many
+/// calls, or what the table holds that one operation touches.
 pub(crate) fn carry_out(
     databases: &mut Databases,
     alloc: Global,
-    op: &RowOp,
+    ops: &[RowOp],
 ) -> Result<bool, NoMemory>
+    requires fits { ops_fit ops.now databases.old ≡ true }
+    requires within { is_within_rows databases.old ≡ true }
+    ensures { AreCarriedOut ops.now databases.old result databases.new }
+{
+    if append(databases, ops)? {
+        return Ok(true);
+    }
+    match ops {
+        [op] => carry_out_one(databases, alloc, op),
+        _ => Ok(false),
+    }
+}
+
+/// Puts rows behind the others of one table. Answers `false`, and leaves all as it was, where the operations are others, where the version of the table is
+/// shared, where the keys don't rise above those that it has, and where it would have too many rows.
+fn append(databases: &mut Databases, ops: &[RowOp]) -> Result<bool, NoMemory>
+    requires fits { ops_fit ops.now databases.old ≡ true }
+    requires within { is_within_rows databases.old ≡ true }
+    ensures { AreCarriedOut ops.now databases.old result databases.new }
+{
+    let Some(puts) = Puts::of(ops) else {
+        return Ok(false);
+    };
+    let table = puts.table();
+    let Some(tables) = databases.get_mut(table.db.bytes()) else {
+        unreachable!()
+    };
+    let Some(version) = tables.get_mut(table.name.bytes()) else {
+        unreachable!()
+    };
+    version.append(&puts)
+}
+
+/// Carries out one operation. Answers `false`, and leaves all as it was, where a table would have too many rows. Costs the logarithm of how many databases
+/// and tables there are, and what the table holds that is touched.
+fn carry_out_one(databases: &mut Databases, alloc: Global, op: &RowOp) -> Result<bool, NoMemory>
     requires fits { op_fits op.now databases.old ≡ true }
     requires within { is_within_rows databases.old ≡ true }
     ensures { IsCarriedOut op.now databases.old result databases.new }
@@ -134,15 +172,12 @@ impl TableVersion {
     }
 
     /// Puts a copy of the row, in the place of the one that its key may have. Answers `false`, and leaves all as it was, where there would be too many rows.
-    /// Where no other one shares the version, it costs what the row holds over many calls where it comes behind the others, and the logarithm of how many there
-    /// are beside where it replaces one of the same texts; else what all rows hold.
+    /// Costs what the row holds, and the logarithm of how many rows there are, where it replaces one of the same texts and no other one shares the version;
+    /// else what all rows hold.
     fn put(&mut self, alloc: Global, row: &StoredRow) -> Result<bool, NoMemory>
         requires { row_fits self.old.columns row.now ≡ true }
         ensures { IsChanged (with_row row.now self.old) self.old result self.new }
     {
-        if self.append(row)? {
-            return Ok(true);
-        }
         if self.replace(row) {
             return Ok(true);
         }

@@ -1,10 +1,10 @@
 //! BIGINT columns as they are stored.
 
-ghost use Rattle.std.specs.Prelude.{◌≡◌, ◌<◌, [], ◌∷◌, ◌++◌, length, slice_set, IsOk, OnOk};
+ghost use Rattle.std.specs.Prelude.{◌≡◌, ℕ, suc, ◌<◌, [], ◌∷◌, ◌++◌, length, slice_set, IsOk, OnOk};
 ghost use Rattle.qc_table.specs.Columns.{ints_of, HasIntRoom, IsInts};
 ghost use Rattle.qc_table.specs.Views.{int_value, value_at};
 
-use crate::nulls::{has_bit, push_bit, put_bit};
+use crate::nulls::{has_bit, push_bit, put_bit, reserve_bits};
 use qc_types::NoMemory;
 use std::alloc::Global;
 
@@ -26,15 +26,15 @@ impl Ints {
         }
     }
 
-    /// Makes room for one more. Constant time over many calls.
-    pub(crate) fn reserve(&mut self) -> Result<(), NoMemory>
+    /// Makes room for more. Linear in their number over many calls.
+    pub(crate) fn reserve(&mut self, more: usize) -> Result<(), NoMemory>
         requires { IsInts self.old }
         ensures same { ints_of self.new ≡ ints_of self.old }
         ensures ready { IsInts self.new }
-        ensures room { OnOk result (HasIntRoom self.new) }
+        ensures room { OnOk result (HasIntRoom more self.new) }
     {
-        self.values.reserve(1)?;
-        self.nulls.reserve(1)?;
+        self.values.reserve(more)?;
+        reserve_bits(&mut self.nulls, more)?;
         Ok(())
     }
 
@@ -43,7 +43,7 @@ impl Ints {
         requires { IsInts self.old }
         ensures ready { OnOk result (IsInts self.new) }
         ensures values { OnOk result (ints_of self.new ≡ ints_of self.old ++ int_value value ∷ []) }
-        ensures succeeds { HasIntRoom self.old → IsOk result }
+        ensures room { (more : ℕ) → HasIntRoom (suc more) self.old → IsOk result × HasIntRoom more self.new }
     {
         push_bit(&mut self.nulls, self.values.len(), value.is_none())?;
         self.values.push(value.unwrap_or(0))?;

@@ -12,6 +12,7 @@ mod keys;
 mod merge;
 mod name_map;
 mod nulls;
+mod puts;
 mod row_ends;
 mod row_places;
 mod table_rows;

@@ -1,10 +1,19 @@
 //! Bits that tell which values are NULL.
 
-ghost use Rattle.std.specs.Prelude.{◌≡◌, ◌+◌, ◌/◌, ◌<◌, ◌^◌, ◌==◌, ℕ, false, true, length, IsOk, OnOk, if◌then◌else◌};
-ghost use Rattle.std.specs.Vec.{vec_capacity, vec_len};
+ghost use Rattle.std.specs.Prelude.{◌≡◌, ◌+◌, ◌/◌, ◌<◌, ◌≤◌, ◌^◌, ◌==◌, ℕ, false, true, length, IsOk, OnOk, if◌then◌else◌};
+ghost use Rattle.std.specs.Vec.{vec_capacity};
 ghost use Rattle.qc_table.specs.Bits.{bit_at, IsPacked};
 
 use qc_types::NoMemory;
+
+/// Makes room for more bits behind those that there are so far. Linear in their number over many calls.
+pub(crate) fn reserve_bits(words: &mut Vec<u64>, more: usize) -> Result<(), NoMemory>
+    ensures same { words.new.items ≡ words.old.items }
+    ensures room { (at : ℕ) → IsPacked words.old.items at → OnOk result ((at + more + 63) / 64 ≤ vec_capacity words.new) }
+{
+    words.reserve(more / 64 + 1)?;
+    Ok(())
+}
 
 /// Puts a bit behind those that there are so far, in words of 64 whose other bits are 0. Constant time over many calls.
 pub(crate) fn push_bit(words: &mut Vec<u64>, at: usize, bit: bool) -> Result<(), NoMemory>
@@ -12,7 +21,8 @@ pub(crate) fn push_bit(words: &mut Vec<u64>, at: usize, bit: bool) -> Result<(),
     requires small { at < 2 ^ 63 }
     ensures packed { OnOk result (IsPacked words.new.items (at + 1)) }
     ensures bits { OnOk result ((i : ℕ) → bit_at words.new.items i ≡ (if i == at then bit else bit_at words.old.items i)) }
-    ensures succeeds { vec_len words.old < vec_capacity words.old → IsOk result }
+    ensures succeeds { (at + 64) / 64 ≤ vec_capacity words.old → IsOk result }
+    ensures capacity { vec_capacity words.old ≤ vec_capacity words.new }
 {
     make_room(words, at)?;
     if bit {
@@ -26,7 +36,8 @@ fn make_room(words: &mut Vec<u64>, at: usize) -> Result<(), NoMemory>
     requires { IsPacked words.old.items at }
     ensures enough { OnOk result (length words.new.items ≡ at / 64 + 1) }
     ensures same { OnOk result ((i : ℕ) → bit_at words.new.items i ≡ bit_at words.old.items i) }
-    ensures succeeds { vec_len words.old < vec_capacity words.old → IsOk result }
+    ensures succeeds { (at + 64) / 64 ≤ vec_capacity words.old → IsOk result }
+    ensures capacity { vec_capacity words.old ≤ vec_capacity words.new }
 {
     if at % 64 == 0 {
         words.push(0)?;

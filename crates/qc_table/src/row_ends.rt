@@ -1,43 +1,32 @@
-//! A row at the end of columns.
+//! Rows at the end of columns.
 
-ghost use Rattle.std.specs.Prelude.{◌≡◌, true, OnOk, Some};
-ghost use Rattle.qc_table.specs.Stored.{and_one, is_ints, takes, AreMade, HasRoom, HaveRoom, IsCells, IsMade, TakeRow};
-ghost use Rattle.qc_table.specs.Views.{value_at};
+ghost use Rattle.std.specs.Prelude.{◌≡◌, OnOk};
+ghost use Rattle.qc_table.specs.Puts.{values_at};
+ghost use Rattle.qc_table.specs.Stored.{and_more, AreMade, HaveRoom, TakeRows};
 
 use crate::cells::Cells;
-use qc_types::{NoMemory, Value};
+use crate::puts::Puts;
+use qc_types::NoMemory;
 
-/// Makes room for a row. Linear in what it holds over many calls.
-pub(crate) fn reserve_row(cells: &mut Vec<Cells>, row: &[Value]) -> Result<(), NoMemory>
-    requires { TakeRow row.now cells.old.items }
+/// Makes room for rows. Linear in what they hold over many calls.
+pub(crate) fn reserve_rows(cells: &mut Vec<Cells>, puts: &Puts<'_>) -> Result<(), NoMemory>
+    requires { TakeRows puts.now.rows cells.old.items }
     ensures same { AreMade (λ j vs. vs) cells.old.items cells.new.items }
-    ensures room { OnOk result (HaveRoom 0 row.now cells.new.items) }
+    ensures room { OnOk result (HaveRoom puts.now.rows cells.new.items) }
 {
-    for index in 0..row.len() {
-        cells[index].reserve(&row[index])?;
+    for index in 0..cells.len() {
+        cells[index].reserve(puts, index)?;
     }
     Ok(())
 }
 
-/// Puts a row at the end, for which there is room. Linear in what it holds.
-pub(crate) fn push_row(cells: &mut Vec<Cells>, row: &[Value])
-    requires takes { TakeRow row.now cells.old.items }
-    requires room { HaveRoom 0 row.now cells.old.items }
-    ensures { AreMade (λ j. and_one (value_at row.now j)) cells.old.items cells.new.items }
+/// Puts rows at the end, for which there is room. Linear in what they hold.
+pub(crate) fn push_rows(cells: &mut Vec<Cells>, puts: &Puts<'_>)
+    requires takes { TakeRows puts.now.rows cells.old.items }
+    requires room { HaveRoom puts.now.rows cells.old.items }
+    ensures { AreMade (λ j. and_more (values_at j puts.now.rows)) cells.old.items cells.new.items }
 {
-    for index in 0..row.len() {
-        push_value(&mut cells[index], &row[index]);
-    }
-}
-
-/// Puts a value at the end, for which there is room.
-fn push_value(cells: &mut Cells, value: &Value)
-    requires ready { IsCells cells.old }
-    requires takes { takes (is_ints cells.old) value.now ≡ true }
-    requires room { HasRoom value.now cells.old }
-    ensures { IsMade (and_one value.now) (Some cells.old) cells.new }
-{
-    if cells.push(value).is_err() {
-        unreachable!()
+    for index in 0..cells.len() {
+        cells[index].push_all(puts, index);
     }
 }

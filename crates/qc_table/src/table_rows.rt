@@ -1,20 +1,24 @@
 //! Tables as they are stored.
 
-ghost use Rattle.std.specs.Prelude.{◌≡◌, ◌-◌, ◌<◌, ◌≤◌, [], ◌∷◌, ◌++◌, length, take, drop, map, option_copied, IfOk, IfSome, Ok, OnOk, Some, true};
+ghost use Rattle.std.specs.Prelude.{◌≡◌, ◌+◌, ◌-◌, ◌<◌, ◌≤◌, [], ◌∷◌, ◌++◌, length, take, drop, map, option_copied, IfOk, IfSome, Ok, OnOk, Some, true};
+ghost use Rattle.std.specs.List.{list_all};
 ghost use Rattle.std.specs.Map.{keys_of};
 ghost use Rattle.std.specs.Vec.{vec_capacity, vec_len};
 ghost use Rattle.qc_sql.specs.declared.tables.Kind.TheVariants as kind;
-ghost use Rattle.qc_sql.specs.Database.{key_value, is_int, most_rows, with_row};
+ghost use Rattle.qc_sql.specs.Database.{key_of, key_value, is_int, most_rows, with_row};
 ghost use Rattle.qc_model.specs.Licence.{columns_fit, row_fits};
 ghost use Rattle.qc_model.specs.Sound.{IsSoundTable};
-ghost use Rattle.qc_table.specs.Changes.{above, below, is_above};
+ghost use Rattle.qc_table.specs.Changes as changes;
+ghost use Rattle.qc_table.specs.Changes.{above, below, last_of};
 ghost use Rattle.qc_table.specs.Fitting.{IsChanged};
+ghost use Rattle.qc_table.specs.Puts.{with_rows};
 ghost use Rattle.qc_table.specs.Stored.{column_of, is_ints, rows_of, values_of, IsCells, IsStore};
 ghost use Rattle.qc_table.specs.Views.{int_value, text_value, kind_at, row_at, value_at, IsNulls, IsTextAt, IsWithin};
 
 use crate::cells::Cells;
 use crate::keys::key_of_row;
-use crate::row_ends::{push_row, reserve_row};
+use crate::puts::Puts;
+use crate::row_ends::{push_rows, reserve_rows};
 use crate::row_places::{can_put_row, put_row};
 use qc_sql::tables::{Columns, StoredRow};
 use qc_types::NoMemory;
@@ -134,20 +138,23 @@ impl TableRows {
         Cut { end, next: end }
     }
 
-    /// Puts a copy of the row behind the others, where it stands. Answers `false`, and leaves all as it was, where its key doesn't stand above theirs or there
-    /// would be too many rows. Costs what the row holds over many calls.
-    pub(crate) fn append(&mut self, row: &StoredRow) -> Result<bool, NoMemory>
-        requires { row_fits self.old.columns row.now ≡ true }
-        ensures { IsChanged (with_row row.now self.old) self.old result self.new }
+    /// Puts copies of the rows behind the others, where they stand, for which all memory is taken before. Answers `false`, and leaves all as it was, where their
+    /// keys don't rise above those of the others or there would be too many rows. Costs what the rows hold over many calls.
+    pub(crate) fn append(&mut self, puts: &Puts<'_>) -> Result<bool, NoMemory>
+        requires fits { list_all (row_fits self.old.columns) puts.now.rows ≡ true }
+        requires within { length self.old.rows ≤ most_rows }
+        ensures { IsChanged (with_rows puts.now.rows self.old) self.old result self.new }
     {
-        let key = key_of_row(&self.columns, row);
-        if !stands_above(&self.keys, key) || self.keys.len() >= MOST_ROWS {
+        if puts.len() > MOST_ROWS - self.keys.len() {
             return Ok(false);
         }
-        self.keys.reserve(1)?;
-        reserve_row(&mut self.cells, row.items())?;
-        push_row(&mut self.cells, row.items());
-        push_key(&mut self.keys, key);
+        if !rise_behind(last_key(&self.keys), &self.columns, puts) {
+            return Ok(false);
+        }
+        self.keys.reserve(puts.len())?;
+        reserve_rows(&mut self.cells, puts)?;
+        push_rows(&mut self.cells, puts);
+        push_keys(&mut self.keys, &self.columns, puts);
         Ok(true)
     }
 
@@ -214,17 +221,57 @@ impl TableRows {
     }
 }
 
-/// Whether a key stands above all of those that rise.
-fn stands_above(keys: &[i64], key: i64) -> bool
-    ensures { result ≡ is_above key keys.now }
+/// The last of some keys.
+fn last_key(keys: &[i64]) -> Option<i64>
+    ensures { result ≡ last_of keys.now }
 {
-    keys.is_empty() || keys[keys.len() - 1] < key
+    if keys.is_empty() {
+        return None;
+    }
+    Some(keys[keys.len() - 1])
+}
+
+/// Whether the keys of rows rise, behind a last one where there is one.
+fn rise_behind(last: Option<i64>, columns: &Columns, puts: &Puts<'_>) -> bool
+    ensures { result ≡ changes.rise_behind last (map (key_of columns.now) puts.now.rows) }
+{
+    let mut last = last;
+    for index in 0..puts.len() {
+        let key = key_of_row(columns, puts.row(index));
+        if !stands_behind(last, key) {
+            return false;
+        }
+        last = Some(key);
+    }
+    true
+}
+
+/// Whether a key stands above the last one, where there is one.
+fn stands_behind(last: Option<i64>, key: i64) -> bool
+    ensures { result ≡ changes.stands_behind last key }
+{
+    match last {
+        None => true,
+        Some(last) => last < key,
+    }
+}
+
+/// Puts the keys of rows behind the others, for which there is room.
+fn push_keys(keys: &mut Vec<i64>, columns: &Columns, puts: &Puts<'_>)
+    requires { vec_len keys.old + length puts.now.rows ≤ vec_capacity keys.old }
+    ensures { keys.new.items ≡ keys.old.items ++ map (key_of columns.now) puts.now.rows }
+{
+    for index in 0..puts.len() {
+        push_key(keys, key_of_row(columns, puts.row(index)));
+    }
 }
 
 /// Puts a key behind the others, for which there is room.
 fn push_key(keys: &mut Vec<i64>, key: i64)
     requires { vec_len keys.old < vec_capacity keys.old }
-    ensures { keys.new.items ≡ keys.old.items ++ key ∷ [] }
+    ensures items { keys.new.items ≡ keys.old.items ++ key ∷ [] }
+    ensures len { vec_len keys.new ≡ vec_len keys.old + 1 }
+    ensures capacity { vec_capacity keys.old ≤ vec_capacity keys.new }
 {
     if keys.push(key).is_err() {
         unreachable!()

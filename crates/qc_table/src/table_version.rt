@@ -1,7 +1,7 @@
 //! Versions of tables.
 
 ghost use Rattle.std.specs.Prelude.{◌≡◌, true, ◌+◌, ◌<◌, ◌≤◌, length, None, Some, Ok, IfOk, MatchOption};
-ghost use Rattle.std.specs.List.{slice_get};
+ghost use Rattle.std.specs.List.{list_all, slice_get};
 ghost use Rattle.std.specs.Ordering.{int_cmp};
 ghost use Rattle.std.specs.BTreeMap.{is_at};
 ghost use Rattle.std.specs.Map.{keys_of, lookup};
@@ -10,9 +10,11 @@ ghost use Rattle.qc_sql.specs.Order.{RowsRise};
 ghost use Rattle.qc_model.specs.Licence.{row_fits};
 ghost use Rattle.qc_model.specs.Sound.{IsSoundTable};
 ghost use Rattle.qc_table.specs.Fitting.{IsChanged};
+ghost use Rattle.qc_table.specs.Puts.{with_rows};
 ghost use Rattle.qc_table.specs.Tables.{IsStored};
 ghost use Rattle.qc_table.specs.Views.{kind_at, column_values, row_values};
 
+use crate::puts::Puts;
 use crate::table_rows::TableRows;
 use crate::views::{ColumnView, RowView};
 use qc_sql::tables::{Columns, StoredRow};
@@ -80,14 +82,14 @@ impl TableVersion {
         })
     }
 
-    /// Puts a copy of the row behind the others, where it stands. Answers `false`, and leaves all as it was, where another one shares the version, where the
-    /// row's key doesn't stand above theirs, and where there would be too many rows. Costs what the row holds over many calls.
-    pub(crate) fn append(&mut self, row: &StoredRow) -> Result<bool, NoMemory>
-        requires { row_fits self.old.columns row.now ≡ true }
-        ensures { IsChanged (with_row row.now self.old) self.old result self.new }
+    /// Puts copies of the rows behind the others, where they stand. Answers `false`, and leaves all as it was, where another one shares the version, where the
+    /// rows' keys don't rise above theirs, and where there would be too many rows. Costs what the rows hold over many calls.
+    pub(crate) fn append(&mut self, puts: &Puts<'_>) -> Result<bool, NoMemory>
+        requires { list_all (row_fits self.old.columns) puts.now.rows ≡ true }
+        ensures { IsChanged (with_rows puts.now.rows self.old) self.old result self.new }
     {
         match Arc::get_mut(&mut self.stored) {
-            Some(rows) => rows.append(row),
+            Some(rows) => rows.append(puts),
             None => Ok(false),
         }
     }

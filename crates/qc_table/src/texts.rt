@@ -1,10 +1,10 @@
 //! VARCHAR columns as they are stored.
 
-ghost use Rattle.std.specs.Prelude.{◌≡◌, ◌<◌, ◌≤◌, [], ◌∷◌, ◌++◌, length, option_copied, slice_index, IsOk, OnOk};
+ghost use Rattle.std.specs.Prelude.{◌≡◌, ℕ, suc, ◌+◌, ◌<◌, ◌≤◌, [], ◌∷◌, ◌++◌, length, option_copied, slice_index, IsOk, OnOk};
 ghost use Rattle.qc_table.specs.Columns.{part_at, text_length, texts_of, HasTextRoom, IsTexts};
 ghost use Rattle.qc_table.specs.Views.{text_value, value_at};
 
-use crate::nulls::{has_bit, push_bit};
+use crate::nulls::{has_bit, push_bit, reserve_bits};
 use qc_types::NoMemory;
 use std::alloc::Global;
 
@@ -35,16 +35,16 @@ impl Texts {
         }
     }
 
-    /// Makes room for one more of this length. Linear in it over many calls.
-    pub(crate) fn reserve(&mut self, len: usize) -> Result<(), NoMemory>
+    /// Makes room for more, of so many bytes together. Linear in both over many calls.
+    pub(crate) fn reserve(&mut self, more: usize, byte_count: usize) -> Result<(), NoMemory>
         requires { IsTexts self.old }
         ensures same { texts_of self.new ≡ texts_of self.old }
         ensures ready { IsTexts self.new }
-        ensures room { OnOk result (HasTextRoom len self.new) }
+        ensures room { OnOk result (HasTextRoom more byte_count self.new) }
     {
-        self.bytes.reserve(len)?;
-        self.ends.reserve(1)?;
-        self.nulls.reserve(1)?;
+        self.bytes.reserve(byte_count)?;
+        self.ends.reserve(more)?;
+        reserve_bits(&mut self.nulls, more)?;
         Ok(())
     }
 
@@ -53,7 +53,7 @@ impl Texts {
         requires { IsTexts self.old }
         ensures ready { OnOk result (IsTexts self.new) }
         ensures values { OnOk result (texts_of self.new ≡ texts_of self.old ++ text_value (option_copied text.entry) ∷ []) }
-        ensures succeeds { HasTextRoom (text_length (text_value (option_copied text.entry))) self.old → IsOk result }
+        ensures room { (more count : ℕ) → HasTextRoom (suc more) (text_length (text_value (option_copied text.entry)) + count) self.old → IsOk result × HasTextRoom more count self.new }
     {
         push_bit(&mut self.nulls, self.ends.len(), text.is_none())?;
         self.bytes.extend_from_slice(text.unwrap_or(&[]))?;

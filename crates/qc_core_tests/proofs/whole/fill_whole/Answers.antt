@@ -12,7 +12,7 @@ pub put-requires-clause-next : goal.put-requires-clause-next
 put-requires-clause-next g c =
     let l = c.loop-rest in
     let i = l.invariant in
-    next_of l.fill.serial l.rest c.next_packet-packet.result (view l.seat) i.left (c.next_packet-packet.ensures.cut i.left.later i.left.spells i.left.cut)
+    next_of l.fill.serial l.rest.now c.next_packet-packet.result.now (view l.seat) i.left (c.next_packet-packet.ensures.cut i.left.later i.left.spells i.left.cut)
 
 pub loop-rest-preserved : goal.loop-rest-preserved
 loop-rest-preserved g c =
@@ -21,7 +21,7 @@ loop-rest-preserved g c =
     let p = c.put.new in
     let e = c.in-More.ensures in
     let s = e.step in
-    let left = left_behind l.fill.serial l.rest c.next_packet-packet.result (view l.seat) (view p.seat) i.left (c.next_packet-packet.ensures.cut i.left.later i.left.spells i.left.cut) c.put.ensures.goes_on.seen s.content in
+    let left = left_behind l.fill.serial l.rest.now c.next_packet-packet.result.now (view l.seat) (view p.seat) i.left (c.next_packet-packet.ensures.cut i.left.later i.left.spells i.left.cut) c.put.ensures.goes_on.seen s.content in
     record {
       seated = c.put.ensures.seated.0;
       fills = s.fills;
@@ -29,13 +29,13 @@ loop-rest-preserved g c =
       same = same_again c.args.seat.now l.seat p.seat i.same (goes_same l.seat p.seat c.put.ensures.goes_on);
     }
 
-pub end-requires-clause-whole : goal.end-requires-clause-whole
-end-requires-clause-whole g c =
+pub end-ended-requires-clause-whole : goal.end-ended-requires-clause-whole
+end-ended-requires-clause-whole g c =
     let l = c.loop-rest in
-    whole_left l.fill.serial l.rest (view l.seat) c.loop-rest-test.false l.invariant.left
+    whole_left l.fill.serial l.rest.now (view l.seat) c.loop-rest-test.false l.invariant.left
 
 pub returns : goal.returns
 returns g c =
     let l = c.loop-rest in
-    let e = c.end.ensures in
-    (record { seated = e.seated.0; task = e.ended.rests.task }, same_again c.args.seat.now l.seat c.end.new.seat l.invariant.same (goes_same l.seat c.end.new.seat e.goes_on))
+    let e = c.end-ended.ensures in
+    (record { seated = e.seated.0; task = e.ended.rests.task }, same_again c.args.seat.now l.seat c.end-ended.new.seat l.invariant.same (goes_same l.seat c.end-ended.new.seat e.goes_on))

@@ -1,5 +1,5 @@
 -- The database is there, and what is inserted into its tables changes it there alone.
-use Rattle.std.proofs.Common.{◌≡◌, [], refl, ap, true}
+use Rattle.std.proofs.Common.{◌≡◌, [], ◌∷◌, refl, ap, true}
 use Rattle.std.specs.Prelude.{is_some}
 use Rattle.std.specs.BTreeMap.{insert_entry}
 use Rattle.qc_sql.specs.Database.{Table, name_cmp, tables_of}
@@ -39,4 +39,4 @@ returns-in_err-insert c =
     let found = rw c.bytes.ensures at c.in-Some.ensures.value in
     let ends = rw c.bytes.ensures at (c.get_mut.follows.holds c.insert.new.self) in
     let same = stays c.args.databases.now (c.get_mut.follows.lender c.insert.new.self) c.args.table.now.db c.in-Some.tables.now c.insert.new.self ends found c.in_err-insert.ensures.err in
-    refused (op.CreateTable c.args.table.now c.args.columns.now) c.args.databases.now _ c.from_residual-in_err-insert.result _ c.from_residual-in_err-insert.ensures.1 same
+    refused (op.CreateTable c.args.table.now c.args.columns.now ∷ []) c.args.databases.now _ c.from_residual-in_err-insert.result _ c.from_residual-in_err-insert.ensures.1 same

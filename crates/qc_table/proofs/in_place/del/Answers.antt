@@ -1,5 +1,5 @@
 -- The table is there, and what changes it changes the tables of its database, and these the whole.
-use Rattle.std.proofs.Common.{ap, ◌∙◌, refl, w64}
+use Rattle.std.proofs.Common.{[], ◌∷◌, ap, ◌∙◌, refl, w64}
 use Rattle.std.specs.Prelude.{option_and_then}
 use Rattle.std.proofs.lemmas.Int.{to_z-of_z}
 use Rattle.qc_sql.specs.declared.tables.RowOp.TheVariants as op
@@ -25,4 +25,4 @@ returns c =
     let version = rw (c.bytes-2.ensures) at c.in-Some-get_mut.ensures.value in
     let outer = rw c.bytes.ensures at (c.get_mut.follows.holds (c.get_mut-2.follows.lender c.del.new.self)) in
     let inner = rw (c.bytes-2.ensures) at (c.get_mut-2.follows.holds c.del.new.self) in
-    table_carried (op.Del c.args.table.now c.args.key) _ _ c.args.table.now (without_row c.args.key) refl _ _ outer tables _ _ inner version c.requires.within c.del.result (rw (to_z-of_z w64 c.args.key c.ranges.key) at c.del.ensures)
+    table_carried (op.Del c.args.table.now c.args.key ∷ []) _ _ c.args.table.now (without_row c.args.key) refl _ _ outer tables _ _ inner version c.requires.within c.del.result (rw (to_z-of_z w64 c.args.key c.ranges.key) at c.del.ensures)

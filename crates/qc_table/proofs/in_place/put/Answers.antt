@@ -1,5 +1,5 @@
 -- The table is there, and what changes it changes the tables of its database, and these the whole.
-use Rattle.std.proofs.Common.{ap, ◌∙◌, refl}
+use Rattle.std.proofs.Common.{[], ◌∷◌, ap, ◌∙◌, refl}
 use Rattle.std.specs.Prelude.{option_and_then}
 use Rattle.qc_sql.specs.declared.tables.RowOp.TheVariants as op
 use Rattle.qc_sql.specs.Database.{at_name, with_row}
@@ -30,4 +30,4 @@ returns c =
     let version = rw (c.bytes-2.ensures) at c.in-Some-get_mut.ensures.value in
     let outer = rw c.bytes.ensures at (c.get_mut.follows.holds (c.get_mut-2.follows.lender c.put.new.self)) in
     let inner = rw (c.bytes-2.ensures) at (c.get_mut-2.follows.holds c.put.new.self) in
-    table_carried (op.Put c.args.table.now c.args.row.now) _ _ c.args.table.now (with_row c.args.row.now) refl _ _ outer tables _ _ inner version c.requires.within c.put.result c.put.ensures
+    table_carried (op.Put c.args.table.now c.args.row.now ∷ []) _ _ c.args.table.now (with_row c.args.row.now) refl _ _ outer tables _ _ inner version c.requires.within c.put.result c.put.ensures

@@ -9,6 +9,6 @@ invariant_of-self c =
     elim c.match-get_mut.branch [
       | in-Some w ↦
           let stored : IsStored w.in-Some.rows.now = rw w.in-Some.ensures.value c.self.invariant in
-          rw w.self-inside-is (put_stored w.in-Some.rows.now w.append.new.self c.args.row.now w.append.result stored (rw (w.in-Some.ensures.value) (rw (← c.self.view_is) at c.requires)) w.append.ensures)
+          rw w.self-inside-is (put_stored w.in-Some.rows.now w.append.new.self c.args.puts.now.rows w.append.result stored (rw (w.in-Some.ensures.value) (rw (← c.self.view_is) at c.requires)) w.append.ensures)
       | in-None w ↦ rw w.self-inside-is c.self.invariant
     ]

@@ -1,0 +1,14 @@
+-- A text takes its part of the room.
+use Rattle.std.proofs.Common.{◌+◌, length, suc, subst, sym}
+use Rattle.std.specs.Prelude.{sum_by}
+use Rattle.std.proofs.lemmas.List.Sums.{sum_by-cons}
+use Rattle.qc_table.specs.Columns.{text_length, HasTextRoom}
+use Rattle.qc_table.proofs.cells.Cells.push.Goals as goal
+
+pub returns-in-Texts-clause-room : goal.returns-in-Texts-clause-room
+returns-in-Texts-clause-room c = λ rest room.
+    let texts = c.in-Texts.texts in
+    let left = sum_by text_length rest in
+    let has = rw c.in-Texts.is at room in
+    let counted = subst (λ n. HasTextRoom (suc (length rest)) n texts) (sum_by-cons text_length c.args.value.now rest) has in
+    c.push-in-Texts.ensures.room (length rest) left (subst (λ v. HasTextRoom (suc (length rest)) (text_length v + left) texts) (sym c.bytes.ensures) counted)

@@ -1,0 +1,27 @@
+-- One operation alone is carried out on the database that is as it was.
+use Rattle.std.proofs.Common.{◌≡◌, ◌∙◌, [], ◌∷◌, ap, sym, subst, true}
+use Rattle.std.specs.Prelude.{Ok}
+use Rattle.qc_sql.specs.Database.{apply_one}
+use Rattle.qc_model.specs.Licence.{op_fits, ops_fit}
+use Rattle.qc_table.specs.Fitting.{AreCarriedOut}
+use Rattle.qc_table.proofs.InPlace.{alone, left}
+use Rattle.qc_table.proofs.Rows.{both}
+use Rattle.qc_table.proofs.in_place.carry_out.Goals as goal
+
+pub carry_out_one-requires-clause-fits : goal.carry_out_one-requires-clause-fits
+carry_out_one-requires-clause-fits c =
+    let d = c.args.databases.now in
+    let op = c.op-item.result in
+    let one = alone op c.args.ops.now c.in-len1.len_below c.in-len1.len_at_least c.op-item.is in
+    let fits = both (op_fits op d) (ops_fit [] (apply_one op d)) (subst (λ os. ops_fit os d ≡ true) one c.requires.fits) in
+    let same = left c.args.ops.now d c.append.new.databases c.append.result (c.in_ok-append.was ∙ ap Ok c.if-branch.false) c.append.ensures in
+    subst (λ e. op_fits op e ≡ true) (sym same) fits.0
+
+pub returns-in-len1 : goal.returns-in-len1
+returns-in-len1 c =
+    let d = c.args.databases.now in
+    let op = c.op-item.result in
+    let one = alone op c.args.ops.now c.in-len1.len_below c.in-len1.len_at_least c.op-item.is in
+    let same = left c.args.ops.now d c.append.new.databases c.append.result (c.in_ok-append.was ∙ ap Ok c.if-branch.false) c.append.ensures in
+    let carried = subst (λ e. AreCarriedOut (op ∷ []) e c.carry_out_one.result c.carry_out_one.new.databases) same c.carry_out_one.ensures in
+    subst (λ os. AreCarriedOut os d c.carry_out_one.result c.carry_out_one.new.databases) (sym one) carried
