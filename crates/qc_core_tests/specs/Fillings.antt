@@ -1,17 +1,12 @@
 -- What of an entry's answer is still to be stored.
-use Rattle.std.specs.Prelude.{◌≡◌, ℕ, ◌+◌, ◌≤◌, List, [], ◌∷◌, ◌++◌, length, drop, Option, Some, None}
+use Rattle.std.specs.Prelude.{◌≡◌, ℕ, ◌+◌, ◌≤◌, List, [], ◌∷◌, ◌++◌, length, drop, Some}
 use Rattle.std.specs.List.{concat, AllByRecursion}
 use Rattle.qc_model.specs.declared.events.Event.{Event}
 use Rattle.qc_model.specs.Journal.{present}
 use Rattle.qc_model.specs.Session.{answer_packets}
 use Rattle.qc_laws.specs.history.Runs.{IsStarted}
 use Rattle.qc_turn.specs.declared.view.View.{View}
-use Rattle.qc_turn.specs.declared.seat.Seat.{Seat}
-use Rattle.qc_turn.specs.Seats.{view}
-use Rattle.qc_core.specs.contracts.server.ServerKept.TheImpl.{ghosts}
 use Rattle.qc_core.specs.declared.parts.Parts.{Parts}
-use Rattle.qc_flow.specs.Fills.{IsFillOf}
-use Rattle.qc_flow.specs.declared.fills.Fill.{Fill}
 use Rattle.qc_core_tests.specs.Seats.{IsPacket}
 
 -- what is stored are the first packets of the entry's answer, and these bytes are the others
@@ -29,8 +24,3 @@ pub record CutsOff (bytes rest : List ℕ) (packets : List (List ℕ)) : Type 0 
   pub others : List (List ℕ)
   pub first : packets ≡ bytes ∷ others
   pub behind : drop (length bytes) rest ≡ concat others
-
--- where a fill was begun, the seat has it, and all of the answer is left
-abbrev pub MayFill : Option Fill → List ℕ → Seat Parts Event ghosts → Type 0
-MayFill None reply s = Unit {0}
-MayFill (Some f) reply s = IsFillOf f s × IsLeft f.serial reply (view s)

@@ -1,11 +1,10 @@
 //! Steps of two seats that may keep a stream or a fill between them.
 
-ghost use Rattle.std.specs.Prelude.{◌≡◌, ◌<◌, IfOk, OnErr};
-ghost use Rattle.qc_turn.specs.Seats.{IsSeatOf, MayRelease, holder, view};
+ghost use Rattle.std.specs.Prelude.{◌≡◌, ◌<◌};
+ghost use Rattle.qc_turn.specs.Seats.{IsSeatOf, MayRelease, view};
 ghost use Rattle.qc_turn.specs.declared.task.Task.TheVariants as task;
 ghost use Rattle.qc_turn.specs.Words.{last_seat};
-ghost use Rattle.qc_core_tests.specs.Seats.{AnswersFill, IsFirst, IsResting, IsSame, KnowsFixed, MayEnd, MayRest, MeetsAll};
-ghost use Rattle.qc_core_tests.specs.Fillings.{MayFill};
+ghost use Rattle.qc_core_tests.specs.Seats.{IsFirst, IsResting, IsSame, MeetsAll};
 
 use crate::calls::{Step, end_with, give_back, hand_back, take_turn};
 use crate::fills::{give_up, settle, stop_streaming, streams};
@@ -15,7 +14,7 @@ use crate::selects::{Outcome, has_room, select};
 use crate::stop::Stop;
 use crate::whole::{Filled, begin_fill, fill_whole};
 use qc_core::Server;
-use qc_flow::{Fill, FillStep};
+use qc_flow::FillStep;
 use qc_model::events::Counters;
 use qc_turn::{Held, Seat, Task, Turn};
 use qc_types::{Options, Steps, Text};
@@ -90,11 +89,24 @@ pub(crate) fn ask_told<R: Wait, L: Ledger>(
     let done = select(&mut held, alloc, text, steps);
     let told = lines_from(alloc, held.value().journal(), first);
     let next = held.value().journal().len();
-    let (fill, reply) = end_select(held, done)?;
-    let Some(fill) = fill else {
+    let Outcome { task, reply } = match done {
+        Ok(outcome) => outcome,
+        Err(stop) => {
+            give_back(held);
+            return Err(stop);
+        }
+    };
+    let Task::Fill(serial) = task else {
+        end_with(held, task);
         *kept = reply;
         return Ok(told?);
     };
+    if !has_room(&mut held) {
+        end_with(held, task);
+        return Err(Stop::Blocks);
+    }
+    let options = held.value().options();
+    let fill = begin_fill(held, serial, &options, reply.bytes());
     let filled = fill_whole(rt, turn, seat, fill, reply.bytes());
     *kept = reply;
     let more = rest_told(rt, alloc, turn, seat, next)?;
@@ -113,39 +125,6 @@ fn filled_told(
         FillStep::More => format!(in alloc; "{told}, {more}"),
         _ => format!(in alloc; "{told}, {more}, put {packets}: {last:?}"),
     }
-}
-
-/// Gives the turn back after a SELECT. The fill that it began, if any, and what it answers.
-pub(crate) fn end_select(
-    mut held: Held<'_, Server>,
-    done: Result<Outcome, Stop>,
-) -> Result<(Option<Fill>, Text), Stop>
-    requires fixed { KnowsFixed held }
-    requires ok { IfOk done (λ outcome. MayEnd outcome.task held) }
-    requires answers { IfOk done (λ outcome. AnswersFill outcome.task outcome.reply held.value.journal.events) }
-    requires err { OnErr done (MayRest held) }
-    ensures seated { IsSeatOf held.entry.turn.now held.exit.1.0.now }
-    ensures view { ((view held.exit.1.0.now).number ≡ (holder held.entry).number) × ((view held.exit.1.0.now).registry ≡ (holder held.entry).registry) }
-    ensures fills { IfOk result (λ begun. MayFill begun.0 begun.1 held.exit.1.0.now) }
-{
-    let Outcome { task, reply } = match done {
-        Ok(outcome) => outcome,
-        Err(stop) => {
-            give_back(held);
-            return Err(stop);
-        }
-    };
-    let Task::Fill(serial) = task else {
-        end_with(held, task);
-        return Ok((None, reply));
-    };
-    if !has_room(&mut held) {
-        end_with(held, task);
-        return Err(Stop::Blocks);
-    }
-    let options = held.value().options();
-    let fill = begin_fill(held, serial, &options, reply.bytes());
-    Ok((Some(fill), reply))
 }
 
 /// The events behind the first so many, in words.

@@ -13,11 +13,10 @@ use crate::changes::Change;
 use crate::fills::{give_up, settle, stop_streaming, streams};
 use crate::hall::open;
 use crate::lines::lines_from;
-use crate::moves::end_select;
 use crate::plain::{Counts, Plain, Query};
-use crate::selects::{Outcome, select};
+use crate::selects::{Outcome, has_room, select};
 use crate::stop::Stop;
-use crate::whole::fill_whole;
+use crate::whole::{begin_fill, fill_whole};
 use qc_core::Server;
 use qc_flow::Fill;
 use qc_model::events::Counters;
@@ -275,16 +274,27 @@ fn asked_whole<R: Wait, L: Ledger>(
     let mut held = turn.take(rt, seat);
     let done = select(&mut held, alloc, text_of(query), steps);
     let found = compare(&mut held, alloc, plain);
-    let (fill, reply) = end_select(held, done)?;
-    *kept = reply;
-    match fill {
-        Some(fill) => {
-            let acted = step_beside(rt, alloc, turn, other, plain, dice);
-            let filled = filled(rt, alloc, turn, seat, plain, fill, kept.bytes());
-            first_of(acted, first_found(found, filled))
+    let Outcome { task, reply } = match done {
+        Ok(outcome) => outcome,
+        Err(stop) => {
+            give_back(held);
+            return Err(stop);
         }
-        None => found,
+    };
+    *kept = reply;
+    let Task::Fill(serial) = task else {
+        end_with(held, task);
+        return found;
+    };
+    if !has_room(&mut held) {
+        end_with(held, task);
+        return Err(Stop::Blocks);
     }
+    let options = held.value().options();
+    let fill = begin_fill(held, serial, &options, kept.bytes());
+    let acted = step_beside(rt, alloc, turn, other, plain, dice);
+    let filled = filled(rt, alloc, turn, seat, plain, fill, kept.bytes());
+    first_of(acted, first_found(found, filled))
 }
 
 /// The first of two differences.
