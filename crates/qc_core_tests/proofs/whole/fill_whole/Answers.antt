@@ -1,4 +1,5 @@
-use Rattle.std.proofs.Common.{length, sym, subst, ap, ◌∙◌}
+use Rattle.std.proofs.Common.{◌≡◌, ℕ, ◌-◌, List, length, take, drop, sym, subst, ◌∙◌, arith, eqb-true, length-drop}
+use Rattle.std.proofs.lemmas.List.{take_all}
 use Rattle.qc_model.specs.declared.events.Event.{Event}
 use Rattle.qc_turn.specs.Seats.{view}
 use Rattle.qc_turn.specs.declared.view.View.{View}
@@ -22,17 +23,19 @@ loop-rest-preserved g c =
     let e = c.in-More.ensures in
     let s = e.step in
     let left = left_behind l.fill.serial l.rest.now c.next_packet-packet.result.now (view l.seat) (view p.seat) i.left (c.next_packet-packet.ensures.cut i.left.later i.left.spells i.left.cut) c.put.ensures.goes_on.seen s.content in
+    let k = length c.next_packet-packet.result.now in
+    let all : take (length l.rest.now - k) (drop k l.rest.now) ≡ drop k l.rest.now = take_all (length l.rest.now - k) (drop k l.rest.now) (omega (arith, length-drop k l.rest.now)) in
     record {
       seated = c.put.ensures.seated.0;
       fills = s.fills;
-      left = subst (λ n. IsLeft n _ (view p.seat)) (sym s.same.0) left;
+      left = subst (λ (x : ℕ × List ℕ). IsLeft x.0 x.1 (view p.seat)) (λ i. (sym s.same.0 i, sym all i)) left;
       same = same_again c.args.seat.now l.seat p.seat i.same (goes_same l.seat p.seat c.put.ensures.goes_on);
     }
 
 pub end-ended-requires-clause-whole : goal.end-ended-requires-clause-whole
 end-ended-requires-clause-whole g c =
     let l = c.loop-rest in
-    whole_left l.fill.serial l.rest.now (view l.seat) c.loop-rest-test.false l.invariant.left
+    whole_left l.fill.serial l.rest.now (view l.seat) (eqb-true (length l.rest.now) 0 (sym c.is_empty.ensures ∙ c.loop-rest-test.false)) l.invariant.left
 
 pub returns : goal.returns
 returns g c =
