@@ -23,6 +23,7 @@ pub fn ok_reply(alloc: Global, affected: u64, status: u16) -> Result<Text, NoMem
     Ok(bytes)
 }
 
+/// An error, which fits a packet. The one error of this call is want of memory. Linear in the error's text.
 pub fn error_reply(alloc: Global, error: &SqlError) -> Result<Text, NoMemory>
     requires { FitsError error.now }
     ensures { IfOk result (λ bytes. bytes ≡ packets (machine.refused error.now)) }
