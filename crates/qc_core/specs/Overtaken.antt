@@ -43,9 +43,10 @@ pub record IsFirstOvertaking (j : Journal) (tables : List TableName) (after by :
   pub event : IsSomeAnd (event_at j by) (λ e. overtakes tables e ≡ true)
   pub first : (k : ℕ) → after < k → k < by → IfSome (event_at j k) (λ e. overtakes tables e ≡ false)
 
--- the number of the first commit on one of the entry's tables, or reset, after its start
+-- the number of the first commit on one of the entry's tables, or reset, after its start, where its fill hasn't ended
 pub record IsOvertaken (j : Journal) (n by : ℕ) : Type 0 where
   pub start : IsStarted j n
+  pub filling : is_ended n j ≡ false
   pub first : IsFirstOvertaking j start.tables (length start.earlier + 1) by
 
 -- the entry was started and isn't there any more, though its fill hasn't ended

@@ -1,6 +1,6 @@
 //! The packets of a SELECT's rows, one after another.
 
-ghost use Rattle.std.specs.Prelude.{◌≡◌, ◌≢◌, ◌≤◌, ◌++◌, length, map, IfOk, OnOk, OnErr, IsSome};
+ghost use Rattle.std.specs.Prelude.{◌≡◌, ◌≢◌, ◌≤◌, ◌++◌, [], length, map, IfOk, OnOk, OnErr, IsSome};
 ghost use Rattle.qc_sql.specs.declared.replies.Reply.TheVariants as reply;
 ghost use Rattle.qc_sql.specs.Packets.{packet_list};
 ghost use Rattle.qc_sql.specs.Rows.{text_of};
@@ -14,6 +14,7 @@ use qc_types::{NoMemory, Steps, Text};
 use qc_wire::{RowCells, put_column, put_count, put_eof, put_row};
 use std::alloc::Global;
 use std::marker::Model;
+use std::mem;
 use std::sync::ledger::Ledger;
 
 /// Which packet comes next.
@@ -84,7 +85,7 @@ impl RowPackets {
         ensures gives { IfOk result (λ more. GivesPacket more self.old self.new out.new) }
         ensures same { OnErr result (self.new ≡ self.old) }
     {
-        *out = Text::from_vec(Vec::new(alloc));
+        empty(alloc, out);
         self.part = arrived(&mut self.plan, self.part, steps);
         let Some(behind) = put_part(
             alloc,
@@ -102,6 +103,15 @@ impl RowPackets {
         self.sequence = self.sequence.wrapping_add(1);
         Ok(true)
     }
+}
+
+/// Empties a text, which keeps its memory.
+fn empty(alloc: Global, text: &mut Text)
+    ensures { text.new ≡ [] }
+{
+    let mut bytes = mem::replace(text, Text::from_vec(Vec::new(alloc))).into_vec();
+    bytes.clear();
+    *text = Text::from_vec(bytes);
 }
 
 /// The same place among the packets, once the plan has gone to the row that comes next, if one does.

@@ -39,4 +39,4 @@ returns c =
     let meant = start_meant j c.args.serial c.start_of-start.result w f in
     let ev = same_Some c.event.result.now (event.Run s.who (how.Start c.args.serial s.key s.tables)) (sym c.event.ensures ∙ (ap (event_at j) (sym f.1) ∙ start_there j c.args.serial s)) in
     let is : c.in-Some.tables.now ≡ w.start.tables = same_Some c.in-Some.tables.now s.tables (sym (ap option_copied c.in-Some.is) ∙ (c.started_tables.ensures ∙ ap started_tables ev)) ∙ meant.0 in
-    record { start = w.start; first = subst (λ (p : List TableName × ℕ). IsFirstOvertaking j p.0 p.1 c.first_overtaking.result) (λ i. (is i, sym meant.1 i)) c.first_overtaking.ensures }
+    record { start = w.start; filling = w.filling; first = subst (λ (p : List TableName × ℕ). IsFirstOvertaking j p.0 p.1 c.first_overtaking.result) (λ i. (is i, sym meant.1 i)) c.first_overtaking.ensures }
