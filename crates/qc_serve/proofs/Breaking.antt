@@ -1,0 +1,202 @@
+-- A session ends at a command.
+use Rattle.std.proofs.Common.{◌≡◌, ℕ, ◌+◌, ◌-◌, ◌<◌, ◌≤◌, List, [], ◌∷◌, ◌++◌, length, take, refl, sym, ap, ◌∙◌, subst, arith, append-nil, append_assoc, inl, inr, Option, Some, None, Result, Ok, Err, OnErr}
+use Rattle.std.specs.Prelude.{◌⊎◌, MatchOption, map}
+use lib.Seq.{take-append-le}
+use Rattle.qc_types.specs.declared.options.Options.{Options}
+use Rattle.qc_sql.specs.declared.commands.Command.{Command}
+use Rattle.qc_sql.specs.declared.commands.Command.TheVariants as command
+use Rattle.qc_model.specs.declared.events.Event.{Event}
+use Rattle.qc_model.specs.declared.events.Event.TheVariants as event
+use Rattle.qc_model.specs.declared.events.How.{How}
+use Rattle.qc_model.specs.declared.events.How.TheVariants as how
+use Rattle.qc_model.specs.declared.reports.ReportLine.{ReportLine}
+use Rattle.qc_model.specs.declared.reports.Word.TheVariants as word
+use Rattle.qc_model.specs.Agrees.{Machine, key_of_command, line, who_of, word_of, word_of_how}
+use Rattle.qc_model.specs.Journal.{Journal, before}
+use Rattle.qc_model.specs.Machine.{Local}
+use Rattle.qc_model.specs.Needs.{HasOwnNeeds}
+use Rattle.qc_laws.specs.runs.Runs.{HasItsEvent, HasNoEvent, Position, StartsWith, own}
+use Rattle.qc_laws.proofs.runs.Composes.{events_below}
+use Rattle.qc_turn.specs.declared.seat.Seat.{Seat}
+use Rattle.qc_turn.specs.declared.turn.Turn.{Turn}
+use Rattle.qc_core.specs.contracts.server.ServerKept.TheImpl.{ghosts}
+use Rattle.qc_core.specs.declared.parts.Parts.{Parts}
+use Rattle.qc_serve.specs.declared.ending.End.{End}
+use Rattle.qc_serve.specs.declared.execution.Executed.{Executed}
+use Rattle.qc_serve.specs.declared.log.Logged.{Logged}
+use Rattle.qc_serve.specs.declared.session.Session.{Session}
+use Rattle.qc_serve.specs.declared.sinks.Piece.{Piece}
+use Rattle.qc_serve.specs.Executed.{HasEnded, HasEventLine, IsReplied, Leaves, MustEnd, Quits, SendsPart}
+use Rattle.qc_serve.specs.Going.{DoesOne, IsAtRest, MayAnswer, Stops, number_of, position_of, seen_by}
+use Rattle.qc_serve.specs.Leaving.{HasLeft}
+use Rattle.qc_serve.specs.Logs.{DropsLocal, Lines, kept_line, logged, logged_event, logged_line}
+use Rattle.qc_serve.specs.Seats.{GoesOn, SeatRests}
+use Rattle.qc_serve.specs.Sent.{SendsFrontOf}
+use Rattle.qc_serve.specs.Stage.{serve_machine}
+
+-- ---- the line of a command with an event stays
+
+run_stays : (place : ℕ) (h : How) → kept_line (logged place (word_of_how h)) ≡ logged place (word_of_how h) ∷ []
+run_stays place (how.Hit serial) = refl
+run_stays place (how.Start serial key tables) = refl
+run_stays place (how.Plain why) = refl
+run_stays place (how.Conflict table key by) = refl
+run_stays place (how.Status totals) = refl
+run_stays place how.Other = refl
+
+event_stays : (place : ℕ) (e : Event) → kept_line (logged place (word_of e)) ≡ logged place (word_of e) ∷ []
+event_stays place (event.Run who h) = run_stays place h
+event_stays place (event.Commit who ops) = refl
+event_stays place (event.Done serial) = refl
+event_stays place (event.Gone serial why) = refl
+event_stays place (event.Prune serial need largest) = refl
+event_stays place (event.Reset who) = refl
+event_stays place (event.Flush who) = refl
+
+-- what is known of an answered command whose reply didn't go out
+record Parted (m : Machine) (options : Options) (s : ℕ) (from : Position) (c : Command) (l : ReportLine) (seen : Journal) (o : Local) : Type 0 where
+  pub events : List (ℕ × Event)
+  pub few : length events ≤ 1
+  pub grows : own s seen ≡ own s from.seen ++ events
+  pub kept : kept_line (logged_line l) ≡ map logged_event events
+  pub line : MatchOption o (HasEventLine m options s from c l seen) (λ given. (l ≡ line from.place word.Local given.0) × (own s seen ≡ own s from.seen))
+
+parted : (m : Machine) (options : Options) (s : ℕ) (from to : Position) (c : Command) (l : ReportLine) (o : Local) → MatchOption o (HasItsEvent m options s from c l to) (HasNoEvent s from l to) → Parted m options s from c l to.seen o
+parted m options s from to c l None (e, reply, grows, does, is, needs, ends) = record {
+  events = (l.place, e) ∷ [];
+  few = omega arith;
+  grows = grows;
+  kept = ap (λ (x : ReportLine). kept_line (logged l.place x.how)) is ∙ event_stays l.place e;
+  line = (e, reply, to.state, grows, does, is, needs);
+}
+parted m options s from to c l (Some given) (is, next, same) = record {
+  events = [];
+  few = omega arith;
+  grows = same ∙ sym (append-nil (own s from.seen));
+  kept = ap (λ (x : ReportLine). kept_line (logged_line x)) is;
+  line = (is, same);
+}
+
+-- ---- a put failed
+
+-- the log lost its last line where that has no event
+pub put_fails : (t : Turn Parts Event) (c : Command) (old middle : Session) (log : Lines) (reply : List ℕ) (held out : Option (List Piece)) → DoesOne t c old middle reply → DropsLocal middle.log.lines log.lines → SendsFrontOf held out reply
+    → MustEnd t c old (record middle { log = log }) held out
+put_fails t c old middle log reply held out does drops front =
+    let l : ReportLine = does.answered in
+    let p = parted serve_machine old.options (number_of old) (position_of old) (position_of middle) c l (serve_machine.without_event old.state.state (take old.place (seen_by old)) c) does.answers.does in
+    let rest = does.rest in
+    let answers = does.answers in
+    record {
+      rests = subst (λ (n : ℕ). SeatRests t n middle.seat) does.session rest.rests;
+      breaks = record {
+        begins = answers.begins;
+        events = p.events;
+        few = p.few;
+        grows = p.grows;
+        lines = drops old.log.lines (logged_line l) does.lines ∙ ap (λ (ls : List Logged). old.log.lines ++ ls) p.kept;
+        session = does.session;
+        sent = inr (l, p.line, subst (SendsFrontOf held out) (sym does.reply) front);
+      };
+    }
+
+pub put_failed : (t : Turn Parts Event) (c : Command) (old middle new : Session) (reply : List ℕ) (held out : Option (List Piece)) → DoesOne t c old middle reply → DropsLocal middle.log.lines new.log.lines × (new ≡ record middle { log = new.log })
+    → SendsFrontOf held out reply → MustEnd t c old new held out
+put_failed t c old middle new reply held out does log front = subst (λ (s : Session). MustEnd t c old s held out) (sym log.1) (put_fails t c old middle new.log reply held out does log.0 front)
+
+-- ---- memory lacked, before anything went out
+
+pub stopped : (t : Turn Parts Event) (c : Command) (old new : Session) (held : Option (List Piece)) → Stops t old new → MustEnd t c old new held held
+stopped t c old new held stops =
+    let again = stops.rests in
+    record {
+      rests = again.rests;
+      breaks = record { begins = stops.begins; events = stops.events; few = stops.few; grows = stops.grows; lines = stops.lines; session = stops.session; sent = inl refl };
+    }
+
+-- nothing was done
+pub untouched : (t : Turn Parts Event) (c : Command) (old : Session) (log : Lines) (held : Option (List Piece)) → SeatRests t (number_of old) old.seat → log.lines ≡ old.log.lines → MustEnd t c old (record old { log = log }) held held
+untouched t c old log held rests same = record {
+  rests = rests;
+  breaks = record {
+    begins = ([], sym (append-nil (seen_by old)));
+    events = [];
+    few = omega arith;
+    grows = sym (append-nil (own (number_of old) (seen_by old)));
+    lines = same ∙ sym (append-nil old.log.lines);
+    session = refl;
+    sent = inl refl;
+  };
+}
+
+-- ---- with room made before
+
+pub must_end_from : (t : Turn Parts Event) (c : Command) (old new : Session) (log : Lines) (held out : Option (List Piece)) → log.lines ≡ old.log.lines → MustEnd t c (record old { log = log }) new held out → MustEnd t c old new held out
+must_end_from t c old new log held out same must =
+    let b = must.breaks in
+    record {
+      rests = must.rests;
+      breaks = record { begins = b.begins; events = b.events; few = b.few; grows = b.grows; lines = b.lines ∙ ap (λ (ls : List Logged). ls ++ map logged_event b.events) same; session = b.session; sent = b.sent };
+    }
+
+-- ---- the seat leaves
+
+starts_on : (a b c : Journal) → StartsWith b a → StartsWith c b → StartsWith c a
+starts_on a b c (more, is) (rest, same) = (more ++ rest, same ∙ (ap (λ (j : Journal). j ++ rest) is ∙ append_assoc a more rest))
+
+-- a line stays one where the journal goes on by others
+event_line_on : (m : Machine) (options : Options) (s : ℕ) (from : Position) (c : Command) (l : ReportLine) (seen now : Journal) → GoesOn s seen now → HasEventLine m options s from c l seen → HasEventLine m options s from c l now
+event_line_on m options s from c l seen now on (e, reply, next, grows, does, is, needs) =
+    let begins = on.begins in
+    let below = events_below s 0 seen (own s from.seen) ((l.place, e) ∷ []) grows in
+    let same : before l.place now ≡ before l.place seen = ap (before l.place) begins.1 ∙ take-append-le (l.place - 1) seen begins.0 (omega (arith, below.0)) in (
+      e,
+      reply,
+      next,
+      on.none ∙ grows,
+      subst (λ (j : Journal). m.executes options (who_of from.state.session (length (own s from.seen) + 1)) from.state c j e reply next) (sym same) does,
+      is,
+      subst (λ (j : Journal). HasOwnNeeds options j (key_of_command from.state c) e) (sym same) needs,
+    )
+
+line_on : (m : Machine) (options : Options) (s : ℕ) (from : Position) (c : Command) (l : ReportLine) (seen now : Journal) (o : Local) → GoesOn s seen now
+    → MatchOption o (HasEventLine m options s from c l seen) (λ given. (l ≡ line from.place word.Local given.0) × (own s seen ≡ own s from.seen))
+    → MatchOption o (HasEventLine m options s from c l now) (λ given. (l ≡ line from.place word.Local given.0) × (own s now ≡ own s from.seen))
+line_on m options s from c l seen now None on h = event_line_on m options s from c l seen now on h
+line_on m options s from c l seen now (Some given) on h = (h.0, on.none ∙ h.1)
+
+sent_on : (c : Command) (old middle : Session) (seat : Seat Parts Event ghosts) (end : Option End) (held out : Option (List Piece)) → GoesOn (number_of old) (seen_by middle) (seen_by (record middle { seat = seat; end = end }))
+    → (out ≡ held) ⊎ SendsPart c old middle held out → (out ≡ held) ⊎ SendsPart c old (record middle { seat = seat; end = end }) held out
+sent_on c old middle seat end held out on (inl same) = inl same
+sent_on c old middle seat end held out on (inr (l, has, front)) =
+    inr (l, line_on serve_machine old.options (number_of old) (position_of old) c l (seen_by middle) (seen_by (record middle { seat = seat; end = end })) (serve_machine.without_event old.state.state (take old.place (seen_by old)) c) on has, front)
+
+ends_with : (t : Turn Parts Event) (c : Command) (old middle : Session) (seat : Seat Parts Event ghosts) (held out : Option (List Piece)) (e : End) → MustEnd t c old middle held out → HasLeft t (number_of middle) seat
+    → GoesOn (number_of middle) (seen_by middle) (seen_by (record middle { seat = seat; end = Some e })) → HasEnded t c old (record middle { seat = seat; end = Some e }) held out e
+ends_with t c old middle seat held out e must left on =
+    let b = must.breaks in
+    let goes : GoesOn (number_of old) (seen_by middle) (seen_by (record middle { seat = seat; end = Some e })) = subst (λ (n : ℕ). GoesOn n (seen_by middle) (seen_by (record middle { seat = seat; end = Some e }))) b.session on in
+    record {
+      left = subst (λ (n : ℕ). HasLeft t n seat) b.session left;
+      end = refl;
+      breaks = record { begins = starts_on (seen_by old) (seen_by middle) (seen_by (record middle { seat = seat; end = Some e })) b.begins goes.begins; events = b.events; few = b.few; grows = goes.none ∙ b.grows; lines = b.lines; session = b.session; sent = sent_on c old middle seat (Some e) held out goes b.sent };
+    }
+
+pub ended : (t : Turn Parts Event) (c : Command) (old middle new : Session) (held out : Option (List Piece)) (e : End) → MustEnd t c old middle held out → Leaves t middle new e → HasEnded t c old new held out e
+ended t c old middle new held out e must leaves =
+    let on : GoesOn (number_of middle) (seen_by middle) (seen_by (record middle { seat = new.seat; end = Some e })) = leaves.seen in
+    subst (λ (s : Session). HasEnded t c old s held out e) (sym leaves.same) (ends_with t c old middle new.seat held out e must leaves.left on)
+
+-- nor has its log another line
+pub same_log : (t : Turn Parts Event) (old new : Session) (e : End) → Leaves t old new e → old.log.lines ≡ new.log.lines
+same_log t old new e leaves = sym (ap (λ (s : Session). s.log.lines) leaves.same)
+
+-- the command was another
+pub never_quits : (t : Turn Parts Event) (c : Command) (old new : Session) (held out : Option (List Piece)) (r : Executed) → (c ≡ command.Quit → ⊥) → c ≡ command.Quit → Quits t old new held out r
+never_quits t c old new held out r other is = absurd (other is)
+
+-- ---- where a call answers an error
+
+pub on_errs : {A E P Q R : Type 0} (r : Result A E) → (P → Q → R) → OnErr r P → OnErr r Q → OnErr r R
+on_errs (Ok x) f p q = tt
+on_errs (Err e) f p q = f p q

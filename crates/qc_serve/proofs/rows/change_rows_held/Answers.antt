@@ -1,0 +1,32 @@
+use Rattle.qc_model.specs.declared.events.Who.{Who}
+use Rattle.std.proofs.Common.{ℕ}
+use Rattle.qc_turn.specs.Seats.{holder}
+use Rattle.qc_serve.specs.Ends.{RowsAs}
+use Rattle.qc_serve.specs.declared.rows.RowsEnd.{RowsEnd}
+use Rattle.qc_serve.proofs.Changing.{closed_past}
+use Rattle.qc_serve.proofs.Deciding.{answer_decides, answer_goes_on, answer_rests, fit_taken}
+use Rattle.qc_serve.proofs.rows.change_rows_held.Goals as goal
+
+pub commit_rows-requires-clause-fit : goal.commit_rows-requires-clause-fit
+commit_rows-requires-clause-fit g c =
+    let p = c.in_ok-who.ensures in
+    let x = c.args.state.now in
+    fit_taken c.args.session c.in_ok-who.who c.args.held.now c.prepare.new.held x p.same p.ready.0 p.ready.1 (closed_past (holder c.args.held.now).seen x.state c.requires.closed) c.requires.fit
+
+pub returns-clause-rest : goal.returns-clause-rest
+returns-clause-rest g c =
+    let p = c.in_ok-who.ensures in
+    let n = c.commit_rows in
+    answer_rests c.in_ok-who.who c.args.held.now c.prepare.new.held n.new.held (λ (r : ℕ × RowsEnd) journal e. RowsAs c.in_ok-who.who c.args.state.now.state c.args.statement.now journal e r.1) n.result p.same n.ensures.pushes n.ensures.none
+
+pub returns-clause-decides : goal.returns-clause-decides
+returns-clause-decides g c =
+    let p = c.in_ok-who.ensures in
+    let n = c.commit_rows in
+    answer_decides c.args.session c.in_ok-who.who c.args.held.now c.prepare.new.held n.new.held (λ (r : ℕ × RowsEnd) (who : Who) journal e. RowsAs who c.args.state.now.state c.args.statement.now journal e r.1) n.result p.same p.ready.0 p.ready.1 n.ensures.pushes
+
+pub returns-clause-none : goal.returns-clause-none
+returns-clause-none g c =
+    let p = c.in_ok-who.ensures in
+    let n = c.commit_rows in
+    answer_goes_on c.args.session c.in_ok-who.who c.args.held.now c.prepare.new.held n.new.held n.result p.same p.ready.0 p.ready.1 n.ensures.none

@@ -1,0 +1,12 @@
+use Rattle.std.specs.Prelude.{◌≤◌, length}
+use Rattle.qc_serve.proofs.Fillings.{Filling}
+use Rattle.qc_serve.proofs.rows_sent.fill_rows.Given as goal
+
+abbrev pub invariant-loop-packet : goal.invariant-loop-packet
+invariant-loop-packet g l = record {
+  fills : Filling l.turn l.fn.seat l.seat l.fn.packets l.packets l.fn.fill l.fill (g.K.ReplySink.held l.fn.sink) (g.K.ReplySink.held l.sink);
+  later : g.K.ReplySink.faults l.fn.sink ≤ g.K.ReplySink.faults l.sink;
+}
+
+abbrev pub decreases-loop-packet : goal.decreases-loop-packet
+decreases-loop-packet g l = length l.packets

@@ -1,0 +1,28 @@
+use Rattle.std.proofs.Common.{List, ℕ, sym, subst}
+use Rattle.qc_serve.specs.Going.{DoesOne}
+use Rattle.qc_serve.proofs.Breaking.{on_errs, put_failed}
+use Rattle.qc_serve.proofs.Parsing.{does_replies, on_oks}
+use Rattle.qc_serve.proofs.PiecesPut.{put_command}
+use Rattle.qc_serve.proofs.session.Session.answer_other.Goals as goal
+
+pub returns-in-Ok-clause-replied : goal.returns-in-Ok-clause-replied
+returns-in-Ok-clause-replied g c =
+    let t = c.args.turn.now in
+    let k = c.args.command.now in
+    let old = c.args.self.now in
+    let mid = c.reply_to.new.self in
+    let s = c.send_reply in
+    let reply = c.bytes.result.now in
+    let does : DoesOne t k old mid reply = subst (λ (b : List ℕ). DoesOne t k old mid b) (sym c.bytes.ensures) c.in-Ok.ensures.does in
+    on_oks s.result (λ same sends. does_replies t k old mid s.new.self reply (g.K.ReplySink.held c.args.sink.now) (g.K.ReplySink.held s.new.sink) does (put_command t k old mid reply does c.requires.other) same sends) s.ensures.same s.ensures.sends
+
+pub returns-in-Ok-clause-ends : goal.returns-in-Ok-clause-ends
+returns-in-Ok-clause-ends g c =
+    let t = c.args.turn.now in
+    let k = c.args.command.now in
+    let old = c.args.self.now in
+    let mid = c.reply_to.new.self in
+    let s = c.send_reply in
+    let reply = c.bytes.result.now in
+    let does : DoesOne t k old mid reply = subst (λ (b : List ℕ). DoesOne t k old mid b) (sym c.bytes.ensures) c.in-Ok.ensures.does in
+    on_errs s.result (λ log front. put_failed t k old mid s.new.self reply (g.K.ReplySink.held c.args.sink.now) (g.K.ReplySink.held s.new.sink) does log front) s.ensures.log s.ensures.front

@@ -1,0 +1,15 @@
+pub mod Seats
+pub mod Logs
+pub mod Stage
+pub mod Ends
+pub mod StatusReply
+pub mod Going
+pub mod Leaving
+pub mod Sent
+pub mod Executed
+pub mod Connecting
+pub mod Served
+pub mod SentAt
+pub mod Filling
+pub mod Asking
+pub mod Querying

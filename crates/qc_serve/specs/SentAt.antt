@@ -1,0 +1,25 @@
+-- What goes to a sink while the seat has a task.
+use Rattle.std.specs.Prelude.{◌≡◌, ◌⊎◌, ℕ, List, Option}
+use Rattle.qc_model.specs.Journal.{Journal}
+use Rattle.qc_turn.specs.declared.task.Task.{Task}
+use Rattle.qc_turn.specs.declared.task.Task.TheVariants as task
+use Rattle.qc_select.specs.declared.selected.Selected.{Selected}
+use Rattle.qc_select.specs.declared.selected.Selected.TheVariants as selected
+use Rattle.qc_serve.specs.declared.sinks.Piece.{Piece}
+use Rattle.qc_serve.specs.Executed.{AllAt}
+use Rattle.qc_serve.specs.Filling.{IsGone}
+use Rattle.qc_serve.specs.Sent.{Adds, bytes_of}
+
+-- exactly these bytes went out, in pieces at whose puts the seat had this task
+abbrev pub SendsAt : Task → Option (List Piece) → Option (List Piece) → List ℕ → Type 0
+SendsAt t held out bytes = Adds held out (λ more. (bytes_of more ≡ bytes) × AllAt t more)
+
+-- they went out while the seat filled the entry, or that was gone before its last packet
+abbrev pub FillsAt : ℕ → Journal → Option (List Piece) → Option (List Piece) → List ℕ → Type 0
+FillsAt serial seen held out bytes = SendsAt (task.Fill serial) held out bytes ⊎ IsGone serial seen
+
+-- those of a hit went out while the seat streamed it, and those of a start while it filled the entry
+abbrev pub SendsAs : Selected → Journal → Option (List Piece) → Option (List Piece) → List ℕ → Type 0
+SendsAs (selected.Hit hit) seen held out bytes = SendsAt (task.Stream hit.serial) held out bytes
+SendsAs (selected.Start serial place plan) seen held out bytes = FillsAt serial seen held out bytes
+SendsAs x seen held out bytes = Unit {0}
