@@ -1,0 +1,7 @@
+pub mod Serving
+pub mod Meeting
+pub mod Closing
+pub mod Names
+pub mod Lists
+pub mod Opening
+pub mod Running

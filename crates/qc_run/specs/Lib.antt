@@ -1,0 +1,5 @@
+pub mod Inputs
+pub mod Slots
+pub mod Opens
+pub mod Meets
+pub mod Ran

@@ -1,0 +1,61 @@
+-- Seats of sessions that have ended are met.
+use Rattle.std.specs.Prelude.{◌≡◌, ◌≢◌, Bool, true, ℕ, ◌+◌, ◌<◌, ◌≤◌, List, ◌++◌, length, map, take, drop, reverse, Option, Some, None, slice_index_or}
+use Rattle.std.specs.List.{All, AllZip}
+use Rattle.qc_model.specs.declared.events.Event.{Event}
+use Rattle.qc_model.specs.declared.reports.Ending.{Ending}
+use Rattle.qc_model.specs.declared.reports.SessionReport.{SessionReport}
+use Rattle.qc_model.specs.Journal.{Journal}
+use Rattle.qc_laws.specs.runs.Runs.{StartsWith}
+use Rattle.qc_turn.specs.declared.seat.Seat.{Seat}
+use Rattle.qc_turn.specs.declared.turn.Turn.{Turn}
+use Rattle.qc_turn.specs.declared.view.MetSeat.{MetSeat}
+use Rattle.qc_turn.specs.Seats.{view}
+use Rattle.qc_turn.specs.Views.{met_seat}
+use Rattle.qc_core.specs.contracts.server.ServerKept.TheImpl.{ghosts}
+use Rattle.qc_core.specs.declared.parts.Parts.{Parts}
+use Rattle.qc_serve.specs.Going.{number_of, seen_by}
+use Rattle.qc_serve.specs.Leaving.{HasLeft}
+use Rattle.qc_run.specs.declared.slots.Slot.{Slot}
+use Rattle.qc_run.specs.Opens.{IsFirst}
+
+-- the session with this number has ended
+pub record MayMeet (t : Turn Parts Event) (number : ℕ) (s : Slot) : Type 0 where
+  pub left : HasLeft t number s.session.seat
+  pub ended : s.session.end ≢ None
+  pub numbered : number_of s.session ≡ number
+
+-- they have ended, and are numbered from 1
+abbrev pub MayBeMet : Turn Parts Event → List Slot → Type 0
+MayBeMet t slots = (i : ℕ) (d : Slot) → i < length slots → MayMeet t (i + 1) (slice_index_or slots i d)
+
+-- what the first seat keeps of one
+abbrev pub kept_of : Slot → Option (MetSeat Event)
+kept_of s = Some (met_seat (view s.session.seat))
+
+-- the first seat has met them
+pub record HasMet (t : Turn Parts Event) (old new : Seat Parts Event ghosts) (slots : List Slot) : Type 0 where
+  pub first : IsFirst t new
+  pub registry : (view new).registry ≡ map kept_of slots ++ drop (length slots) (view old).registry
+  pub events : (view new).events ≡ (view old).events
+  pub fixed : (view new).fixed ≡ (view old).fixed
+  pub seen : (journal : Journal) → StartsWith (view old).seen journal → All (λ s. StartsWith (seen_by s.session) journal) slots → StartsWith (view new).seen journal
+
+-- the report of a session whose input ends so
+abbrev pub report_of : Slot → Ending → SessionReport
+report_of s ending = record { session = number_of s.session; lines = s.lines; ending = ending }
+
+-- the reports of sessions that have all served their inputs
+abbrev pub AreReports : List Slot → List SessionReport → Type 0
+AreReports slots reports = AllZip (λ s r. (ending : Ending) × (s.ending ≡ Some ending) × (r ≡ report_of s ending)) slots reports
+
+-- the first seat has met the last ones of them, and these are left
+pub record HasMetBehind (t : Turn Parts Event) (old now : Seat Parts Event ghosts) (slots left : List Slot) (served : Bool) (reports : List SessionReport) : Type 0 where
+  pub met : List Slot
+  pub parts : slots ≡ left ++ met
+  pub first : IsFirst t now
+  pub registry : (view now).registry ≡ take (length left) (view old).registry ++ (map kept_of met ++ drop (length slots) (view old).registry)
+  pub events : (view now).events ≡ (view old).events
+  pub fixed : (view now).fixed ≡ (view old).fixed
+  pub seen : (journal : Journal) → StartsWith (view old).seen journal → All (λ s. StartsWith (seen_by s.session) journal) slots → StartsWith (view now).seen journal
+  pub count : length reports ≤ length met
+  pub reported : served ≡ true → AreReports met (reverse reports)

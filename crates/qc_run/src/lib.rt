@@ -1,0 +1,11 @@
+//! Runs the sessions of a script over one shared server.
+#![tactic(auto)]
+
+mod inputs;
+mod meets;
+mod opens;
+mod reports;
+mod script;
+mod slots;
+
+pub use script::{Ran, run_script};
