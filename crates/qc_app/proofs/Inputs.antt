@@ -10,7 +10,12 @@ use Rattle.qc_model.specs.declared.reports.Script.{Script}
 use Rattle.qc_model.specs.declared.reports.ScriptRefusal.{ScriptRefusal}
 use Rattle.qc_model.specs.declared.reports.ScriptRefusal.TheVariants as refusal
 use Rattle.qc_model.specs.ScriptLines.{Line, Opens, Sends, Puts, Skips, is_skipped, line_of, lines_of, behind, word_line, puts, script_of, after_line, after_lines, then_lines, no_sessions, with_session, with_bytes, sent_last, most_script}
-use Rattle.qc_app.specs.Inputs.{IsSmall}
+use Rattle.qc_run.specs.Ran.{MayRun}
+
+-- no setup part, and one session at most
+record IsSmall (script : Script) : Type 0 where
+  setup : script.setup ≡ None
+  one : length script.sessions ≤ 1
 
 -- ---- a line opens no session but the first
 
@@ -91,10 +96,16 @@ all_lines number s t (l ∷ ls) small e = by (after_line number s (line_of l)) (
     by (Err r) go q h = refused r t h
     by (Ok next) go q h = go next q h
 
-pub script_is_small : (bytes : List ℕ) (s : Script) → script_of bytes ≡ Ok s → IsSmall s
+script_is_small : (bytes : List ℕ) (s : Script) → script_of bytes ≡ Ok s → IsSmall s
 unfolding script_of
 script_is_small bytes s e = by (nat_lt most_script (length bytes)) e
   where
     by : (b : Bool) → (if b then Err refusal.InputTooLong else after_lines 1 no_sessions (lines_of bytes)) ≡ Ok s → IsSmall s
     by true h = refused _ s h
     by false h = all_lines 1 no_sessions s (lines_of bytes) (record { setup = refl; one = omega arith }) h
+
+pub script_may_run : (bytes : List ℕ) (s : Script) → script_of bytes ≡ Ok s → MayRun s
+script_may_run bytes s e =
+    let small = script_is_small bytes s e in
+    let one = small.one in
+    record { setup = small.setup; few = omega (arith, one) }

@@ -1,7 +1,5 @@
 pub mod Inputs
-pub mod Nexts
 pub mod Pieces
-pub mod Reports
 pub mod Tops
 mod examples
 pub mod Digits

@@ -11,10 +11,10 @@ use Rattle.qc_model.specs.declared.reports.Script.{Script}
 use Rattle.qc_model.specs.declared.reports.ScriptRefusal.{ScriptRefusal}
 use Rattle.qc_model.specs.declared.reports.ScriptRefusal.TheVariants as refusal
 use Rattle.qc_model.specs.ScriptLines.{script_of, most_script, after_lines, lines_of, no_sessions}
-use Rattle.qc_model.specs.Agrees.{Agrees}
+use Rattle.qc_model.specs.Agrees.{Agrees, whole_machine}
 use Rattle.qc_app.specs.Arguments.{options_of}
 use Rattle.qc_app.proofs.Rounding.{options_are_rounded}
-use Rattle.qc_single.specs.Stage.{first_machine, HasWords}
+use Rattle.qc_run.specs.Ran.{AreTaken}
 use Rattle.qc_app.specs.Reading.{ReadsEnough}
 use Rattle.qc_app.specs.Top.{ReadsAll, RefusesInput, TellsRefusal, IsRunOf}
 
@@ -24,13 +24,11 @@ pub words_given : {E : Type 0} (r : Result (Option Options) E) (given : Option O
     → IfOk r (λ x. x ≡ meant) → meant ≡ Some o
 words_given {E} r given o meant is some h = sym (subst (λ (q : Result (Option Options) E). IfOk q (λ x. x ≡ meant)) is h) ∙ some
 
--- the cache's memory has a word, where it has any
-pub words_have : (words : List (List ℕ)) (o : Options) → options_of words ≡ Some o → HasWords o
-words_have words o e = by (options_are_rounded words o e).room
-  where
-    by : (o.size ≡ 0) ⊎ (1024 ≤ o.size) → HasWords o
-    by (inl none) = λ some. absurd (true≢false (sym (ap (λ n. n == 0) none) ∙ some))
-    by (inr least) = λ some. omega (arith, least)
+-- they are rounded, and in their ranges
+pub words_are_taken : (words : List (List ℕ)) (o : Options) → options_of words ≡ Some o → AreTaken o
+words_are_taken words o e =
+    let r = options_are_rounded words o e in
+    record { size = r.size; size_most = r.size_most; unit = r.unit; unit_least = r.unit_least; unit_most = r.unit_most }
 
 -- ---- a script that is too long
 
@@ -77,7 +75,7 @@ not_refused (Some left) now bytes s h e t =
 -- ---- the run
 
 pub run_is : (words : List (List ℕ)) (before now : Option (List ℕ)) (bytes : List ℕ) (s : Script) (o : Options) (report : Report)
-    → ReadsEnough before now bytes → script_of bytes ≡ Ok s → options_of words ≡ Some o → Agrees first_machine s o report → IsRunOf words before now report
+    → ReadsEnough before now bytes → script_of bytes ≡ Ok s → options_of words ≡ Some o → Agrees whole_machine s o report → IsRunOf words before now report
 run_is words before now bytes s o report h e chosen agrees =
     record {
       bytes = bytes;

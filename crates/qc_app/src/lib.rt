@@ -4,7 +4,6 @@
 mod arguments;
 mod message;
 mod reading;
-mod run;
 mod standard;
 mod top;
 

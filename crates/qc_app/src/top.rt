@@ -10,11 +10,13 @@ ghost use Rattle.qc_app.specs.Top.{RefusesInput, TellsRefusal, IsRunOf, HoldsMor
 
 use crate::arguments::read_words;
 use crate::reading::{Unread, read_input};
-use crate::run::run_script;
 use qc_model::reports::{Report, ScriptRefusal};
+use qc_run::run_script;
 use qc_script::{read_script, report_text};
+use qc_serve::Gate;
 use qc_types::{Or, PutStep, Sink, Source};
 use std::alloc::Global;
+use std::sync::Wait;
 
 /// How a call of the program ended.
 #[derive(Drop)]
@@ -67,20 +69,21 @@ impl Outcome {
 }
 
 /// Does what the words behind the program's name ask for. `run` reads a script from the input to its end, or until it is too long for a
-/// script, runs its session, and puts the text of the report to the output. With `--size 0` there is no cache, `--limit` is the most
-/// bytes of a reply that is kept, and `--type` the cache type with which the session begins. Of `--unit`, the bytes of a block of the
-/// cache's memory, only the report tells so far.
+/// script, runs its session over a shared server, and puts the text of the report to the output. `--size` is the bytes of the cache's memory, of
+/// which with 0 there is none, `--limit` the most bytes of a reply that is kept, `--unit` the bytes of the least block for a reply, and `--type` the
+/// cache type with which the session begins. The session passes the gate before each command, and between two pieces of a reply.
 ///
 /// The words are validated first, then the input is read, then the script is validated, then it is run. Nothing is put before the run has ended.
 /// A source or a sink that doesn't tell what it has left or holds is promised less: the clauses then speak of some input of which the
 /// report is the run. The cost is linear in the input and the report, and besides each change costs what its table holds, and each
 /// SELECT the row combinations that it reads.
-pub fn qcache_main<R, S: Source, K: Sink>(
-    _rt: &R,
+pub fn qcache_main<R: Wait, S: Source, K: Sink, G: Gate>(
+    rt: &R,
     alloc: Global,
     words: &[String],
     input: &mut S,
     out: &mut K,
+    gate: &G,
 ) -> Ended
     ensures statuses { result.status ≤ 5 }
     ensures usage { result.status ≡ 1 → options_of (map string_bytes words.now) ≡ None }
@@ -117,8 +120,8 @@ pub fn qcache_main<R, S: Source, K: Sink>(
         Err(Or::Other(refusal)) => return Outcome::Refused(refusal).ended(),
         Err(Or::Memory) => return Outcome::NoMemory(None).ended(),
     };
-    match run_script(alloc, options, &script) {
-        Ok(report) => write_report(alloc, report, out).ended(),
+    match run_script(rt, alloc, options, script, gate) {
+        Ok(ran) => write_report(alloc, ran.report, out).ended(),
         Err(_) => Outcome::NoMemory(None).ended(),
     }
 }

@@ -8,11 +8,13 @@ ghost use Rattle.std.specs.Prelude.{◌<◌, ◌≤◌, IfOk, vec_len};
 
 use crate::told::{must, same};
 use qc_app::{Ended, Ending, ScriptRefusal, StdSink, StdSource, Word, qcache_main};
+use qc_serve::Ungated;
 use qc_types::{BytesSink, BytesSource, Options, PutStep, ReadStep, Sink, Source};
 use setup::Run;
 use std::alloc::{AllocError, Global};
 use std::io::{self, ErrorKind, Read, Write};
 use std::process::Abort;
+use std::sync::Wait;
 
 const FIRST_ROW: &str = "session 1
 query CREATE DATABASE d
@@ -169,24 +171,28 @@ fn sink(alloc: Global, failing: &[u64]) -> Result<BytesSink, AllocError> {
 }
 
 /// How a run without a cache ends on a whole script, and what it writes.
-fn run(rt: &HostRuntime, script: &[u8]) -> Result<(Ended, BytesSink), AllocError> {
-    run_with(rt, "run --size 0", script)
+fn run<R: Wait>(rt: &R, alloc: Global, script: &[u8]) -> Result<(Ended, BytesSink), AllocError> {
+    run_with(rt, alloc, "run --size 0", script)
 }
 
 /// The same with these words.
-fn run_with(rt: &HostRuntime, line: &str, script: &[u8]) -> Result<(Ended, BytesSink), AllocError> {
-    let alloc = rt.alloc();
+fn run_with<R: Wait>(
+    rt: &R,
+    alloc: Global,
+    line: &str,
+    script: &[u8],
+) -> Result<(Ended, BytesSink), AllocError> {
     let words = words(alloc, line)?;
     let mut input = source(alloc, script, usize::MAX, &[])?;
     let mut out = sink(alloc, &[])?;
-    let ended = qcache_main(rt, alloc, &words, &mut input, &mut out);
+    let ended = qcache_main(rt, alloc, &words, &mut input, &mut out, &Ungated);
     Ok((ended, out))
 }
 
 /// The same behind a setup.
-fn run_behind(rt: &HostRuntime, run: &Run) -> Result<(Ended, BytesSink), AllocError> {
-    let script = run.script(rt.alloc())?;
-    run_with(rt, run.words, script.as_bytes())
+fn run_behind<R: Wait>(rt: &R, alloc: Global, run: &Run) -> Result<(Ended, BytesSink), AllocError> {
+    let script = run.script(alloc)?;
+    run_with(rt, alloc, run.words, script.as_bytes())
 }
 
 /// Asserts that a run succeeded with this report.
@@ -198,26 +204,38 @@ fn has_report(rt: &impl Abort, run: Result<(Ended, BytesSink), AllocError>, repo
 
 #[test]
 fn whole_reports(rt: HostRuntime) {
-    has_report(&rt, run(&rt, FIRST_ROW.as_bytes()), FIRST_REPORT);
-    has_report(&rt, run(&rt, b""), EMPTY_REPORT);
-    has_report(&rt, run(&rt, CHANGES.as_bytes()), CHANGES_REPORT);
+    has_report(
+        &rt,
+        run(&rt, rt.alloc(), FIRST_ROW.as_bytes()),
+        FIRST_REPORT,
+    );
+    has_report(&rt, run(&rt, rt.alloc(), b""), EMPTY_REPORT);
+    has_report(
+        &rt,
+        run(&rt, rt.alloc(), CHANGES.as_bytes()),
+        CHANGES_REPORT,
+    );
     for each in plain::RUNS {
         let report = must(&rt, each.report(rt.alloc()));
-        has_report(&rt, run_behind(&rt, each), &report);
+        has_report(&rt, run_behind(&rt, rt.alloc(), each), &report);
     }
 }
 
 #[test]
 fn whole_reports_with_a_cache(rt: HostRuntime) {
-    has_report(&rt, run_with(&rt, "run", b""), cached::EMPTY_REPORT);
     has_report(
         &rt,
-        run_with(&rt, "run", cached::ORDERS.as_bytes()),
+        run_with(&rt, rt.alloc(), "run", b""),
+        cached::EMPTY_REPORT,
+    );
+    has_report(
+        &rt,
+        run_with(&rt, rt.alloc(), "run", cached::ORDERS.as_bytes()),
         cached::ORDERS_REPORT,
     );
     for each in cached::RUNS {
         let report = must(&rt, each.report(rt.alloc()));
-        has_report(&rt, run_behind(&rt, each), &report);
+        has_report(&rt, run_behind(&rt, rt.alloc(), each), &report);
     }
 }
 
@@ -228,7 +246,7 @@ fn a_source_that_gives_few_bytes(rt: HostRuntime) {
     for piece in [1, 2, 3, 7] {
         let mut input = must(&rt, source(alloc, FIRST_ROW.as_bytes(), piece, &[]));
         let mut out = must(&rt, sink(alloc, &[]));
-        let ended = qcache_main(&rt, alloc, &words, &mut input, &mut out);
+        let ended = qcache_main(&rt, alloc, &words, &mut input, &mut out, &Ungated);
         assert_eq!(rt; ended.status, 0u8);
         assert_eq!(rt; out.bytes(), FIRST_REPORT.as_bytes());
     }
@@ -238,7 +256,7 @@ fn a_source_that_gives_few_bytes(rt: HostRuntime) {
 fn a_query_of_an_unknown_table(rt: HostRuntime) {
     let unknown = plain::UNKNOWN_TABLE;
     let report = must(&rt, unknown.report(rt.alloc()));
-    has_report(&rt, run_behind(&rt, &unknown), &report);
+    has_report(&rt, run_behind(&rt, rt.alloc(), &unknown), &report);
 }
 
 /// Words, each with the size, limit, unit and type that they ask for.
@@ -269,7 +287,7 @@ fn words_of_the_command_line(rt: HostRuntime) {
         ),
     ];
     for (line, size, limit, unit, kind) in rows {
-        let (ended, _out) = must(&rt, run_with(&rt, line, FIRST_ROW.as_bytes()));
+        let (ended, _out) = must(&rt, run_with(&rt, rt.alloc(), line, FIRST_ROW.as_bytes()));
         assert_eq!(rt; ended.status, 0u8, "at {line}");
         let Some(report) = ended.report else {
             panic!(rt; "no report");
@@ -318,6 +336,7 @@ fn words_in_no_form(rt: HostRuntime) {
             &must(&rt, words(alloc, line)),
             &mut input,
             &mut out,
+            &Ungated,
         );
         assert_eq!(rt; ended.status, 1u8, "at {line}");
         assert_eq!(rt; out.bytes().is_empty(), true, "at {line}");
@@ -341,7 +360,7 @@ fn scripts_that_are_refused(rt: HostRuntime) {
         (b"session 1\nquit\n# x\n ping", "script: bad line 4"),
     ];
     for (script, message) in rows {
-        let (ended, out) = must(&rt, run(&rt, script));
+        let (ended, out) = must(&rt, run(&rt, rt.alloc(), script));
         assert_eq!(rt; ended.status, 2u8, "at {script:?}");
         assert_eq!(rt; out.bytes().is_empty(), true, "at {script:?}");
         let Some(refusal) = ended.bad else {
@@ -454,6 +473,7 @@ fn slow_standard_streams(rt: HostRuntime) {
         &words,
         &mut input,
         &mut StdSink::new(&mut written),
+        &Ungated,
     );
     same(&rt, ended.status, 0u8);
     same(&rt, written.bytes.as_slice(), FIRST_REPORT.as_bytes());
@@ -482,7 +502,7 @@ fn faults(rt: HostRuntime) {
     for call in [1, 2, 3] {
         let mut input = must(&rt, source(alloc, FIRST_ROW.as_bytes(), 100, &[call]));
         let mut out = must(&rt, sink(alloc, &[]));
-        let ended = qcache_main(&rt, alloc, &words, &mut input, &mut out);
+        let ended = qcache_main(&rt, alloc, &words, &mut input, &mut out, &Ungated);
         assert_eq!(rt; ended.status, 3u8, "at call {call}");
         assert_eq!(rt; out.bytes().is_empty(), true, "at call {call}");
         assert_eq!(rt; ended.report.is_none(), true, "at call {call}");
@@ -494,11 +514,12 @@ fn faults(rt: HostRuntime) {
         &words,
         &mut input,
         &mut must(&rt, sink(alloc, &[1])),
+        &Ungated,
     );
     same(&rt, ended.status, 4u8);
     same(&rt, ended.report.is_some(), true);
     let mut input = must(&rt, source(alloc, FIRST_ROW.as_bytes(), 100, &[]));
-    let ended = qcache_main(&rt, alloc, &words, &mut input, &mut FullSink);
+    let ended = qcache_main(&rt, alloc, &words, &mut input, &mut FullSink, &Ungated);
     same(&rt, ended.status, 5u8);
 }
 
@@ -509,9 +530,8 @@ fn answer_line(answer: &str) -> &'static str {
     } else if answer == "unknown" {
         // 1047, 08S01, Unknown command
         "0 local 18000001ff1704233038533031556e6b6e6f776e20636f6d6d616e64\n"
-    } else if answer == "form" {
-        // 1235, 42000, Not supported: form
-        "0 local 1c000001ffd3042334323030304e6f7420737570706f727465643a20666f726d\n"
+    } else if answer == "reset" {
+        "1 other 0700000100000002000000\n"
     } else if answer == "syntax" {
         // 1064, 42000, Syntax error at byte 0
         "0 local 1f000001ff280423343230303053796e746178206572726f7220617420627974652030\n"
@@ -539,6 +559,8 @@ fn answer_line(answer: &str) -> &'static str {
 const NONE: &str = "journal 0\n";
 
 const CREATED: &str = "journal 1\n1 commit 1 1 1 createdb:64\n";
+
+const RESET: &str = "journal 1\n1 reset 1 1\n";
 
 const REFUSED: &str = "journal 1\n1 run 1 1 other\n";
 
@@ -628,11 +650,16 @@ fn streams_of_a_session(rt: HostRuntime) {
             "input",
             REFUSED,
         ),
-        ("query RESET QUERY CACHE\nping", "form ping", "input", NONE),
+        (
+            "query RESET QUERY CACHE\nping",
+            "reset later",
+            "input",
+            RESET,
+        ),
     ];
     for (lines, answers, ending, journal) in rows {
         let script = must(&rt, format!(in alloc; "session 1\n{lines}"));
-        let (ended, out) = must(&rt, run(&rt, script.as_bytes()));
+        let (ended, out) = must(&rt, run(&rt, rt.alloc(), script.as_bytes()));
         assert_eq!(rt; ended.status, 0u8, "at {lines}");
         let report = must(&rt, stream_report(alloc, answers, ending, journal));
         assert_eq!(rt; out.bytes(), report.as_bytes(), "at {lines}");
@@ -640,9 +667,8 @@ fn streams_of_a_session(rt: HostRuntime) {
 }
 
 /// The place and the word of each line of a script's session.
-fn answers(rt: &HostRuntime, script: &[u8]) -> Result<String, AllocError> {
-    let alloc = rt.alloc();
-    let (ended, _out) = run(rt, script)?;
+fn answers<R: Wait>(rt: &R, alloc: Global, script: &[u8]) -> Result<String, AllocError> {
+    let (ended, _out) = run(rt, alloc, script)?;
     let mut text = String::new(alloc);
     if let Some(report) = ended.report {
         for session in report.sessions.items() {
@@ -758,7 +784,7 @@ fn commands_of_every_form(rt: HostRuntime) {
         must(&rt, script.extend_from_slice(rest));
         let want = must(&rt, format!(in alloc; "1 other, 2 other, 3 other, {want}"));
         assert_eq!(rt;
-            must(&rt, answers(&rt, &script)).as_str(),
+            must(&rt, answers(&rt, rt.alloc(), &script)).as_str(),
             want.as_str(),
             "at {rest:?}"
         );
@@ -766,11 +792,10 @@ fn commands_of_every_form(rt: HostRuntime) {
 }
 
 /// The reply to the last command of a script's last session.
-fn last_reply(rt: &HostRuntime, script: &[u8]) -> Result<Vec<u8>, AllocError> {
-    let alloc = rt.alloc();
-    let (ended, _out) = run(rt, script)?;
+fn last_reply<R: Wait>(rt: &R, alloc: Global, script: &[u8]) -> Result<Vec<u8>, AllocError> {
+    let (ended, _out) = run(rt, alloc, script)?;
     let Some(report) = ended.report else {
-        return Ok(Vec::new(rt.alloc()));
+        return Ok(Vec::new(alloc));
     };
     let mut last = Vec::new(alloc);
     for session in report.sessions.items() {
@@ -836,7 +861,7 @@ fn texts_of_every_length_form(rt: HostRuntime) {
         &rt,
         wanted.extend_from_slice(b"\x05\x00\x00\x09\xfe\x00\x00\x02\x00"),
     );
-    let reply = must(&rt, last_reply(&rt, &script));
+    let reply = must(&rt, last_reply(&rt, rt.alloc(), &script));
     same(&rt, reply.as_slice(), wanted.as_slice());
 }
 
@@ -881,7 +906,7 @@ fn sequence_numbers_go_round(rt: HostRuntime) {
         &rt,
         wanted.extend_from_slice(b"\x05\x00\x00\x30\xfe\x00\x00\x02\x00"),
     );
-    let reply = must(&rt, last_reply(&rt, &script));
+    let reply = must(&rt, last_reply(&rt, rt.alloc(), &script));
     same(&rt, reply.as_slice(), wanted.as_slice());
 }
 
@@ -901,7 +926,7 @@ fn long_script(alloc: Global, last: usize) -> Result<Vec<u8>, AllocError> {
 fn the_longest_input(rt: HostRuntime) {
     let script = must(&rt, long_script(rt.alloc(), 16_777_187));
     same(&rt, script.len(), 67_108_864usize);
-    let all = must(&rt, answers(&rt, &script));
+    let all = must(&rt, answers(&rt, rt.alloc(), &script));
     same(&rt, all.as_str(), "0 local, 0 local, 0 local, 0 local, ");
 }
 
@@ -919,6 +944,7 @@ fn a_byte_too_many(rt: HostRuntime) {
         &words,
         &mut input,
         &mut must(&rt, sink(alloc, &[])),
+        &Ungated,
     );
     same(&rt, ended.status, 2u8);
     let Some(refusal) = ended.bad else {
@@ -938,7 +964,7 @@ fn a_query_that_no_packet_carries(rt: HostRuntime) {
             &rt,
             script.resize(script.len().saturating_add(letters), b'a'),
         );
-        let (ended, _out) = must(&rt, run(&rt, &script));
+        let (ended, _out) = must(&rt, run(&rt, rt.alloc(), &script));
         assert_eq!(rt; ended.status, status, "of {letters} letters");
     }
 }
@@ -949,7 +975,7 @@ fn many_pings(rt: HostRuntime) {
     for _ in 0..200_000u32 {
         must(&rt, script.extend_from_slice(b"ping\n"));
     }
-    let (ended, _out) = must(&rt, run(&rt, &script));
+    let (ended, _out) = must(&rt, run(&rt, rt.alloc(), &script));
     same(&rt, ended.status, 0u8);
     let Some(report) = ended.report else {
         panic!(rt; "no report");
@@ -998,7 +1024,7 @@ fn many_inserts(rt: HostRuntime) {
         }
     }
     must(&rt, script.extend_from_slice(b"query SELECT id FROM t\n"));
-    let (ended, _out) = must(&rt, run(&rt, &script));
+    let (ended, _out) = must(&rt, run(&rt, rt.alloc(), &script));
     same(&rt, ended.status, 0u8);
     let Some(report) = ended.report else {
         panic!(rt; "no report");

@@ -28,6 +28,8 @@
 //! start 1 gone 62 over 61            the same, where a prefix of its reply is longer than the limit
 //! plain off                          a SELECT outside the cache, and why: off, notasked, locking, notables, systemtable, function, written
 //! plain error 1146                   a SELECT that was refused
+//! status 5 2 1047040                 SHOW STATUS, with the blocks, how many of them free, and the bytes of these
+//! flush, reset                       FLUSH QUERY CACHE; RESET QUERY CACHE or FLUSH TABLES
 //! commit put d.t 7,abc; del d.t 8    operations, in their order
 //! ```
 //!
@@ -45,23 +47,24 @@ mod texts;
 mod transactions;
 mod updates;
 
-ghost use Rattle.std.specs.Prelude.{◌≡◌, ◌≢◌, ◌<◌, ◌≤◌, length, IfOk};
+ghost use Rattle.std.specs.Prelude.{◌≡◌, ◌≢◌, ◌≤◌, length, IfOk};
 ghost use Rattle.qc_sql.specs.declared.commands.Command.TheVariants as sent;
 ghost use Rattle.qc_sql.specs.Commands.{command_payload};
 ghost use Rattle.qc_sql.specs.Packets.{most_payload};
-ghost use Rattle.qc_single.specs.Stage.{HasWords};
+ghost use Rattle.qc_run.specs.Ran.{AreTaken, MayRun};
 
 use crate::told::is_empty;
-use qc_app::{Event, ReportLine};
+use qc_app::{Event, ReportLine, Script};
 use qc_cases::{Case, Differences, cases};
-use qc_single::{Finished, SingleSession};
+use qc_run::{Ran, run_script};
+use qc_serve::Ungated;
 use qc_sql::commands::Command;
-use qc_types::{NoMemory, Options, Steps, Text};
+use qc_types::{NoMemory, Options, Text, Texts};
+use qc_wire::put_command;
 use show::{Left, put_answer, put_event};
 use std::alloc::Global;
-use std::marker::Brand;
 use std::process::Abort;
-use std::sync::ledger::{Blank, Ledger};
+use std::sync::Wait;
 use std::test::Fail;
 
 /// The command that a text means.
@@ -135,60 +138,87 @@ fn options(size: u32, limit: u32) -> Options
     }
 }
 
-/// What a session on an empty database answers and leaves otherwise than a script says.
-fn differences_with(alloc: Global, options: Options, script: &str) -> Result<String, Fail>
-    requires words { HasWords options }
-{
-    let script = cases(alloc, script)?;
-    differences_by::<Brand>(alloc, options, &script, Blank::new(1))
-}
-
-/// The same, with the steps counted on this ledger.
-fn differences_by<L: Ledger>(
-    alloc: Global,
-    options: Options,
-    script: &[Case<'_>],
-    blank: Blank,
-) -> Result<String, Fail>
-    requires words { HasWords options }
-    requires name { blank.name ≡ L.name }
-    requires parts { blank.parts ≡ L.parts }
-    requires one { 0 < blank.parts }
-{
-    let mut steps = Steps::<L>::new(blank);
-    let mut session = SingleSession::new(alloc, options)?;
+/// The input that sends the commands of a script.
+fn input_of(alloc: Global, script: &[Case<'_>]) -> Result<Text, Fail> {
+    let mut input = Text::of(alloc, &[])?;
     for case in script {
         let command = command_of(alloc, case.text)?;
-        session = session.execute(alloc, &command, &mut steps)?;
+        if put_command(alloc, &command, &mut input).is_err() {
+            return Err(Fail::from("a command that fits no packet"));
+        }
     }
-    let Finished { journal, lines, .. } = session.finish();
-    let events = journal.into_events();
-    Ok(differences_in(alloc, script, lines.items(), events.items())?)
+    Ok(input)
+}
+
+/// The script of one session with this input.
+fn script_of(alloc: Global, input: Text) -> Result<Script, Fail>
+    ensures { IfOk result MayRun }
+{
+    let mut sessions = Texts::new(alloc);
+    sessions.push(input)?;
+    Ok(Script {
+        setup: None,
+        sessions,
+    })
+}
+
+/// What a session on an empty database answers and leaves otherwise than a script says.
+fn differences_with<R: Wait>(
+    rt: &R,
+    alloc: Global,
+    options: Options,
+    script: &str,
+) -> Result<String, Fail>
+    requires { AreTaken options }
+{
+    let script = cases(alloc, script)?;
+    let input = input_of(alloc, &script)?;
+    let whole = script_of(alloc, input)?;
+    let Ran { report, server: _ } = run_script(rt, alloc, options, whole, &Ungated)?;
+    let [session] = report.sessions.items() else {
+        return Err(Fail::from("another number of sessions"));
+    };
+    Ok(differences_in(
+        alloc,
+        &script,
+        session.lines.items(),
+        report.journal.items(),
+    )?)
 }
 
 /// Asserts that sessions without a cache answer and leave what scripts say, each on a session of its own.
-fn agree(rt: &impl Abort, alloc: Global, scripts: &[&str]) -> Result<(), Fail> {
+fn agree(rt: &(impl Abort + Wait), alloc: Global, scripts: &[&str]) -> Result<(), Fail> {
     for script in scripts {
-        let lines = differences_with(alloc, options(0, 1_048_576), script)?;
+        let lines = differences_with(rt, alloc, options(0, 1_048_576), script)?;
         is_empty(rt, &lines);
     }
     Ok(())
 }
 
 /// The same with a cache that keeps replies of so many bytes, behind the setup.
-fn agree_cached(rt: &impl Abort, alloc: Global, limit: u32, scripts: &[&str]) -> Result<(), Fail> {
+fn agree_cached(
+    rt: &(impl Abort + Wait),
+    alloc: Global,
+    limit: u32,
+    scripts: &[&str],
+) -> Result<(), Fail> {
     for script in scripts {
-        let lines = cached_differences(alloc, limit, script)?;
+        let lines = cached_differences(rt, alloc, limit, script)?;
         is_empty(rt, &lines);
     }
     Ok(())
 }
 
 /// What a session with such a cache answers and leaves otherwise than a script says.
-fn cached_differences(alloc: Global, limit: u32, script: &str) -> Result<String, Fail> {
+fn cached_differences<R: Wait>(
+    rt: &R,
+    alloc: Global,
+    limit: u32,
+    script: &str,
+) -> Result<String, Fail> {
     let mut whole = String::from_str(alloc, cached::SETUP)?;
     whole.push_str(script)?;
-    differences_with(alloc, options(1_048_576, limit), &whole)
+    differences_with(rt, alloc, options(1_048_576, limit), &whole)
 }
 
 #[test]

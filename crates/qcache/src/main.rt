@@ -2,32 +2,33 @@
 #![tactic(auto)]
 
 use qc_app::{Ended, StdSink, StdSource, qcache_main};
+use qc_serve::Ungated;
 use std::env;
 use std::io::{self, ErrorKind};
 use std::process::ExitCode;
 
 fn main(rt: HostRuntime) -> ExitCode {
-    let ended = run(&rt);
+    let mut input = StdSource::new(rt.reader());
+    let mut out = StdSink::new(io::writer(&rt));
+    let ended = match words(&rt) {
+        Ok(words) => qcache_main(&rt, rt.alloc(), &words, &mut input, &mut out, &Ungated),
+        Err(error) => without_words(&error),
+    };
     // Whether the standard error takes the message changes nothing of how the run ended.
     let _told = tell(&rt, &ended);
     ExitCode::from(ended.status)
 }
 
-/// The top call on the words of the command line and the standard streams. Words that aren't UTF-8 are in no form.
-fn run(rt: &HostRuntime) -> Ended {
-    let mut input = StdSource::new(rt.reader());
-    let mut out = StdSink::new(io::writer(rt));
-    match words(rt) {
-        Ok(words) => qcache_main(rt, rt.alloc(), &words, &mut input, &mut out),
-        Err(error) => Ended {
-            status: if error.kind() == ErrorKind::OutOfMemory {
-                5
-            } else {
-                1
-            },
-            report: None,
-            bad: None,
+/// Words that aren't UTF-8 are in no form; or memory was wanting for them.
+fn without_words(error: &io::Error) -> Ended {
+    Ended {
+        status: if error.kind() == ErrorKind::OutOfMemory {
+            5
+        } else {
+            1
         },
+        report: None,
+        bad: None,
     }
 }
 

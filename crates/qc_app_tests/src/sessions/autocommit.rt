@@ -69,7 +69,7 @@ SELECT id FROM t UNION SELECT 1
 INSERT INTO t
     error 1064 Syntax error at byte 13 | -
 SHOW STATUS LIKE 'Qcache%'
-    error 1235 Not supported: form | -
+    rows Qcache_free_blocks,0;Qcache_free_memory,0;Qcache_hits,0;Qcache_inserts,0;Qcache_lowmem_prunes,0;Qcache_not_cached,6;Qcache_queries_in_cache,0;Qcache_total_blocks,0 status 0 | status 0 0 0
 USE d
     ok 0 status 0 | other
 USE x

@@ -196,7 +196,9 @@ fn put_one_event(alloc: Global, event: &Event, out: &mut Vec<u8>) -> Result<(), 
         Event::Commit { ops, .. } => put_ops(alloc, ops.items(), out),
         Event::Done { .. } => put(b"done", out),
         Event::Gone { why, .. } => put_gone(alloc, why, out),
-        _ => put(b"another event", out),
+        Event::Reset { .. } => put(b"reset", out),
+        Event::Flush { .. } => put(b"flush", out),
+        Event::Prune { .. } => put(b"prune", out),
     }
 }
 
@@ -216,7 +218,14 @@ fn put_how(alloc: Global, how: &How, out: &mut Vec<u8>) -> Result<(), NoMemory> 
         }
         How::Other => put(b"other", out),
         How::Conflict { .. } => put(b"conflict", out),
-        How::Status(_) => put(b"status", out),
+        How::Status(totals) => {
+            put(b"status ", out)?;
+            put_number(alloc, u64::from(totals.blocks), out)?;
+            put(b" ", out)?;
+            put_number(alloc, u64::from(totals.free_blocks), out)?;
+            put(b" ", out)?;
+            put_number(alloc, 8 * u64::from(totals.free_words), out)
+        }
     }
 }
 

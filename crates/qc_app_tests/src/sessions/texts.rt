@@ -119,19 +119,19 @@ COMMIT
 /// The statements on the cache are refused, and leave no event and the transaction as it was.
 pub const STATEMENTS_ON_THE_CACHE: &str = r#"
 SHOW STATUS LIKE 'Qcache%'
-    error 1235 Not supported: form | -
+    rows Qcache_free_blocks,0;Qcache_free_memory,0;Qcache_hits,0;Qcache_inserts,0;Qcache_lowmem_prunes,0;Qcache_not_cached,0;Qcache_queries_in_cache,0;Qcache_total_blocks,0 status 2 | status 0 0 0
 SHOW GLOBAL STATUS LIKE 'Qcache%'
-    error 1235 Not supported: form | -
+    rows Qcache_free_blocks,0;Qcache_free_memory,0;Qcache_hits,0;Qcache_inserts,0;Qcache_lowmem_prunes,0;Qcache_not_cached,0;Qcache_queries_in_cache,0;Qcache_total_blocks,0 status 2 | status 0 0 0
 show status like "Qcache%"
-    error 1235 Not supported: form | -
+    rows Qcache_free_blocks,0;Qcache_free_memory,0;Qcache_hits,0;Qcache_inserts,0;Qcache_lowmem_prunes,0;Qcache_not_cached,0;Qcache_queries_in_cache,0;Qcache_total_blocks,0 status 2 | status 0 0 0
 SHOW STATUS LIKE 'qcache%'
     error 1235 Not supported: SHOW | -
 FLUSH QUERY CACHE
-    error 1235 Not supported: form | -
+    ok 0 status 2 | flush
 FLUSH TABLES
-    error 1235 Not supported: form | -
+    ok 0 status 2 | reset
 RESET QUERY CACHE
-    error 1235 Not supported: form | -
+    ok 0 status 2 | reset
 FLUSH LOGS
     error 1064 Syntax error at byte 6 | -
 RESET MASTER
@@ -147,13 +147,13 @@ BEGIN
 INSERT INTO t VALUES (1)
     ok 1 status 3 | other
 SHOW STATUS LIKE 'Qcache%'
-    error 1235 Not supported: form | -
+    rows Qcache_free_blocks,0;Qcache_free_memory,0;Qcache_hits,0;Qcache_inserts,0;Qcache_lowmem_prunes,0;Qcache_not_cached,0;Qcache_queries_in_cache,0;Qcache_total_blocks,0 status 3 | status 0 0 0
 FLUSH QUERY CACHE
-    error 1235 Not supported: form | -
+    ok 0 status 3 | flush
 FLUSH TABLES
-    error 1235 Not supported: form | -
+    ok 0 status 3 | reset
 RESET QUERY CACHE
-    error 1235 Not supported: form | -
+    ok 0 status 3 | reset
 ping
     ok 0 status 3 | -
 SELECT id FROM t

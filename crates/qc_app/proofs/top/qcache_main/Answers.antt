@@ -6,8 +6,8 @@ use Rattle.qc_app.specs.Arguments.{options_of}
 use Rattle.qc_app.specs.declared.top.Ended.{Ended}
 use Rattle.qc_app.specs.Outcomes.{ended_of}
 use Rattle.qc_app.specs.Top.{RefusesInput, IsRunOf}
-use Rattle.qc_app.proofs.Inputs.{script_is_small}
-use Rattle.qc_app.proofs.Tops.{refusal_is, not_taken, not_refused, run_is, if_some, given, given_refusal, words_given, words_have}
+use Rattle.qc_app.proofs.Inputs.{script_may_run}
+use Rattle.qc_app.proofs.Tops.{refusal_is, not_taken, not_refused, run_is, if_some, given, given_refusal, words_given, words_are_taken}
 use Rattle.qc_app.proofs.top.qcache_main.Goals as goal
 
 pub returns-in-Err-Other-clause-refusal : goal.returns-in-Err-Other-clause-refusal
@@ -27,15 +27,15 @@ returns-in-Err-Other-clause-completes g c = λ chosen tells quiet still.
     let means = given_refusal c.read_script.result c.in-Err-Other.field-0 refusal (script_of c.deref.result.now) c.in-Err-Other.is c.in-Err-Other.field-0-is c.read_script.ensures.script in
     not_taken (left c.args.input.now) (left c.read_input.new.input) c.in-Ok.bytes.items refusal c.in-Ok.ensures.bytes (ap script_of (sym c.deref.ensures.value) ∙ means) tells
 
-pub run_script-requires-clause-words : goal.run_script-requires-clause-words
-run_script-requires-clause-words g c =
+pub run_script-requires-clause-options : goal.run_script-requires-clause-options
+run_script-requires-clause-options g c =
     let words = map (string_bytes {Z = Global}) c.args.words.now in
-    words_have words c.in-Ok-Some.options
+    words_are_taken words c.in-Ok-Some.options
     (words_given c.read_words.result c.in-Ok-Some.field-0 c.in-Ok-Some.options (options_of words) c.in-Ok-Some.is c.in-Ok-Some.field-0-is c.read_words.ensures.options)
 
-pub run_script-requires-clause-small : goal.run_script-requires-clause-small
-run_script-requires-clause-small g c =
-    script_is_small c.deref.result.now c.in-Ok-read_script.script
+pub run_script-requires-clause-script : goal.run_script-requires-clause-script
+run_script-requires-clause-script g c =
+    script_may_run c.deref.result.now c.in-Ok-read_script.script
     (given c.read_script.result c.in-Ok-read_script.script (script_of c.deref.result.now) c.in-Ok-read_script.is c.read_script.ensures.script)
 
 pub returns-in-Ok-run_script-clause-agrees : goal.returns-in-Ok-run_script-clause-agrees
@@ -43,7 +43,7 @@ returns-in-Ok-run_script-clause-agrees g c =
     let words = map (string_bytes {Z = Global}) c.args.words.now in
     let left = g.S.Source.left in
     let script = c.in-Ok-read_script.script in
-    let report = c.in-Ok-run_script.report in
+    let report = c.in-Ok-run_script.ran.report in
     let means = given c.read_script.result script (script_of c.deref.result.now) c.in-Ok-read_script.is c.read_script.ensures.script in
     subst (λ (e : Ended). IfSome e.report (IsRunOf words (left c.args.input.now) (left c.read_input.new.input))) (sym c.ended-in-Ok-run_script.ensures)
     (if_some (λ (r : Report). r ≡ report) (IsRunOf words (left c.args.input.now) (left c.read_input.new.input))

@@ -1,4 +1,0 @@
-use Rattle.qc_app.proofs.run.run_one.Given as goal
-
-abbrev pub ghosts-run_session : goal.ghosts-run_session
-ghosts-run_session a = record { name = a.blank.name; parts = a.blank.parts }

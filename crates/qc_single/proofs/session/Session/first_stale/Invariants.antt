@@ -1,8 +1,0 @@
-use Rattle.std.proofs.Common.{◌≡◌, drop}
-use Rattle.std.specs.Prelude.{find}
-use Rattle.qc_model.specs.Choice.{is_stale}
-use Rattle.qc_single.specs.Choosing.{state_at}
-use Rattle.qc_single.proofs.session.Session.first_stale.Given as goal
-
-abbrev pub invariant-loop-table : goal.invariant-loop-table
-invariant-loop-table l = find (is_stale (state_at l.self) l.self.journal.events) (drop l.table-index l.tables) ≡ find (is_stale (state_at l.self) l.self.journal.events) l.tables
