@@ -47,10 +47,8 @@ mod texts;
 mod transactions;
 mod updates;
 
-ghost use Rattle.std.specs.Prelude.{◌≡◌, ◌≢◌, ◌≤◌, length, IfOk};
-ghost use Rattle.qc_sql.specs.declared.commands.Command.TheVariants as sent;
-ghost use Rattle.qc_sql.specs.Commands.{command_payload};
-ghost use Rattle.qc_sql.specs.Packets.{most_payload};
+ghost use Rattle.std.specs.Prelude.{◌≡◌, IfOk, IsTrue};
+ghost use Rattle.qc_wire.specs.Commands.{can_be_read};
 ghost use Rattle.qc_run.specs.Ran.{AreTaken, MayRun};
 
 use crate::told::is_empty;
@@ -69,8 +67,7 @@ use std::test::Fail;
 
 /// The command that a text means.
 fn command_of(alloc: Global, text: &str) -> Result<Command, Fail>
-    ensures within { IfOk result (λ command. length (command_payload command) ≤ most_payload) }
-    ensures answered { IfOk result (λ command. command ≢ sent.Quit) }
+    ensures { IfOk result (λ command. IsTrue (can_be_read command)) }
 {
     if text == "ping" {
         return Ok(Command::Ping);
@@ -85,9 +82,7 @@ fn command_of(alloc: Global, text: &str) -> Result<Command, Fail>
 }
 
 /// A text of no more than 10,000 bytes.
-fn short(alloc: Global, text: &str) -> Result<Text, Fail>
-    ensures { IfOk result (λ t. length t ≤ 10000) }
-{
+fn short(alloc: Global, text: &str) -> Result<Text, Fail> {
     let bytes = text.as_bytes();
     if bytes.len() > 10_000 {
         return Err(Fail::from("a text is too long"));
