@@ -76,18 +76,9 @@ fn command_of(alloc: Global, text: &str) -> Result<Command, Fail>
         return Ok(Command::Empty);
     }
     match text.strip_prefix("init ") {
-        Some(name) => Ok(Command::InitDb(short(alloc, name)?)),
-        None => Ok(Command::Query(short(alloc, text)?)),
+        Some(name) => Ok(Command::InitDb(Text::of(alloc, name.as_bytes())?)),
+        None => Ok(Command::Query(Text::of(alloc, text.as_bytes())?)),
     }
-}
-
-/// A text of no more than 10,000 bytes.
-fn short(alloc: Global, text: &str) -> Result<Text, Fail> {
-    let bytes = text.as_bytes();
-    if bytes.len() > 10_000 {
-        return Err(Fail::from("a text is too long"));
-    }
-    Ok(Text::of(alloc, bytes)?)
 }
 
 /// What a command was answered and left, by its line and the events that are left.

@@ -92,7 +92,10 @@ pub fn put_event(
 /// Whether an event is that of session 1 with this number.
 fn is_numbered(event: &Event, wanted: u64) -> bool {
     match event {
-        Event::Run { who, .. } | Event::Commit { who, .. } => is_who(*who, wanted),
+        Event::Run { who, .. }
+        | Event::Commit { who, .. }
+        | Event::Reset { who }
+        | Event::Flush { who } => is_who(*who, wanted),
         _ => false,
     }
 }
