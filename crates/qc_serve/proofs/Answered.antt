@@ -21,7 +21,7 @@ use Rattle.qc_model.specs.declared.events.Event.TheVariants as event
 use Rattle.qc_model.specs.declared.events.How.TheVariants as how
 use Rattle.qc_model.specs.declared.reports.ReportLine.{ReportLine}
 use Rattle.qc_model.specs.declared.reports.Word.TheVariants as word
-use Rattle.qc_model.specs.Agrees.{line, who_of}
+use Rattle.qc_model.specs.Agrees.{line, who_of, whole_machine}
 use Rattle.qc_model.specs.Cache.{cache}
 use Rattle.qc_model.specs.Cache.{Entry as Cached}
 use Rattle.qc_model.specs.Choice.{Allows, answering, has_key, is_visible}
@@ -60,7 +60,6 @@ use Rattle.qc_serve.specs.Querying.{EndsStream, HasFound}
 use Rattle.qc_serve.specs.Seats.{SeatRests}
 use Rattle.qc_serve.specs.Sent.{Sends, SendsFrontOf}
 use Rattle.qc_serve.specs.SentAt.{SendsAt}
-use Rattle.qc_serve.specs.Stage.{serve_machine}
 use Rattle.qc_serve.proofs.Answering.{answers_event}
 use Rattle.qc_serve.proofs.Hitting.{from_map}
 use Rattle.qc_serve.proofs.Resting.{fit_taken}
@@ -194,6 +193,7 @@ module _ (t : Turn Parts Event) (text : List ℕ) (old held : Session) (found : 
     pub rests : SeatRests t (number_of old) new.seat
     pub seen : seen_by new ≡ seen_by held
     pub fixed : (view new.seat).fixed ≡ (view held.seat).fixed
+    pub registry : (view new.seat).registry ≡ (view held.seat).registry
     pub room : new.seat.ranges.room ≡ held.seat.ranges.room
     pub state : new.state ≡ arrived_snapshot_state found.hit.place found.database old.state
     pub place : new.place ≡ found.hit.place
@@ -227,17 +227,18 @@ module _ (t : Turn Parts Event) (text : List ℕ) (old held : Session) (found : 
     does_hit =
         let I : Journal = seen_by old in
         let goes = f.streams.decides.goes_on in
-        let a : Answers serve_machine old.options (number_of old) (stand I state old.place) (command.Query text) (line (1 + length J + length {A = Event} []) word.Hit reply) (stand (J ++ e ∷ []) at (1 + length J + length {A = Event} []))
-        = answers_event serve_machine old.options (number_of old) I J [] [] state at old.place (command.Query text) e reply refl goes.begins goes.none refl mine refl refl no_local
+        let a : Answers whole_machine old.options (number_of old) (stand I state old.place) (command.Query text) (line (1 + length J + length {A = Event} []) word.Hit reply) (stand (J ++ e ∷ []) at (1 + length J + length {A = Event} []))
+        = answers_event whole_machine old.options (number_of old) I J [] [] state at old.place (command.Query text) e reply refl goes.begins goes.none refl mine refl refl no_local
         (subst (λ (j : Journal). Executes old.options (next_who old) state (command.Query text) j e reply at) (sym (append-nil J)) executed) tt in
         let at_place : 1 + length J + length {A = Event} [] ≡ new.place = sym (s.place ∙ place_is) in
         record {
           answered = line new.place word.Hit reply;
-          answers = subst (λ (p : ℕ × Position). Answers serve_machine old.options (number_of old) (position_of old) (command.Query text) (line p.0 word.Hit reply) p.1)
+          answers = subst (λ (p : ℕ × Position). Answers whole_machine old.options (number_of old) (position_of old) (command.Query text) (line p.0 word.Hit reply) p.1)
               (λ i. (at_place i, stand (sym seen_now i) (sym (ap (λ (x : SnapshotState). x.state) state_now) i) (at_place i))) a;
           reply = sym bytes_is;
           lines = s.lines ∙ ap (λ (p : ℕ). old.log.lines ++ logged p word.Hit ∷ []) (sym s.place);
           options = s.options;
+          standing = let turns = f.streams.turns in λ i. ((s.fixed ∙ turns.fixed) i, (s.registry ∙ turns.registry) i);
           end = s.end;
           session = ap (λ (x : SnapshotState). x.state.session) s.state;
           rest = rest_now;
@@ -271,7 +272,7 @@ module _ (t : Turn Parts Event) (text : List ℕ) (old held : Session) (found : 
         let earlier : before new.place (seen_by new) ≡ J = (λ i. before (sym at_place i) (seen_now i)) ∙ (before_it J [] [] e ∙ append-nil J) in
         let ran : Executes old.options (who_of (number_of old) (length (own (number_of old) I) + 1)) state (command.Query text) (before new.place (seen_by new)) e reply at =
         subst (λ (p : ℕ × Journal). Executes old.options (who_of (number_of old) (p.0 + 1)) state (command.Query text) p.1 e reply at) (λ i. (sym (own_count (number_of old) I) i, sym earlier i)) executed in
-        let event_line : HasEventLine serve_machine old.options (number_of old) (position_of old) (command.Query text) l (seen_by new) = (e, reply, at, grows, ran, refl, tt) in
+        let event_line : HasEventLine whole_machine old.options (number_of old) (position_of old) (command.Query text) l (seen_by new) = (e, reply, at, grows, ran, refl, tt) in
         record {
           rests = s.rests;
           breaks = record {
@@ -281,9 +282,10 @@ module _ (t : Turn Parts Event) (text : List ℕ) (old held : Session) (found : 
             grows = grows;
             lines = s.lines ∙ ap (λ (p : ℕ). old.log.lines ++ logged p word.Hit ∷ []) (sym s.place);
             session = ap (λ (x : SnapshotState). x.state.session) s.state;
+            standing = does.standing;
             sent = inr (
               l,
-              subst (λ (o : Local). MatchOption o (HasEventLine serve_machine old.options (number_of old) (position_of old) (command.Query text) l (seen_by new)) (λ given. (l ≡ line old.place word.Local given.0) × (own (number_of old) (seen_by new) ≡ own (number_of old) (seen_by old)))) (sym no_local) event_line,
+              subst (λ (o : Local). MatchOption o (HasEventLine whole_machine old.options (number_of old) (position_of old) (command.Query text) l (seen_by new)) (λ given. (l ≡ line old.place word.Local given.0) × (own (number_of old) (seen_by new) ≡ own (number_of old) (seen_by old)))) (sym no_local) event_line,
               subst (λ (b : List ℕ). SendsFrontOf was_held out b) bytes_is front,
             );
           };
@@ -311,6 +313,7 @@ streamed t text old held mid new found rest f is lines ends same =
       rests = subst (λ (k : ℕ). SeatRests t k new.seat) session ends.rests;
       seen = ends.seen ∙ ap (λ (x : Seat Parts Event ghosts). (view x).seen) seat;
       fixed = ends.fixed ∙ ap (λ (x : Seat Parts Event ghosts). (view x).fixed) seat;
+      registry = ends.registry ∙ ap (λ (x : Seat Parts Event ghosts). (view x).registry) seat;
       room = ends.room ∙ ap (λ (x : Seat Parts Event ghosts). x.ranges.room) seat;
       state = ap (λ (x : Session). x.state) same ∙ (ap (λ (x : Session). x.state) is ∙ ap (λ (x : Session). arrived_snapshot_state found.hit.place found.database x.state) f.same);
       place = ap (λ (x : Session). x.place) same ∙ ap (λ (x : Session). x.place) is;

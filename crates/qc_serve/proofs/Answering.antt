@@ -18,7 +18,7 @@ use Rattle.qc_model.specs.declared.events.Who.{Who}
 use Rattle.qc_model.specs.declared.reports.ReportLine.{ReportLine}
 use Rattle.qc_model.specs.declared.reports.Word.{Word}
 use Rattle.qc_model.specs.declared.reports.Word.TheVariants as word
-use Rattle.qc_model.specs.Agrees.{Machine, fill_ends, key_of_command, line, who_of, word_of}
+use Rattle.qc_model.specs.Agrees.{Machine, fill_ends, key_of_command, line, who_of, whole_machine, word_of}
 use Rattle.qc_model.specs.Journal.{Journal, before, event_count, events_of, is_by}
 use Rattle.qc_model.specs.Machine.{Executes, ExecutesStatement, Given, Local, fault_error, local, local_text, ok_reply, refused, used}
 use Rattle.qc_model.specs.Needs.{HasOwnNeeds}
@@ -32,7 +32,6 @@ use Rattle.qc_core.specs.declared.parts.Parts.{Parts}
 use Rattle.qc_serve.specs.declared.session.Session.{Session}
 use Rattle.qc_serve.specs.Going.{DoesOne, DoesStatement, GivesOut, TellsOut, next_who, number_of, position_of, seen_by}
 use Rattle.qc_serve.specs.Logs.{logged}
-use Rattle.qc_serve.specs.Stage.{serve_machine}
 use Rattle.qc_serve.proofs.Givens.{used_own}
 
 -- ---- of any machine
@@ -100,15 +99,16 @@ given_does t c old new reply given none does session out =
     let n : ℕ = 1 + length J + length {A = Event} [] in
     let long : length (seen_by new) ≡ length J + 1 = ap length out.events ∙ length-append J (g.event ∷ []) in
     let at : n ≡ new.place = sym (out.place ∙ (long ∙ omega arith)) in
-    let a : Answers serve_machine old.options s (stand I old.state.state old.place) c (line n (word_of g.event) g.reply) (stand (J ++ g.event ∷ []) g.next n)
-    = answers_event serve_machine old.options s I J [] [] old.state.state g.next old.place c g.event g.reply refl goes.begins goes.none refl out.mine refl (others_end g.event out.other (J ++ g.event ∷ []))
+    let a : Answers whole_machine old.options s (stand I old.state.state old.place) c (line n (word_of g.event) g.reply) (stand (J ++ g.event ∷ []) g.next n)
+    = answers_event whole_machine old.options s I J [] [] old.state.state g.next old.place c g.event g.reply refl goes.begins goes.none refl out.mine refl (others_end g.event out.other (J ++ g.event ∷ []))
     none (subst (λ (j : Journal). Executes old.options (next_who old) old.state.state c j g.event g.reply g.next) (sym (append-nil J)) (does J)) (others_need old.options (J ++ []) (key_of_command old.state.state c) g.event out.other) in
     record {
       answered = line new.place word.Other g.reply;
-      answers = subst (λ (p : ℕ × Word × Position). Answers serve_machine old.options s (position_of old) c (line p.0 p.1 g.reply) p.2) (λ i. (at i, out.other i, stand (sym out.events i) (sym out.state i) (at i))) a;
+      answers = subst (λ (p : ℕ × Word × Position). Answers whole_machine old.options s (position_of old) c (line p.0 p.1 g.reply) p.2) (λ i. (at i, out.other i, stand (sym out.events i) (sym out.state i) (at i))) a;
       reply = sym out.reply;
       lines = out.lines;
       options = out.options;
+      standing = out.standing;
       end = out.end;
       session = ap (λ (y : State). y.session) out.state ∙ session J;
       rest = out.rest;
@@ -119,11 +119,12 @@ told_does t c old new bytes r next is session out =
     let I : Journal = seen_by old in
     record {
       answered = line old.place word.Local r;
-      answers = subst (λ (p : Position). Answers serve_machine old.options (number_of old) (position_of old) c (line old.place word.Local r) p) (λ i. stand (sym out.seen i) (sym out.state i) (sym out.place i))
-          (answers_told serve_machine old.options (number_of old) I old.state.state next old.place c r is);
+      answers = subst (λ (p : Position). Answers whole_machine old.options (number_of old) (position_of old) c (line old.place word.Local r) p) (λ i. stand (sym out.seen i) (sym out.state i) (sym out.place i))
+          (answers_told whole_machine old.options (number_of old) I old.state.state next old.place c r is);
       reply = sym out.reply;
       lines = out.lines;
       options = out.options;
+      standing = out.standing;
       end = out.end;
       session = ap (λ (y : State). y.session) out.state ∙ session;
       rest = out.rest;

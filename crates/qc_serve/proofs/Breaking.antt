@@ -11,7 +11,7 @@ use Rattle.qc_model.specs.declared.events.How.{How}
 use Rattle.qc_model.specs.declared.events.How.TheVariants as how
 use Rattle.qc_model.specs.declared.reports.ReportLine.{ReportLine}
 use Rattle.qc_model.specs.declared.reports.Word.TheVariants as word
-use Rattle.qc_model.specs.Agrees.{Machine, key_of_command, line, who_of, word_of, word_of_how}
+use Rattle.qc_model.specs.Agrees.{Machine, key_of_command, line, who_of, whole_machine, word_of, word_of_how}
 use Rattle.qc_model.specs.Journal.{Journal, before}
 use Rattle.qc_model.specs.Machine.{Local}
 use Rattle.qc_model.specs.Needs.{HasOwnNeeds}
@@ -19,6 +19,7 @@ use Rattle.qc_laws.specs.runs.Runs.{HasItsEvent, HasNoEvent, Position, StartsWit
 use Rattle.qc_laws.proofs.runs.Composes.{events_below}
 use Rattle.qc_turn.specs.declared.seat.Seat.{Seat}
 use Rattle.qc_turn.specs.declared.turn.Turn.{Turn}
+use Rattle.qc_turn.specs.Seats.{view}
 use Rattle.qc_core.specs.contracts.server.ServerKept.TheImpl.{ghosts}
 use Rattle.qc_core.specs.declared.parts.Parts.{Parts}
 use Rattle.qc_serve.specs.declared.ending.End.{End}
@@ -27,12 +28,11 @@ use Rattle.qc_serve.specs.declared.log.Logged.{Logged}
 use Rattle.qc_serve.specs.declared.session.Session.{Session}
 use Rattle.qc_serve.specs.declared.sinks.Piece.{Piece}
 use Rattle.qc_serve.specs.Executed.{HasEnded, HasEventLine, IsReplied, Leaves, MustEnd, Quits, SendsPart}
-use Rattle.qc_serve.specs.Going.{DoesOne, IsAtRest, MayAnswer, Stops, number_of, position_of, seen_by}
+use Rattle.qc_serve.specs.Going.{DoesOne, IsAtRest, MayAnswer, Stops, number_of, position_of, seen_by, standing_of}
 use Rattle.qc_serve.specs.Leaving.{HasLeft}
 use Rattle.qc_serve.specs.Logs.{DropsLocal, Lines, kept_line, logged, logged_event, logged_line}
 use Rattle.qc_serve.specs.Seats.{GoesOn, SeatRests}
 use Rattle.qc_serve.specs.Sent.{SendsFrontOf}
-use Rattle.qc_serve.specs.Stage.{serve_machine}
 
 -- ---- the line of a command with an event stays
 
@@ -84,7 +84,7 @@ pub put_fails : (t : Turn Parts Event) (c : Command) (old middle : Session) (log
     → MustEnd t c old (record middle { log = log }) held out
 put_fails t c old middle log reply held out does drops front =
     let l : ReportLine = does.answered in
-    let p = parted serve_machine old.options (number_of old) (position_of old) (position_of middle) c l (serve_machine.without_event old.state.state (take old.place (seen_by old)) c) does.answers.does in
+    let p = parted whole_machine old.options (number_of old) (position_of old) (position_of middle) c l (whole_machine.without_event old.state.state (take old.place (seen_by old)) c) does.answers.does in
     let rest = does.rest in
     let answers = does.answers in
     record {
@@ -96,6 +96,7 @@ put_fails t c old middle log reply held out does drops front =
         grows = p.grows;
         lines = drops old.log.lines (logged_line l) does.lines ∙ ap (λ (ls : List Logged). old.log.lines ++ ls) p.kept;
         session = does.session;
+        standing = does.standing;
         sent = inr (l, p.line, subst (SendsFrontOf held out) (sym does.reply) front);
       };
     }
@@ -111,7 +112,7 @@ stopped t c old new held stops =
     let again = stops.rests in
     record {
       rests = again.rests;
-      breaks = record { begins = stops.begins; events = stops.events; few = stops.few; grows = stops.grows; lines = stops.lines; session = stops.session; sent = inl refl };
+      breaks = record { begins = stops.begins; events = stops.events; few = stops.few; grows = stops.grows; lines = stops.lines; session = stops.session; standing = λ i. (again.fixed i, again.registry i); sent = inl refl };
     }
 
 -- nothing was done
@@ -125,6 +126,7 @@ untouched t c old log held rests same = record {
     grows = sym (append-nil (own (number_of old) (seen_by old)));
     lines = same ∙ sym (append-nil old.log.lines);
     session = refl;
+    standing = refl;
     sent = inl refl;
   };
 }
@@ -136,7 +138,7 @@ must_end_from t c old new log held out same must =
     let b = must.breaks in
     record {
       rests = must.rests;
-      breaks = record { begins = b.begins; events = b.events; few = b.few; grows = b.grows; lines = b.lines ∙ ap (λ (ls : List Logged). ls ++ map logged_event b.events) same; session = b.session; sent = b.sent };
+      breaks = record { begins = b.begins; events = b.events; few = b.few; grows = b.grows; lines = b.lines ∙ ap (λ (ls : List Logged). ls ++ map logged_event b.events) same; session = b.session; standing = b.standing; sent = b.sent };
     }
 
 -- ---- the seat leaves
@@ -169,23 +171,23 @@ sent_on : (c : Command) (old middle : Session) (seat : Seat Parts Event ghosts) 
     → (out ≡ held) ⊎ SendsPart c old middle held out → (out ≡ held) ⊎ SendsPart c old (record middle { seat = seat; end = end }) held out
 sent_on c old middle seat end held out on (inl same) = inl same
 sent_on c old middle seat end held out on (inr (l, has, front)) =
-    inr (l, line_on serve_machine old.options (number_of old) (position_of old) c l (seen_by middle) (seen_by (record middle { seat = seat; end = end })) (serve_machine.without_event old.state.state (take old.place (seen_by old)) c) on has, front)
+    inr (l, line_on whole_machine old.options (number_of old) (position_of old) c l (seen_by middle) (seen_by (record middle { seat = seat; end = end })) (whole_machine.without_event old.state.state (take old.place (seen_by old)) c) on has, front)
 
-ends_with : (t : Turn Parts Event) (c : Command) (old middle : Session) (seat : Seat Parts Event ghosts) (held out : Option (List Piece)) (e : End) → MustEnd t c old middle held out → HasLeft t (number_of middle) seat
+ends_with : (t : Turn Parts Event) (c : Command) (old middle : Session) (seat : Seat Parts Event ghosts) (held out : Option (List Piece)) (e : End) → MustEnd t c old middle held out → HasLeft t (number_of middle) seat → ((view seat).fixed, (view seat).registry) ≡ standing_of middle
     → GoesOn (number_of middle) (seen_by middle) (seen_by (record middle { seat = seat; end = Some e })) → HasEnded t c old (record middle { seat = seat; end = Some e }) held out e
-ends_with t c old middle seat held out e must left on =
+ends_with t c old middle seat held out e must left standing on =
     let b = must.breaks in
     let goes : GoesOn (number_of old) (seen_by middle) (seen_by (record middle { seat = seat; end = Some e })) = subst (λ (n : ℕ). GoesOn n (seen_by middle) (seen_by (record middle { seat = seat; end = Some e }))) b.session on in
     record {
       left = subst (λ (n : ℕ). HasLeft t n seat) b.session left;
       end = refl;
-      breaks = record { begins = starts_on (seen_by old) (seen_by middle) (seen_by (record middle { seat = seat; end = Some e })) b.begins goes.begins; events = b.events; few = b.few; grows = goes.none ∙ b.grows; lines = b.lines; session = b.session; sent = sent_on c old middle seat (Some e) held out goes b.sent };
+      breaks = record { begins = starts_on (seen_by old) (seen_by middle) (seen_by (record middle { seat = seat; end = Some e })) b.begins goes.begins; events = b.events; few = b.few; grows = goes.none ∙ b.grows; lines = b.lines; session = b.session; standing = standing ∙ b.standing; sent = sent_on c old middle seat (Some e) held out goes b.sent };
     }
 
 pub ended : (t : Turn Parts Event) (c : Command) (old middle new : Session) (held out : Option (List Piece)) (e : End) → MustEnd t c old middle held out → Leaves t middle new e → HasEnded t c old new held out e
 ended t c old middle new held out e must leaves =
     let on : GoesOn (number_of middle) (seen_by middle) (seen_by (record middle { seat = new.seat; end = Some e })) = leaves.seen in
-    subst (λ (s : Session). HasEnded t c old s held out e) (sym leaves.same) (ends_with t c old middle new.seat held out e must leaves.left on)
+    subst (λ (s : Session). HasEnded t c old s held out e) (sym leaves.same) (ends_with t c old middle new.seat held out e must leaves.left leaves.standing on)
 
 -- nor has its log another line
 pub same_log : (t : Turn Parts Event) (old new : Session) (e : End) → Leaves t old new e → old.log.lines ≡ new.log.lines

@@ -146,7 +146,7 @@ module _ (session : ℕ) (who : Who) (key : List ℕ) (select : Select) (asked :
   whole : IsSameSeat h (with_ranges k h.ranges)
   whole =
       let s = on in
-      record { seat = s.seat ∙ same.seat; turn = s.turn ∙ same.turn; number = s.number ∙ same.number; seen = s.seen ∙ same.seen; fixed = s.fixed ∙ same.fixed; word_set = s.word_set ∙ same.word_set; task = s.task ∙ same.task; ranges = refl }
+      record { seat = s.seat ∙ same.seat; turn = s.turn ∙ same.turn; number = s.number ∙ same.number; seen = s.seen ∙ same.seen; fixed = s.fixed ∙ same.fixed; registry = s.registry ∙ same.registry; word_set = s.word_set ∙ same.word_set; task = s.task ∙ same.task; ranges = refl }
 
   -- the value has the options that it had when it was taken
   fixed : ghosts.fixed k.value ≡ ghosts.fixed h.value

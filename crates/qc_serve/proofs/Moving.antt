@@ -8,7 +8,7 @@ use Rattle.qc_sql.specs.declared.replies.Reply.{Reply}
 use Rattle.qc_model.specs.declared.events.Event.{Event}
 use Rattle.qc_model.specs.declared.reports.ReportLine.{ReportLine}
 use Rattle.qc_model.specs.declared.reports.Word.TheVariants as word
-use Rattle.qc_model.specs.Agrees.{Machine, fill_ends, key_of_command, line, who_of, word_of}
+use Rattle.qc_model.specs.Agrees.{Machine, fill_ends, key_of_command, line, who_of, whole_machine, word_of}
 use Rattle.qc_model.specs.Journal.{Journal, before}
 use Rattle.qc_model.specs.Needs.{HasOwnNeeds}
 use Rattle.qc_model.specs.Session.{State, snapshot_of}
@@ -24,7 +24,6 @@ use Rattle.qc_serve.specs.Asking.{LooksOn}
 use Rattle.qc_serve.specs.Executed.{ArePutBy, HasLine, IsReplied, MustEnd, SendsPart}
 use Rattle.qc_serve.specs.Going.{DoesOne, IsAtRest, MayAnswer, number_of, position_of, seen_by}
 use Rattle.qc_serve.specs.Querying.{LooksAgain}
-use Rattle.qc_serve.specs.Stage.{serve_machine}
 use Rattle.qc_serve.proofs.Resting.{Follows, fit_later, past_later}
 use Rattle.qc_serve.proofs.Sending.{adds_so}
 
@@ -51,12 +50,14 @@ pub moved_does : (t : Turn Parts Event) (c : Command) (old mid new : Session) (r
 moved_does t c old mid new reply rest looks does =
     let d = subst (λ (x : Session). DoesOne t c x new reply) looks.same does in
     let on = looks.seat.goes_on in
+    let again = looks.seat.again in
     record {
       answered = d.answered;
-      answers = moved_answers serve_machine old.options (number_of old) (seen_by old) (seen_by mid) old.state.state old.place c d.answered (position_of new) on.begins on.none rest.reached d.answers;
+      answers = moved_answers whole_machine old.options (number_of old) (seen_by old) (seen_by mid) old.state.state old.place c d.answered (position_of new) on.begins on.none rest.reached d.answers;
       reply = d.reply;
       lines = d.lines;
       options = d.options;
+      standing = d.standing ∙ (λ i. (again.fixed i, again.registry i));
       end = d.end;
       session = d.session;
       rest = d.rest;
@@ -123,12 +124,13 @@ moved_sent : (t : Turn Parts Event) (c : Command) (old : Session) (seat : Seat P
 moved_sent t c old seat new held out rest looks (inl same) = inl same
 moved_sent t c old seat new held out rest looks (inr (l, has, front)) =
     let on = looks.goes_on in
-    inr (l, moved_line serve_machine old.options (number_of old) (seen_by old) (view seat).seen old.state.state old.place c l (seen_by new) on.begins on.none rest.reached has, front)
+    inr (l, moved_line whole_machine old.options (number_of old) (seen_by old) (view seat).seen old.state.state old.place c l (seen_by new) on.begins on.none rest.reached has, front)
 
 ends_in : (t : Turn Parts Event) (c : Command) (old : Session) (seat : Seat Parts Event ghosts) (new : Session) (held out : Option (List Piece)) → IsAtRest t old → LooksOn t (number_of old) old.seat seat
     → MustEnd t c (record old { seat = seat }) new held out → MustEnd t c old new held out
 ends_in t c old seat new held out rest looks must =
     let on = looks.goes_on in
+    let again = looks.again in
     let b = must.breaks in
     let first = on.begins in
     let then = b.begins in
@@ -141,6 +143,7 @@ ends_in t c old seat new held out rest looks must =
         grows = b.grows ∙ ap (λ (ls : List (ℕ × Event)). ls ++ b.events) on.none;
         lines = b.lines;
         session = b.session;
+        standing = b.standing ∙ (λ i. (again.fixed i, again.registry i));
         sent = moved_sent t c old seat new held out rest looks b.sent;
       };
     }
@@ -162,6 +165,7 @@ looks_end_in t c old seat held looks =
         grows = on.none ∙ sym (append-nil (own (number_of old) (seen_by old)));
         lines = sym (append-nil old.log.lines);
         session = refl;
+        standing = λ i. (again.fixed i, again.registry i);
         sent = inl refl;
       };
     }

@@ -19,7 +19,7 @@ use Rattle.qc_model.specs.declared.events.Who.{Who}
 use Rattle.qc_model.specs.declared.reports.ReportLine.{ReportLine}
 use Rattle.qc_model.specs.declared.reports.Word.{Word}
 use Rattle.qc_model.specs.declared.reports.Word.TheVariants as word
-use Rattle.qc_model.specs.Agrees.{line, who_of, word_of}
+use Rattle.qc_model.specs.Agrees.{line, who_of, whole_machine, word_of}
 use Rattle.qc_model.specs.Journal.{Journal, before}
 use Rattle.qc_model.specs.Machine.{ExecutesStatement, ExecutesText, Gives, Given, Local, begun, changed_form, ended_with, set_autocommit}
 use Rattle.qc_model.specs.Session.{State, arrived, base, with_transaction}
@@ -35,7 +35,7 @@ use Rattle.qc_serve.specs.Executed.{ArePutBy, IsReplied, MustEnd}
 use Rattle.qc_serve.specs.Going.{DoesOne, IsAtRest, Stops, number_of, position_of, seen_by}
 use Rattle.qc_serve.specs.Logs.{DropsLocal, kept_line, logged, logged_event, logged_line}
 use Rattle.qc_serve.specs.Sent.{Sends, bytes_of}
-use Rattle.qc_serve.specs.Stage.{is_select, serve_machine}
+use Rattle.qc_serve.specs.Stage.{is_select}
 use Rattle.qc_serve.proofs.Breaking.{untouched}
 use Rattle.qc_serve.proofs.Sending.{adds_so}
 
@@ -94,7 +94,7 @@ same_word : (l : ReportLine) (place : ℕ) (w : Word) (r : Reply) → l ≡ line
 same_word l place w r is = ap (λ (x : ReportLine). x.how) is
 
 module _ (options : Options) (s : ℕ) (from to : Position) (text : List ℕ) (l : ReportLine) (free : IsOther (meaning (trimmed text) from.state.ansi)) where
-  not_hit : (o : Local) → MatchOption o (HasItsEvent serve_machine options s from (command.Query text) l to) (HasNoEvent s from l to) → l.how ≡ word.Hit → ⊥
+  not_hit : (o : Local) → MatchOption o (HasItsEvent whole_machine options s from (command.Query text) l to) (HasNoEvent s from l to) → l.how ≡ word.Hit → ⊥
   not_hit None (e, r, grows, does, is, needs, ends) h =
       let other : word_of e ≡ word.Other = text_other options (who_of from.state.session (length (own s from.seen) + 1)) from.state text (before l.place to.seen) (meaning (trimmed text) from.state.ansi) e r to.state free does in
       let both : word.Hit ≡ word.Other = sym h ∙ (same_word l l.place (word_of e) r is ∙ other) in
@@ -107,7 +107,7 @@ module _ (options : Options) (s : ℕ) (from to : Position) (text : List ℕ) (l
 pub answered_other : (t : Turn Parts Event) (text : List ℕ) (old mid : Session) (bytes : List ℕ) → IsOther (meaning (trimmed text) old.state.state.ansi) → (does : DoesOne t (command.Query text) old mid bytes) → does.answered.how ≡ word.Hit → ⊥
 answered_other t text old mid bytes free does h =
     let answers = does.answers in
-    not_hit old.options (number_of old) (position_of old) (position_of mid) text does.answered free (serve_machine.without_event old.state.state (take old.place (seen_by old)) (command.Query text)) answers.does h
+    not_hit old.options (number_of old) (position_of old) (position_of mid) text does.answered free (whole_machine.without_event old.state.state (take old.place (seen_by old)) (command.Query text)) answers.does h
 
 -- ---- nor has the log a line of one
 

@@ -152,6 +152,7 @@ pub has_let_go : (v : View Parts Event) (x : Parts) (us : List ℕ) → 0 < v.nu
 has_let_go v x us seated rests = record {
   number = refl;
   fixed = refl;
+  registry = refl;
   seen = refl;
   task = rests_by (λ ts. released_task false (task_in ts) ≡ task.Rest) v.number (listed_for v.number (tasks_of x)) rests refl (λ s bs. refl);
   connected = refl;
@@ -162,13 +163,21 @@ has_let_go v x us seated rests = record {
 
 -- who has connected keeps what is fixed, and its events
 pub entered_same : (old : Seat Parts Event ghosts) (new : View Parts Event) (h k : Held Parts Event ghosts) → 0 < (view old).number → Taken ghosts (view old) h.value (words h) → holder h ≡ with_holding (view old) (Holds h.value (words h))
-    → IsSameSeat h k → k.value.journal.events ≡ h.value.journal.events → HasLetGo (holder k) new k.value → (new.fixed ≡ (view old).fixed) × (new.events ≡ (view old).events)
+    → IsSameSeat h k → k.value.journal.events ≡ h.value.journal.events → HasLetGo (holder k) new k.value → (new.fixed ≡ (view old).fixed) × (new.events ≡ (view old).events) × (new.registry ≡ (view old).registry)
 entered_same old new h k seated taken_as holds same events rested =
     let number : (holder h).number ≡ (view old).number = ap (λ (w : View Parts Event). w.number) holds in
     let one : (holder k).number - 1 ≡ (view old).number - 1 = omega (arith, same.number, number) in (
       rested.fixed ∙ (same.fixed ∙ ap (λ (w : View Parts Event). w.fixed) holds),
       rested.events ∙ ((λ i. events_of (one i) (events i)) ∙ known_events old h seated taken_as),
+      rested.registry ∙ (same.registry ∙ ap (λ (w : View Parts Event). w.registry) holds),
     )
+
+-- who has connected or left keeps what is fixed, and the seats that it has split off
+pub same_standing : (old new : View Parts Event) (h k : Held Parts Event ghosts) → holder h ≡ with_holding old (Holds h.value (words h)) → IsSameSeat h k → HasLetGo (holder k) new k.value → (new.fixed ≡ old.fixed) × (new.registry ≡ old.registry)
+same_standing old new h k holds same rested = (
+  rested.fixed ∙ (same.fixed ∙ ap (λ (w : View Parts Event). w.fixed) holds),
+  rested.registry ∙ (same.registry ∙ ap (λ (w : View Parts Event). w.registry) holds),
+)
 
 -- who has left has seen what others did, and no event of its own
 pub left_seen : (session : ℕ) (old new : View Parts Event) (h k : Held Parts Event ghosts) → holder h ≡ with_holding old (Holds h.value (words h)) → IsIdle session h → k.value.journal.events ≡ h.value.journal.events → HasLetGo (holder k) new k.value → GoesOn session old.seen new.seen

@@ -14,7 +14,7 @@ use Rattle.qc_model.specs.declared.events.Who.{Who}
 use Rattle.qc_model.specs.declared.reports.ReportLine.{ReportLine}
 use Rattle.qc_model.specs.declared.reports.Word.{Word}
 use Rattle.qc_model.specs.declared.reports.Word.TheVariants as word
-use Rattle.qc_model.specs.Agrees.{who_of, word_of}
+use Rattle.qc_model.specs.Agrees.{who_of, whole_machine, word_of}
 use Rattle.qc_model.specs.Journal.{Journal, before}
 use Rattle.qc_model.specs.Licence.{IsLawful}
 use Rattle.qc_model.specs.Machine.{Executes, Local}
@@ -38,7 +38,6 @@ use Rattle.qc_serve.specs.Filling.{IsGone}
 use Rattle.qc_serve.specs.Going.{DoesOne, number_of, position_of, seen_by}
 use Rattle.qc_serve.specs.Sent.{Adds, Sends, bytes_of}
 use Rattle.qc_serve.specs.SentAt.{FillsAt, SendsAs, SendsAt}
-use Rattle.qc_serve.specs.Stage.{serve_machine}
 use Rattle.qc_serve.proofs.Parsing.{IsOther, other_by, text_other}
 use Rattle.qc_serve.proofs.Placing.{event_in}
 use Rattle.qc_serve.proofs.Sending.{adds_so}
@@ -67,12 +66,12 @@ other_goes seen e pieces h = tt
 
 module _ (t : Turn Parts Event) (c : Command) (old new : Session) (bytes : List ℕ) (does : DoesOne t c old new bytes)
     (other : (J : Journal) (e : Event) (r : Reply) (next : State) → Executes old.options (who_of old.state.state.session (length (own (number_of old) (seen_by old)) + 1)) old.state.state c J e r next → word_of e ≡ word.Other) (pieces : List Piece) where
-  by_answer : (l : ReportLine) (o : Local) → MatchOption o (HasItsEvent serve_machine old.options (number_of old) (position_of old) c l (position_of new)) (HasNoEvent (number_of old) (position_of old) l (position_of new)) → ArePutBy old new pieces
+  by_answer : (l : ReportLine) (o : Local) → MatchOption o (HasItsEvent whole_machine old.options (number_of old) (position_of old) c l (position_of new)) (HasNoEvent (number_of old) (position_of old) l (position_of new)) → ArePutBy old new pieces
   by_answer l None (e, r, grows, ran, is, needs, ends) = put_by old new l.place e pieces grows (other_goes (seen_by new) e pieces (other (before l.place (seen_by new)) e r new.state.state ran))
   by_answer l (Some given) (is, next, same) = λ place e grows. none_more (own (number_of old) (seen_by old)) (place, e) (sym same ∙ grows)
 
   pub put_other : ArePutBy old new pieces
-  put_other = by_answer does.answered (serve_machine.without_event old.state.state (take old.place (seen_by old)) c) does.answers.does
+  put_other = by_answer does.answered (whole_machine.without_event old.state.state (take old.place (seen_by old)) c) does.answers.does
 
 pub put_text : (t : Turn Parts Event) (text : List ℕ) (old new : Session) (bytes : List ℕ) → DoesOne t (command.Query text) old new bytes → IsOther (meaning (trimmed text) old.state.state.ansi) → (pieces : List Piece) → ArePutBy old new pieces
 put_text t text old new bytes does free pieces =

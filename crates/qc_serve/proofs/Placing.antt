@@ -29,7 +29,7 @@ use Rattle.qc_model.specs.declared.events.Who.{Who}
 use Rattle.qc_model.specs.declared.reports.ReportLine.{ReportLine}
 use Rattle.qc_model.specs.declared.reports.Word.{Word}
 use Rattle.qc_model.specs.declared.reports.Word.TheVariants as word
-use Rattle.qc_model.specs.Agrees.{fill_ends, line, who_of, word_of}
+use Rattle.qc_model.specs.Agrees.{fill_ends, line, who_of, whole_machine, word_of}
 use Rattle.qc_model.specs.Cache.{is_prune}
 use Rattle.qc_model.specs.Choice.{Allows}
 use Rattle.qc_model.specs.Journal.{Journal, before, event_count, events_of, is_by, operations, present}
@@ -65,7 +65,6 @@ use Rattle.qc_serve.specs.Logs.{logged, logged_event}
 use Rattle.qc_serve.specs.Querying.{HasDecided, arrives, arrives_at, word_of_selected}
 use Rattle.qc_serve.specs.Seats.{GoesOn, SeatRests, next_of}
 use Rattle.qc_serve.specs.Sent.{SendsFrontOf}
-use Rattle.qc_serve.specs.Stage.{serve_machine}
 use Rattle.qc_serve.proofs.Resting.{Follows, fit_later, past_later}
 use Rattle.qc_serve.proofs.Selecting.{arrives_session, arrives_with}
 
@@ -104,6 +103,7 @@ pub record IsBehind (t : Turn Parts Event) (select : Select) (old new : Session)
   pub on : GoesOn (number_of old) now (seen_by new)
   pub rests : SeatRests t (number_of old) new.seat
   pub fixed : (view new.seat).fixed ≡ (view old.seat).fixed
+  pub registry : (view new.seat).registry ≡ (view old.seat).registry
   pub room : new.seat.ranges.room ≡ old.seat.ranges.room
   pub state : new.state ≡ arrives_at select (place_of x) d old.state
   pub place : new.place ≡ place_of x
@@ -358,12 +358,13 @@ module _ (t : Turn Parts Event) (text : List ℕ) (select : Select) (old new : S
         answers = record {
           begins = c.begins;
           place = b.place;
-          does = subst (λ (o : Local). MatchOption o (HasItsEvent serve_machine old.options (number_of old) from (command.Query text) l to) (HasNoEvent (number_of old) from l to)) (sym c.without)
+          does = subst (λ (o : Local). MatchOption o (HasItsEvent whole_machine old.options (number_of old) from (command.Query text) l to) (HasNoEvent (number_of old) from l to)) (sym c.without)
               (e, r, c.grows, c.does, refl, c.needs, ends);
         };
         reply = sym reply;
         lines = b.lines ∙ ap (λ (w : Word). old.log.lines ++ logged n w ∷ []) (word_is (next_who old) key p.tables x);
         options = b.options;
+        standing = λ i. (b.fixed i, b.registry i);
         end = b.end;
         session = c.session;
         rest = rests_behind rest;
@@ -387,9 +388,10 @@ module _ (t : Turn Parts Event) (text : List ℕ) (select : Select) (old new : S
           grows = c.grows;
           lines = b.lines ∙ ap (λ (w : Word). old.log.lines ++ logged n w ∷ []) (word_is (next_who old) key p.tables x);
           session = c.session;
+          standing = λ i. (b.fixed i, b.registry i);
           sent = inr (
             l,
-            subst (λ (o : Local). MatchOption o (HasEventLine serve_machine old.options (number_of old) from (command.Query text) l (seen_by new)) (λ given. (l ≡ line from.place word.Local given.0) × (own (number_of old) (seen_by new) ≡ own (number_of old) from.seen))) (sym c.without)
+            subst (λ (o : Local). MatchOption o (HasEventLine whole_machine old.options (number_of old) from (command.Query text) l (seen_by new)) (λ given. (l ≡ line from.place word.Local given.0) × (own (number_of old) (seen_by new) ≡ own (number_of old) from.seen))) (sym c.without)
                 (e, r, new.state.state, c.grows, c.does, refl, c.needs),
             subst (SendsFrontOf held out) reply front,
           );

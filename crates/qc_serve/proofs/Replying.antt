@@ -59,6 +59,7 @@ stream_ends t session serial old between new has same room seated is ranges =
       };
       seen = seen;
       fixed = ap (λ (v : View Parts Event). v.fixed) now;
+      registry = ap (λ (v : View Parts Event). v.registry) now;
       room = ap (λ (r : Ranged). r.room) (ranges ∙ room);
     }
 
@@ -66,7 +67,7 @@ goes_nowhere : (session : ℕ) (old new : Journal) → new ≡ old → GoesOn se
 goes_nowhere session old new is = subst (GoesOn session old) (sym is) (record { begins = ([], sym (append-nil old)); none = refl })
 
 pub stream_with : (t : Turn Parts Event) (session : ℕ) (old new : Seat Parts Event ghosts) → EndsStream t session old new → EndsWith t session old new
-stream_with t session old new e = record { rests = e.rests; goes_on = goes_nowhere session (view old).seen (view new).seen e.seen; fixed = e.fixed; room = e.room }
+stream_with t session old new e = record { rests = e.rests; goes_on = goes_nowhere session (view old).seen (view new).seen e.seen; fixed = e.fixed; registry = e.registry; room = e.room }
 
 -- ---- a fill ends
 
@@ -107,10 +108,11 @@ fill_with t session x old new has e = record {
   rests = e.rests;
   goes_on = goes_on session (view old).seen (view new).seen e.goes_on.seen (sym e.rests.events ∙ (ap (λ (v : View Parts Event). v.events) e.goes_on.same ∙ has.events));
   fixed = ap (λ (v : View Parts Event). v.fixed) e.goes_on.same;
+  registry = ap (λ (v : View Parts Event). v.registry) e.goes_on.same;
   room = e.room;
 }
 
 -- ---- the seat rests
 
 pub rests_with : (t : Turn Parts Event) (session : ℕ) (s : Seat Parts Event ghosts) → SeatRests t session s → EndsWith t session s s
-rests_with t session s rests = record { rests = rests; goes_on = goes_nowhere session (view s).seen (view s).seen refl; fixed = refl; room = refl }
+rests_with t session s rests = record { rests = rests; goes_on = goes_nowhere session (view s).seen (view s).seen refl; fixed = refl; registry = refl; room = refl }

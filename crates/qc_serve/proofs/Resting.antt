@@ -20,7 +20,7 @@ use Rattle.qc_core.specs.contracts.server.ServerKept.TheImpl.{ghosts}
 use Rattle.qc_core.specs.declared.parts.Parts.{Parts}
 use Rattle.qc_serve.specs.declared.session.Session.{Session}
 use Rattle.qc_serve.specs.declared.log.Logged.{Logged}
-use Rattle.qc_serve.specs.Going.{GivesOut, IsAtRest, Logs, MayAnswer, Stops, TellsOut, as_fixed, next_who, number_of, seen_by}
+use Rattle.qc_serve.specs.Going.{GivesOut, IsAtRest, Logs, MayAnswer, Stops, TellsOut, as_fixed, next_who, number_of, seen_by, standing_of}
 use Rattle.qc_serve.specs.Logs.{logged, logged_event}
 use Rattle.qc_serve.proofs.Givens.{IsOf, IsOwn, mine}
 use Rattle.qc_serve.specs.Seats.{Decides, GoesOn, RestsAgain, SeatRests}
@@ -122,6 +122,7 @@ pub gives_out : (t : Turn Parts Event) (old new : Session) (bytes : List ℕ) (g
 gives_out t old new bytes given IsSo logs rest of m =
     let d = logs.decides in
     let e = of.event in
+    let again = logs.rests in
     record {
       journal = d.journal;
       goes_on = d.goes_on;
@@ -133,6 +134,7 @@ gives_out t old new bytes given IsSo logs rest of m =
       reply = m.reply;
       state = m.state;
       options = logs.options;
+      standing = λ i. (again.fixed i, again.registry i);
       end = logs.end;
       rest = rest;
     }
@@ -232,6 +234,7 @@ moved_gives t old mid new bytes given same out =
       reply = out.reply;
       state = out.state;
       options = out.options ∙ ap (λ (s : Session). s.options) same.is;
+      standing = out.standing ∙ ap (λ (s : Session). standing_of s) same.is;
       end = out.end ∙ ap (λ (s : Session). s.end) same.is;
       rest = out.rest;
     }
@@ -247,6 +250,7 @@ moved_tells t old mid new bytes r next same out =
       reply = out.reply;
       state = out.state;
       options = out.options ∙ ap (λ (s : Session). s.options) same.is;
+      standing = out.standing ∙ ap (λ (s : Session). standing_of s) same.is;
       end = out.end ∙ ap (λ (s : Session). s.end) same.is;
       rest = out.rest;
     }
@@ -255,7 +259,7 @@ moved_tells t old mid new bytes r next same out =
 pub unmoved_stops : (t : Turn Parts Event) (old new : Session) → IsAtRest t old → SameBut old new → Stops t old new
 unmoved_stops t old new rest same =
     let seat : old.seat ≡ new.seat = sym (ap (λ (s : Session). s.seat) same.is) in
-    let stays : RestsAgain t (number_of old) old.seat old.seat = record { rests = rest.rests; fixed = refl; ranges = refl } in
+    let stays : RestsAgain t (number_of old) old.seat old.seat = record { rests = rest.rests; fixed = refl; registry = refl; ranges = refl } in
     let goes : GoesOn (number_of old) (seen_by old) (seen_by old) = record { begins = ([], sym (append-nil (seen_by old))); none = refl } in
     none_stops t old new (subst (RestsAgain t (number_of old) old.seat) seat stays) (subst (λ (x : Seat Parts Event ghosts). GoesOn (number_of old) (seen_by old) (view x).seen) seat goes)
     (ap (λ (s : Session). s.log.lines) same.is) same.session (ap (λ (s : Session). s.end) same.is)
@@ -299,6 +303,7 @@ tells_out t old new bytes r rest reply is lines =
       reply = reply;
       state = ap (λ (x : SnapshotState). x.state) state;
       options = options;
+      standing = ap (λ (s : Session). standing_of s) is;
       end = ap (λ (s : Session). s.end) is;
       rest = record {
         rests = subst (λ (p : ℕ × Seat Parts Event ghosts). SeatRests t p.0 p.1) (λ i. (sym n i, sym seat i)) rest.rests;

@@ -15,7 +15,7 @@ use Rattle.qc_model.specs.declared.events.Event.{Event}
 use Rattle.qc_model.specs.declared.reports.Ending.{Ending}
 use Rattle.qc_model.specs.declared.reports.Ending.TheVariants as ending
 use Rattle.qc_model.specs.declared.reports.ReportLine.{ReportLine}
-use Rattle.qc_model.specs.Agrees.{commands_of, ending_of, then_commands}
+use Rattle.qc_model.specs.Agrees.{commands_of, ending_of, then_commands, whole_machine}
 use Rattle.qc_laws.specs.runs.Cuts.{Takes}
 use Rattle.qc_laws.specs.runs.Runs.{Position, Runs, own}
 use Rattle.qc_laws.proofs.runs.Composes.{compose, answered, nothing}
@@ -31,12 +31,11 @@ use Rattle.qc_serve.specs.declared.sinks.Piece.{Piece}
 use Rattle.qc_serve.specs.declared.execution.Executed.{Executed}
 use Rattle.qc_serve.specs.declared.execution.Executed.TheVariants as executed
 use Rattle.qc_serve.specs.Executed.{Executes, HasEnded, IsReplied, Leaves, MayFail, Quits}
-use Rattle.qc_serve.specs.Going.{IsAtRest, number_of, position_of, seen_by}
+use Rattle.qc_serve.specs.Going.{IsAtRest, number_of, position_of, seen_by, standing_of}
 use Rattle.qc_serve.specs.Leaving.{HasLeft}
 use Rattle.qc_serve.specs.Logs.{logged_line}
 use Rattle.qc_serve.specs.Sent.{Sends}
 use Rattle.qc_serve.specs.Served.{HasServed, IsServed, IsServing, ServesAll, ServesSome, TakesOf, ending_at, reading_end, replies_of}
-use Rattle.qc_serve.specs.Stage.{serve_machine}
 
 -- ---- what goes out
 
@@ -59,24 +58,26 @@ sends_more (Some held) (Some between) out xs ys (more, is, bytes) (rest, same, o
 
 pub serves_none : (s : Session) (held : Option (List Piece)) → HasServed s s [] [] held held
 serves_none s held = record {
-  runs = nothing serve_machine s.options (number_of s) (position_of s) [] refl;
+  runs = nothing whole_machine s.options (number_of s) (position_of s) [] refl;
   lines = sym (append-nil s.log.lines);
   sends = sends_none held;
   options = refl;
+  standing = refl;
   session = refl;
 }
 
-moved_runs : (o p : Options) (n k : ℕ) (a b : Position) (cs : List Command) (ls : List ReportLine) → p ≡ o → k ≡ n → Runs serve_machine p k a cs ls b → Runs serve_machine o n a cs ls b
-moved_runs o p n k a b cs ls same number runs = subst (λ (x : Options × ℕ). Runs serve_machine x.0 x.1 a cs ls b) (λ i. (same i, number i)) runs
+moved_runs : (o p : Options) (n k : ℕ) (a b : Position) (cs : List Command) (ls : List ReportLine) → p ≡ o → k ≡ n → Runs whole_machine p k a cs ls b → Runs whole_machine o n a cs ls b
+moved_runs o p n k a b cs ls same number runs = subst (λ (x : Options × ℕ). Runs whole_machine x.0 x.1 a cs ls b) (λ i. (same i, number i)) runs
 
 pub serves_more : (old middle new : Session) (cs ds : List Command) (ls ks : List ReportLine) (held between out : Option (List Piece)) → old.place ≤ length (seen_by old) → HasServed old middle cs ls held between → HasServed middle new ds ks between out
     → HasServed old new (cs ++ ds) (ls ++ ks) held out
 serves_more old middle new cs ds ls ks held between out small a b = record {
-  runs = compose serve_machine old.options (number_of old) (position_of old) (position_of middle) (position_of new) cs ds ls ks small a.runs
+  runs = compose whole_machine old.options (number_of old) (position_of old) (position_of middle) (position_of new) cs ds ls ks small a.runs
       (moved_runs old.options middle.options (number_of old) (number_of middle) (position_of middle) (position_of new) ds ks a.options a.session b.runs);
   lines = b.lines ∙ (ap (λ (xs : List Logged). xs ++ map logged_line ks) a.lines ∙ (append_assoc old.log.lines (map logged_line ls) (map logged_line ks) ∙ ap (λ (xs : List Logged). old.log.lines ++ xs) (sym (map-append logged_line ls ks))));
   sends = subst (Sends held out) (sym (flat_map-append (λ (l : ReportLine). l.reply) ls ks)) (sends_more held between out (replies_of ls) (replies_of ks) a.sends b.sends);
   options = b.options ∙ a.options;
+  standing = b.standing ∙ a.standing;
   session = b.session ∙ a.session;
 }
 
@@ -86,10 +87,11 @@ serves_one t c old new held out small replied =
     let l : ReportLine = does.answered in (
       l,
       record {
-        runs = answered serve_machine old.options (number_of old) (position_of old) (position_of new) c l small does.answers;
+        runs = answered whole_machine old.options (number_of old) (position_of old) (position_of new) c l small does.answers;
         lines = does.lines;
         sends = subst (Sends held out) (sym does.reply ∙ sym (append-nil l.reply)) replied.sends;
         options = does.options;
+        standing = does.standing;
         session = does.session;
       },
     )
@@ -112,6 +114,7 @@ serves_quietly t old new e held leaves =
       lines = ap (λ (s : Session). s.log.lines) leaves.same ∙ sym (append-nil old.log.lines);
       sends = sends_none held;
       options = ap (λ (s : Session). s.options) leaves.same;
+      standing = leaves.standing;
       session = ap (λ (s : Session). s.state.state.session) leaves.same;
     }
 
@@ -189,11 +192,15 @@ serves_all t old middle new input left held out e ending small serving leaves is
 left_as : (t : Turn Parts Event) (old middle new : Session) (input left : Option (List ℕ)) (held between : Option (List Piece)) → IsServing t old middle input left held between → HasLeft t (number_of middle) new.seat → HasLeft t (number_of old) new.seat
 left_as t old middle new input left held between serving has = let served = serving.served in subst (λ (n : ℕ). HasLeft t n new.seat) served.session has
 
+kept_while : (t : Turn Parts Event) (old middle : Session) (input left : Option (List ℕ)) (held between : Option (List Piece)) → IsServing t old middle input left held between → standing_of middle ≡ standing_of old
+kept_while t old middle input left held between serving = let served = serving.served in served.standing
+
 ends_all : (t : Turn Parts Event) (old middle new : Session) (input left : Option (List ℕ)) (held out : Option (List Piece)) (e : End) (ending : Ending) → old.place ≤ length (seen_by old) → IsServing t old middle input left held out
     → Leaves t middle new e → ending_at e ≡ Some ending → IfSome left (λ bytes. commands_of bytes ≡ ([], ending)) → IsServed t old new input held out e
 ends_all t old middle new input left held out e ending small serving leaves at is = record {
   end = ap (λ (s : Session). s.end) leaves.same;
   left = left_as t old middle new input left held out serving leaves.left;
+  standing = leaves.standing ∙ kept_while t old middle input left held out serving;
   served = subst (λ (o : Option Ending). MatchOption o (ServesSome t old new input held out e) (ServesAll old new input held out)) (sym at) (serves_all t old middle new input left held out e ending small serving leaves is);
 }
 
@@ -201,6 +208,7 @@ ends_some : (t : Turn Parts Event) (old middle new : Session) (input left : Opti
 ends_some t old middle new input left held out e serving leaves at = record {
   end = ap (λ (s : Session). s.end) leaves.same;
   left = left_as t old middle new input left held out serving leaves.left;
+  standing = leaves.standing ∙ kept_while t old middle input left held out serving;
   served = subst (λ (o : Option Ending). MatchOption o (ServesSome t old new input held out e) (ServesAll old new input held out)) (sym at)
       (record { middle = middle; left = left; between = out; serving = serving; ended = inl (leaves, refl) });
 }
@@ -247,6 +255,7 @@ command_ends : (t : Turn Parts Event) (old middle new : Session) (input left res
 command_ends t old middle new input left rest held between out c e before now serving read ne has = record {
   end = has.0.end;
   left = left_as t old middle new input left held between serving has.0.left;
+  standing = has.0.breaks.standing ∙ kept_while t old middle input left held between serving;
   served = subst (λ (o : Option Ending). MatchOption o (ServesSome t old new input held out e) (ServesAll old new input held out)) (sym (no_ending before now e has.1))
       (record { middle = middle; left = left; between = between; serving = serving; ended = inr (c, is_next left rest c (takes_read left rest c ne read), has.0) });
 }

@@ -60,6 +60,7 @@ same_seat h k s ranges = record {
   number = ap (λ (v : View Parts Event). v.number) s.holder;
   seen = ap (λ (v : View Parts Event). v.seen) s.holder;
   fixed = ap (λ (v : View Parts Event). v.fixed) s.holder;
+  registry = ap (λ (v : View Parts Event). v.registry) s.holder;
   word_set = ap (λ (v : View Parts Event). v.word_set) s.holder;
   task = ap (λ (v : View Parts Event). v.task) s.holder;
   ranges = ranges;
@@ -72,6 +73,7 @@ found_seat h k found s = record {
   number = ap (λ (v : View Parts Event). v.number) s.holder;
   seen = ap (λ (v : View Parts Event). v.seen) s.holder;
   fixed = ap (λ (v : View Parts Event). v.fixed) s.holder;
+  registry = ap (λ (v : View Parts Event). v.registry) s.holder;
   word_set = ap (λ (v : View Parts Event). v.word_set) s.holder;
   task = ap (λ (v : View Parts Event). v.task) s.holder;
   ranges = s.ranges;
@@ -84,6 +86,7 @@ same_again h k m s t = record {
   number = t.number ∙ s.number;
   seen = t.seen ∙ s.seen;
   fixed = t.fixed ∙ s.fixed;
+  registry = t.registry ∙ s.registry;
   word_set = t.word_set ∙ s.word_set;
   task = t.task ∙ s.task;
   ranges = t.ranges ∙ s.ranges;
@@ -179,6 +182,7 @@ pub has_rested : (v : View Parts Event) (x : Parts) (us : List ℕ) → 0 < v.nu
 has_rested v x us seated free connected = record {
   number = refl;
   fixed = refl;
+  registry = refl;
   seen = refl;
   task = ap (λ (ts : List ListedTask). released_task false (task_in ts)) free;
   connected = connected;
@@ -201,6 +205,7 @@ rests_again t session old new h k rests holds turn held same seated rested range
         events = rested.events ∙ (λ i. events_of (one i) (sym rested.seen i));
       };
       fixed = rested.fixed ∙ (same.fixed ∙ ap (λ (w : View Parts Event). w.fixed) holds);
+      registry = rested.registry ∙ (same.registry ∙ ap (λ (w : View Parts Event). w.registry) holds);
       ranges = ap (λ (r : Ranged). r.room) (ranges ∙ (same.ranges ∙ held));
     }
 
@@ -250,4 +255,4 @@ pushes_on who e h k m same value p = record {
 pub ready_same : (who : Who) (h : Held Parts Event ghosts) (x : Parts) → IsReady who h → x ≡ h.value → IsReady who (with_value h x) × IsSameSeat h (with_value h x) × (x ≡ h.value)
 ready_same who h x r is =
     subst (λ (y : Parts). IsReady who (with_value h y) × IsSameSeat h (with_value h y) × (y ≡ h.value)) (sym is)
-    (r, record { seat = refl; turn = refl; number = refl; seen = refl; fixed = refl; word_set = refl; task = refl; ranges = refl }, refl)
+    (r, record { seat = refl; turn = refl; number = refl; seen = refl; fixed = refl; registry = refl; word_set = refl; task = refl; ranges = refl }, refl)

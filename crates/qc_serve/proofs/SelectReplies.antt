@@ -350,6 +350,7 @@ behind t text select old mid new x rest means d p ends is =
       on = subst (λ (n : ℕ). GoesOn n (seen_by mid) (seen_by new)) session ends.goes_on;
       rests = subst (λ (n : ℕ). SeatRests t n new.seat) session ends.rests;
       fixed = ends.fixed ∙ turns.fixed;
+      registry = ends.registry ∙ turns.registry;
       room = ends.room ∙ turns.room;
       state = ap (λ (z : Session). z.state) is ∙ d.state;
       place = ap (λ (z : Session). z.place) is ∙ ap (λ (z : Session). z.place) d.same;
@@ -399,6 +400,7 @@ lacks_ends t c old new held lacks =
         grows = on.none ∙ sym (append-nil (own (number_of old) (seen_by old)));
         lines = ap (λ (z : Session). z.log.lines) lacks.same ∙ sym (append-nil old.log.lines);
         session = lacks.session;
+        standing = λ i. (again.fixed i, again.registry i);
         sent = inl refl;
       };
     }

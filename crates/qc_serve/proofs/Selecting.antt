@@ -146,7 +146,7 @@ pub key_lacks : (t : Turn Parts Event) (select : Select) (old mid : Session) →
 key_lacks t select old mid rest is =
     let at : old.seat ≡ mid.seat = sym (ap (λ (s : Session). s.seat) is) in
     let stays : LooksOn t (number_of old) old.seat old.seat = record {
-      again = record { rests = rest.rests; fixed = refl; ranges = refl };
+      again = record { rests = rest.rests; fixed = refl; registry = refl; ranges = refl };
       goes_on = record { begins = ([], sym (append-nil (seen_by old))); none = refl };
     } in
     record {

@@ -49,9 +49,9 @@ task_released n task.Rest bs = refl
 task_released n (task.Stream s) bs = refl
 task_released n (task.Fill s) bs = refl
 
-pub turned : (t : Turn Parts Event) (session : ℕ) (x : Task) (old new : Seat Parts Event ghosts) (h k : Held Parts Event ghosts) → IsAsking session h → (holder h).fixed ≡ (view old).fixed → h.ranges ≡ old.ranges → TurnsHeld x h k
+pub turned : (t : Turn Parts Event) (session : ℕ) (x : Task) (old new : Seat Parts Event ghosts) (h k : Held Parts Event ghosts) → IsAsking session h → (holder h).fixed ≡ (view old).fixed → (holder h).registry ≡ (view old).registry → h.ranges ≡ old.ranges → TurnsHeld x h k
     → h.turn.now ≡ t → IsSeatOf k.turn.now new → view new ≡ after_release ghosts (with_word_set (holder k) (is_stream x)) k.value (words k) → new.ranges ≡ k.ranges → TurnsTo t session x old new
-turned t session x old new h k a fixed was held turn seated is ranges =
+turned t session x old new h k a fixed registry was held turn seated is ranges =
     let may = held.may in
     let same = held.same in
     let seat : (holder k).number ≡ session + 1 = same.number ∙ a.idle.seat in
@@ -67,6 +67,7 @@ turned t session x old new h k a fixed was held turn seated is ranges =
             ∙ ((λ i. events_of (one i) k.value.journal.events) ∙ ap (events_of session) (sym (ap (λ (v : View Parts Event). v.seen) is))));
       };
       fixed = ap (λ (v : View Parts Event). v.fixed) is ∙ (same.fixed ∙ fixed);
+      registry = ap (λ (v : View Parts Event). v.registry) is ∙ (same.registry ∙ registry);
       room = ap (λ r. r.room) ranges ∙ (held.room ∙ ap (λ r. r.room) was);
     }
 
@@ -78,6 +79,7 @@ rests_on t session old new turns goes =
       again = record {
         rests = record { seated = has.seated; number = has.number; few = has.few; task = has.task; connected = has.connected; events = has.events };
         fixed = turns.fixed;
+        registry = turns.registry;
         ranges = turns.room;
       };
       goes_on = goes;
@@ -101,7 +103,7 @@ released t session x y old new h k may is_held taken ranges holds turn held task
     record {
       asking = a;
       held = held;
-      turns = turned t session x old new h k a (ap (λ (w : View Parts Event). w.fixed) holds) ranges held turn seated same given;
+      turns = turned t session x old new h k a (ap (λ (w : View Parts Event). w.fixed) holds) (ap (λ (w : View Parts Event). w.registry) holds) ranges held turn seated same given;
       fixed = taken.fixed;
       was = ap (λ (w : View Parts Event). w.seen) holds;
       view = same;

@@ -57,10 +57,11 @@ pub record HasTask (t : Turn Parts Event) (session : ℕ) (x : Task) (s : Seat P
   pub connected : (view s).connected ≡ true
   pub events : (view s).events ≡ events_of session (view s).seen
 
--- it has this task now, with the options and the room for ranges that it had
+-- it has this task now, with the options, the seats split off and the room for ranges that it had
 pub record TurnsTo (t : Turn Parts Event) (session : ℕ) (x : Task) (old new : Seat Parts Event ghosts) : Type 0 where
   pub has : HasTask t session x new
   pub fixed : (view new).fixed ≡ (view old).fixed
+  pub registry : (view new).registry ≡ (view old).registry
   pub room : new.ranges.room ≡ old.ranges.room
 
 -- it rests, and its ranges have room for a chain

@@ -34,6 +34,7 @@ pub record HasBegun (t : Turn Parts Event) (options : Options) (seat : Seat Part
   -- it has seen all that its seat had seen, and no event of its own that its seat hadn't
   pub seen : StartsWith (seen_by s) (view seat).seen
   pub events : (view s.seat).events ≡ (view seat).events
+  pub registry : (view s.seat).registry ≡ (view seat).registry
 
 -- this seat is handed back, with the error that says why, or without one
 abbrev pub GivesBack : Seat Parts Event ghosts → NotConnected → Type 0

@@ -10,7 +10,7 @@ use Rattle.qc_model.specs.declared.events.Event.TheVariants as event
 use Rattle.qc_model.specs.declared.events.How.TheVariants as how
 use Rattle.qc_model.specs.declared.reports.ReportLine.{ReportLine}
 use Rattle.qc_model.specs.declared.reports.Word.TheVariants as word
-use Rattle.qc_model.specs.Agrees.{Machine, key_of_command, line, who_of, word_of}
+use Rattle.qc_model.specs.Agrees.{Machine, key_of_command, line, who_of, whole_machine, word_of}
 use Rattle.qc_model.specs.Journal.{Journal, before}
 use Rattle.qc_model.specs.Needs.{HasOwnNeeds}
 use Rattle.qc_model.specs.Session.{State}
@@ -26,12 +26,11 @@ use Rattle.qc_serve.specs.declared.execution.Executed.{Executed}
 use Rattle.qc_serve.specs.declared.execution.Executed.TheVariants as executed
 use Rattle.qc_serve.specs.declared.session.Session.{Session}
 use Rattle.qc_serve.specs.declared.sinks.Piece.{Piece}
-use Rattle.qc_serve.specs.Going.{DoesOne, number_of, position_of, seen_by}
+use Rattle.qc_serve.specs.Going.{DoesOne, number_of, position_of, seen_by, standing_of}
 use Rattle.qc_serve.specs.Leaving.{HasLeft}
 use Rattle.qc_serve.specs.Logs.{logged_event}
 use Rattle.qc_serve.specs.Seats.{GoesOn, SeatRests}
 use Rattle.qc_serve.specs.Sent.{Adds, Sends, SendsFrontOf}
-use Rattle.qc_serve.specs.Stage.{serve_machine}
 
 -- ---- the tasks of the seat while a reply goes out
 
@@ -76,7 +75,7 @@ HasLine m options session from c l seen =
 
 -- a front of the command's reply went out
 abbrev pub SendsPart : Command → Session → Session → Option (List Piece) → Option (List Piece) → Type 0
-SendsPart c old new held out = (l : ReportLine) × HasLine serve_machine old.options (number_of old) (position_of old) c l (seen_by new) × SendsFrontOf held out l.reply
+SendsPart c old new held out = (l : ReportLine) × HasLine whole_machine old.options (number_of old) (position_of old) c l (seen_by new) × SendsFrontOf held out l.reply
 
 -- The log has a line for the command's event, where that came, and no other. Nothing went out, or a front of the command's reply.
 pub record BreaksOff (c : Command) (old new : Session) (held out : Option (List Piece)) : Type 0 where
@@ -86,6 +85,7 @@ pub record BreaksOff (c : Command) (old new : Session) (held out : Option (List 
   pub grows : own (number_of old) (seen_by new) ≡ own (number_of old) (seen_by old) ++ events
   pub lines : new.log.lines ≡ old.log.lines ++ map logged_event events
   pub session : number_of new ≡ number_of old
+  pub standing : standing_of new ≡ standing_of old
   pub sent : (out ≡ held) ⊎ SendsPart c old new held out
 
 -- the session has to end: its seat rests
@@ -103,6 +103,7 @@ pub record HasEnded (t : Turn Parts Event) (c : Command) (old new : Session) (he
 pub record Leaves (t : Turn Parts Event) (old new : Session) (e : End) : Type 0 where
   pub left : HasLeft t (number_of old) new.seat
   pub seen : GoesOn (number_of old) (seen_by old) (seen_by new)
+  pub standing : standing_of new ≡ standing_of old
   pub same : new ≡ record old { seat = new.seat; end = Some e }
 
 -- ---- what a command does

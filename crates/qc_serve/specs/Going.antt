@@ -1,6 +1,6 @@
 -- What a session's methods do.
 use Rattle.std.specs.List.{AllByRecursion}
-use Rattle.std.specs.Prelude.{◌≡◌, ℕ, ◌+◌, ◌*◌, ◌<◌, ◌≤◌, Bool, true, not, ◌||◌, is_some, List, [], ◌∷◌, ◌++◌, length, map, Ok, Err, MatchResult}
+use Rattle.std.specs.Prelude.{◌≡◌, ℕ, ◌+◌, ◌*◌, ◌<◌, ◌≤◌, Bool, true, not, ◌||◌, Option, is_some, List, [], ◌∷◌, ◌++◌, length, map, Ok, Err, MatchResult}
 use Rattle.qc_types.specs.declared.options.Options.{Options}
 use Rattle.qc_types.specs.declared.totals.Totals.{Totals}
 use Rattle.qc_sql.specs.declared.commands.Command.{Command}
@@ -17,7 +17,7 @@ use Rattle.qc_model.specs.declared.events.How.TheVariants as how
 use Rattle.qc_model.specs.declared.events.Who.{Who}
 use Rattle.qc_model.specs.declared.reports.ReportLine.{ReportLine}
 use Rattle.qc_model.specs.declared.reports.Word.TheVariants as word
-use Rattle.qc_model.specs.Agrees.{word_of}
+use Rattle.qc_model.specs.Agrees.{whole_machine, word_of}
 use Rattle.qc_model.specs.Cache.{counters}
 use Rattle.qc_model.specs.Journal.{Journal, is_by}
 use Rattle.qc_model.specs.Machine.{Given, changed_rows, ok_reply, refused, status_reply}
@@ -26,18 +26,22 @@ use Rattle.qc_model.specs.Settings.{set_to}
 use Rattle.qc_laws.specs.runs.Runs.{Answers, Position, StartsWith, own, stand}
 use Rattle.qc_steps.specs.Sound.{IsFitState, IsPast}
 use Rattle.qc_turn.specs.declared.turn.Turn.{Turn}
+use Rattle.qc_turn.specs.declared.view.MetSeat.{MetSeat}
 use Rattle.qc_turn.specs.Seats.{view}
 use Rattle.qc_core.specs.declared.parts.Parts.{Parts}
 use Rattle.qc_serve.specs.declared.session.Session.{Session}
 use Rattle.qc_serve.specs.Logs.{logged, logged_event, logged_line}
 use Rattle.qc_serve.specs.Seats.{Decides, GoesOn, RestsAgain, SeatRests, next_of}
-use Rattle.qc_serve.specs.Stage.{serve_machine}
 
 abbrev pub seen_by : Session → Journal
 seen_by s = (view s.seat).seen
 
 abbrev pub number_of : Session → ℕ
 number_of s = s.state.state.session
+
+-- what stays of its seat as long as it is connected: what is fixed, and the seats that it has split off, with what it keeps of those that it has met
+abbrev pub standing_of : Session → List ℕ × List (Option (MetSeat Event))
+standing_of s = ((view s.seat).fixed, (view s.seat).registry)
 
 -- where the session stands
 abbrev pub position_of : Session → Position
@@ -98,6 +102,7 @@ pub record GivesOut (t : Turn Parts Event) (old new : Session) (bytes : List ℕ
   pub reply : bytes ≡ packets (given journal).reply
   pub state : new.state.state ≡ (given journal).next
   pub options : new.options ≡ old.options
+  pub standing : standing_of new ≡ standing_of old
   pub end : new.end ≡ old.end
   pub rest : IsAtRest t new
 
@@ -109,16 +114,18 @@ pub record TellsOut (t : Turn Parts Event) (old new : Session) (bytes : List ℕ
   pub reply : bytes ≡ packets r
   pub state : new.state.state ≡ next
   pub options : new.options ≡ old.options
+  pub standing : standing_of new ≡ standing_of old
   pub end : new.end ≡ old.end
   pub rest : IsAtRest t new
 
 -- one command was answered, with these packets
 pub record DoesOne (t : Turn Parts Event) (c : Command) (old new : Session) (bytes : List ℕ) : Type 0 where
   pub answered : ReportLine
-  pub answers : Answers serve_machine old.options (number_of old) (position_of old) c answered (position_of new)
+  pub answers : Answers whole_machine old.options (number_of old) (position_of old) c answered (position_of new)
   pub reply : answered.reply ≡ bytes
   pub lines : new.log.lines ≡ old.log.lines ++ logged_line answered ∷ []
   pub options : new.options ≡ old.options
+  pub standing : standing_of new ≡ standing_of old
   pub end : new.end ≡ old.end
   pub session : number_of new ≡ number_of old
   pub rest : IsAtRest t new

@@ -49,6 +49,7 @@ pub record MayLetGo (h : Held Parts Event ghosts) : Type 0 where
 pub record HasLetGo (old now : View Parts Event) (value : Parts) : Type 0 where
   pub number : now.number ≡ old.number
   pub fixed : now.fixed ≡ old.fixed
+  pub registry : now.registry ≡ old.registry
   pub seen : now.seen ≡ value.journal.events
   pub task : now.task ≡ task.Rest
   pub connected : now.connected ≡ is_connected old.number value

@@ -99,6 +99,7 @@ pub record EndsStream (t : Turn Parts Event) (session : ℕ) (old new : Seat Par
   pub rests : SeatRests t session new
   pub seen : (view new).seen ≡ (view old).seen
   pub fixed : (view new).fixed ≡ (view old).fixed
+  pub registry : (view new).registry ≡ (view old).registry
   pub room : new.ranges.room ≡ old.ranges.room
 
 -- the seat has ended its fill, and may have seen more
@@ -148,6 +149,7 @@ pub record EndsWith (t : Turn Parts Event) (session : ℕ) (old new : Seat Parts
   pub rests : SeatRests t session new
   pub goes_on : GoesOn session (view old).seen (view new).seen
   pub fixed : (view new).fixed ≡ (view old).fixed
+  pub registry : (view new).registry ≡ (view old).registry
   pub room : new.ranges.room ≡ old.ranges.room
 
 -- a fill that was begun has ended

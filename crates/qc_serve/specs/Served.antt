@@ -10,7 +10,7 @@ use Rattle.qc_model.specs.declared.events.Event.{Event}
 use Rattle.qc_model.specs.declared.reports.Ending.{Ending}
 use Rattle.qc_model.specs.declared.reports.Ending.TheVariants as ending
 use Rattle.qc_model.specs.declared.reports.ReportLine.{ReportLine}
-use Rattle.qc_model.specs.Agrees.{commands_of}
+use Rattle.qc_model.specs.Agrees.{commands_of, whole_machine}
 use Rattle.qc_laws.specs.runs.Cuts.{Takes}
 use Rattle.qc_laws.specs.runs.Runs.{Runs}
 use Rattle.qc_turn.specs.declared.turn.Turn.{Turn}
@@ -20,11 +20,10 @@ use Rattle.qc_serve.specs.declared.ending.End.TheVariants as end
 use Rattle.qc_serve.specs.declared.session.Session.{Session}
 use Rattle.qc_serve.specs.declared.sinks.Piece.{Piece}
 use Rattle.qc_serve.specs.Executed.{HasEnded, Leaves}
-use Rattle.qc_serve.specs.Going.{IsAtRest, number_of, position_of}
+use Rattle.qc_serve.specs.Going.{IsAtRest, number_of, position_of, standing_of}
 use Rattle.qc_serve.specs.Leaving.{HasLeft}
 use Rattle.qc_serve.specs.Logs.{logged_line}
 use Rattle.qc_serve.specs.Sent.{Sends}
-use Rattle.qc_serve.specs.Stage.{serve_machine}
 
 -- the replies of lines, one after another
 abbrev pub replies_of : List ReportLine → List ℕ
@@ -32,10 +31,11 @@ replies_of ls = flat_map (λ l. l.reply) ls
 
 -- These commands were answered, one after another, with these lines: the log has them, and their replies went out.
 pub record HasServed (old new : Session) (cs : List Command) (ls : List ReportLine) (held out : Option (List Piece)) : Type 0 where
-  pub runs : Runs serve_machine old.options (number_of old) (position_of old) cs ls (position_of new)
+  pub runs : Runs whole_machine old.options (number_of old) (position_of old) cs ls (position_of new)
   pub lines : new.log.lines ≡ old.log.lines ++ map logged_line ls
   pub sends : Sends held out (replies_of ls)
   pub options : new.options ≡ old.options
+  pub standing : standing_of new ≡ standing_of old
   pub session : number_of new ≡ number_of old
 
 -- of an input, where it is told, these commands were taken, and this is left
@@ -100,6 +100,7 @@ pub record ServesSome (t : Turn Parts Event) (old new : Session) (input : Option
 pub record IsServed (t : Turn Parts Event) (old new : Session) (input : Option (List ℕ)) (held out : Option (List Piece)) (e : End) : Type 0 where
   pub end : new.end ≡ Some e
   pub left : HasLeft t (number_of old) new.seat
+  pub standing : standing_of new ≡ standing_of old
   pub served : MatchOption (ending_at e) (ServesSome t old new input held out e) (ServesAll old new input held out)
 
 -- the fault at which it ended, by the counts of the source and of the sink before and after

@@ -18,7 +18,7 @@ pub(crate) fn enter_now<R: Wait>(rt: &R, turn: &Turn<Server>, seat: &mut Seat<Se
     ensures rests { SeatRests turn.now result seat.new }
     ensures seen { StartsWith (view seat.new).seen (view seat.old).seen }
     ensures number { (view seat.new).number ≡ (view seat.old).number }
-    ensures same { ((view seat.new).fixed ≡ (view seat.old).fixed) × ((view seat.new).events ≡ (view seat.old).events) × (seat.new.ranges ≡ seat.old.ranges) }
+    ensures same { ((view seat.new).fixed ≡ (view seat.old).fixed) × ((view seat.new).events ≡ (view seat.old).events) × (seat.new.ranges ≡ seat.old.ranges) × ((view seat.new).registry ≡ (view seat.old).registry) }
 {
     let mut held = turn.take(rt, seat);
     let session = enter_held(&mut held);
@@ -46,6 +46,7 @@ pub(crate) fn leave_now<R: Wait>(rt: &R, turn: &Turn<Server>, seat: &mut Seat<Se
     requires { SeatRests turn.now session seat.old }
     ensures left { HasLeft turn.now session seat.new }
     ensures seen { GoesOn session (view seat.old).seen (view seat.new).seen }
+    ensures same { ((view seat.new).fixed ≡ (view seat.old).fixed) × ((view seat.new).registry ≡ (view seat.old).registry) }
 {
     let mut held = turn.take(rt, seat);
     leave_held(&mut held, session);

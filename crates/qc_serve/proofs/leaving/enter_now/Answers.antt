@@ -14,4 +14,4 @@ returns-clause-same g c =
     let e = c.enter_held-session in
     let s = c.args.seat.now in
     let same = entered_same s _ t.result e.new.held (omega (arith, s.numbered.0, s.numbered.1)) t.ensures.taken t.ensures.holds e.ensures.go.1 e.ensures.events c.let_go.ensures.rested in
-    rw (c.seat-1.given.1 (sym (e.ensures.go.1.seat ∙ t.ensures.same_seat))) (same.0, same.1, c.let_go.ensures.ranges ∙ (e.ensures.go.1.ranges ∙ t.ensures.ranges))
+    rw (c.seat-1.given.1 (sym (e.ensures.go.1.seat ∙ t.ensures.same_seat))) (same.0, same.1, c.let_go.ensures.ranges ∙ (e.ensures.go.1.ranges ∙ t.ensures.ranges), same.2)
