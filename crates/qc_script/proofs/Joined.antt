@@ -22,7 +22,7 @@ joined_parts f c x xs ys e = rw e (joined c (f x) (map f xs))
 pub more_fields : (before : Text) (xs ys : List Text) → (before ++ spaced xs) ++ spaced ys ≡ before ++ spaced (xs ++ ys)
 more_fields before xs ys = append_assoc before (spaced xs) (spaced ys) ∙ sym (ap (λ (t : Text). before ++ t) (flat_map-append (λ t. 32 ∷ t) xs ys))
 
-event_lines-push : (n : ℕ) (es : List Event) (e : Event) → event_lines n (es ++ e ∷ []) ≡ event_lines n es ++ fields (decimal (n + length es) ∷ event_fields e) ∷ []
+pub event_lines-push : (n : ℕ) (es : List Event) (e : Event) → event_lines n (es ++ e ∷ []) ≡ event_lines n es ++ fields (decimal (n + length es) ∷ event_fields e) ∷ []
 event_lines-push n [] e = rw add-zero
 event_lines-push n (x ∷ es) e =
     let after : n + 1 + length es ≡ n + suc (length es) = omega arith in

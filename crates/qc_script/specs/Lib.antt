@@ -1,4 +1,5 @@
+pub mod Drafts
 pub mod Lines
 pub mod ReportParts
-pub mod Sessions
 pub mod ShortNames
+pub mod WorkloadScript

@@ -3,10 +3,11 @@ use Rattle.std.specs.Prelude.{Option, Some, IsTrue}
 use Rattle.qc_wire.specs.Commands.{can_be_read}
 use Rattle.qc_script.specs.declared.lines.Line.{Line}
 use Rattle.qc_script.specs.declared.lines.Line.TheVariants as read
-use Rattle.qc_model.specs.ScriptLines.{Line as Meant, Opens, Sends, Puts, Skips}
+use Rattle.qc_model.specs.ScriptLines.{Line as Meant, Prepares, Opens, Sends, Puts, Skips}
 
 abbrev pub meant : Line → Meant
-meant read.Opens = Opens 1
+meant read.Prepares = Prepares
+meant (read.Opens digits) = Opens digits.now
 meant (read.Sends command) = Sends command
 meant (read.Puts bytes) = Puts bytes.items
 meant read.Skips = Skips

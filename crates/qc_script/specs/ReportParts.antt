@@ -3,6 +3,7 @@ use Rattle.std.specs.Prelude.{ℕ, List, [], ◌∷◌, codes, decimal, length}
 use Rattle.std.specs.List.{flat_map}
 use Rattle.qc_model.specs.declared.events.Event.{Event}
 use Rattle.qc_model.specs.declared.reports.SessionReport.{SessionReport}
+use Rattle.qc_script.specs.declared.reports.sessions.Head.{Head}
 use Rattle.qc_model.specs.ReportText.{Text, fields, event_lines, session_lines, ending_fields}
 
 -- each text with this byte before it
@@ -13,7 +14,11 @@ each_after byte texts = flat_map (λ t. byte ∷ t) texts
 abbrev pub spaced : List Text → Text
 spaced texts = each_after 32 texts
 
--- what follows the word of the line that begins a session
+-- what follows the word of the line that begins a session, by what it tells
+abbrev pub head_fields : Head → List Text
+head_fields h = decimal h.session ∷ codes "commands" ∷ decimal h.commands ∷ codes "end" ∷ ending_fields h.ending
+
+-- the same of a session
 abbrev pub session_fields : SessionReport → List Text
 session_fields s = decimal s.session ∷ codes "commands" ∷ decimal (length s.lines) ∷ codes "end" ∷ ending_fields s.ending
 

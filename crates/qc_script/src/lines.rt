@@ -1,6 +1,6 @@
 //! The lines of a script, one after another.
 
-ghost use Rattle.std.specs.Prelude.{◌≡◌, ◌<◌, ◌==◌, [], ◌∷◌, codes, length, IfOk, MatchOption};
+ghost use Rattle.std.specs.Prelude.{◌≡◌, ◌<◌, ◌==◌, [], ◌∷◌, codes, length, IfOk, IfSome, MatchOption};
 ghost use Rattle.std.specs.List.{position};
 ghost use Rattle.std.specs.Option.{option_map};
 ghost use Rattle.hex.specs.Hex.{decode_of};
@@ -12,7 +12,7 @@ use qc_sql::commands::Command;
 use qc_types::{NoMemory, Text};
 use std::alloc::Global;
 
-const SESSION: &[u8] = b"session 1";
+const SETUP: &[u8] = b"setup";
 
 const PING: &[u8] = b"ping";
 
@@ -20,12 +20,14 @@ const QUIT: &[u8] = b"quit";
 
 /// What a line of a script is for.
 #[derive(Drop)]
-pub enum Line {
-    /// The commands behind it are those of session 1.
-    Opens,
-    /// A command of the last session.
+pub enum Line<'a> {
+    /// The commands behind it are the setup part's.
+    Prepares,
+    /// The commands behind it are those of the session with the number that these bytes write.
+    Opens(&'a [u8]),
+    /// A command of what was begun last.
     Sends(Command),
-    /// Bytes of the last session's stream, as they are.
+    /// Bytes of the stream that was begun last, as they are.
     Puts(Vec<u8>),
     /// A comment, or an empty line.
     Skips,
@@ -48,22 +50,23 @@ pub fn first_line(text: &[u8]) -> Option<(&[u8], &[u8])>
 }
 
 /// The place of the first LF.
-fn first_end(text: &[u8]) -> Option<usize>
-    ensures { result ≡ position (λ byte. byte == 10) text.now }
+pub(crate) fn first_end(text: &[u8]) -> Option<usize>
+    ensures place { result ≡ position (λ byte. byte == 10) text.now }
+    ensures within { IfSome result (λ end. end < length text.now) }
 {
     text.iter().position(|byte| *byte == b'\n')
 }
 
 /// What a line is for, or none where it is none of a script's lines. A command's text is copied once; the cost is linear in the line's length.
-pub fn read_line(alloc: Global, line: &[u8]) -> Result<Option<Line>, NoMemory>
+pub fn read_line(alloc: Global, line: &[u8]) -> Result<Option<Line<'_>>, NoMemory>
     ensures line { IfOk result (λ read. option_map meant read ≡ line_of line.now) }
     ensures sent { IfOk result SendsReadable }
 {
     if is_skipped(line) {
         return Ok(Some(Line::Skips));
     }
-    if line == SESSION {
-        return Ok(Some(Line::Opens));
+    if line == SETUP {
+        return Ok(Some(Line::Prepares));
     }
     if line == PING {
         return Ok(Some(Line::Sends(Command::Ping)));
@@ -82,11 +85,14 @@ fn is_skipped(line: &[u8]) -> bool
 }
 
 /// What a line of a word, one space and all that is behind them is for.
-fn read_word(alloc: Global, line: &[u8]) -> Result<Option<Line>, NoMemory>
+fn read_word(alloc: Global, line: &[u8]) -> Result<Option<Line<'_>>, NoMemory>
     ensures line { IfOk result (λ read. option_map meant read
-        ≡ word_line (behind (codes "query ") line.now) (behind (codes "init ") line.now) (behind (codes "raw ") line.now)) }
+        ≡ word_line (behind (codes "session ") line.now) (behind (codes "query ") line.now) (behind (codes "init ") line.now) (behind (codes "raw ") line.now)) }
     ensures sent { IfOk result SendsReadable }
 {
+    if let Some(digits) = line.strip_prefix(b"session ") {
+        return Ok(Some(Line::Opens(digits)));
+    }
     if let Some(text) = line.strip_prefix(b"query ") {
         return Ok(Some(Line::Sends(Command::Query(Text::of(alloc, text)?))));
     }
@@ -100,7 +106,7 @@ fn read_word(alloc: Global, line: &[u8]) -> Result<Option<Line>, NoMemory>
 }
 
 /// The bytes that hexadecimal digits write, or none where there is another byte or half a pair.
-fn read_raw(alloc: Global, digits: &[u8]) -> Result<Option<Line>, NoMemory>
+fn read_raw(alloc: Global, digits: &[u8]) -> Result<Option<Line<'_>>, NoMemory>
     ensures line { IfOk result (λ read. option_map meant read ≡ puts (decode_of digits.now)) }
     ensures sent { IfOk result SendsReadable }
 {

@@ -4,12 +4,13 @@ ghost use Rattle.std.specs.Prelude.{◌≡◌, ◌++◌, ◌∷◌, [], IfOk, On
 ghost use Rattle.qc_model.specs.ReportText.{text_of_report, lines, fields, option_fields, counter_fields};
 ghost use Rattle.qc_script.specs.ShortNames.{HasShortNames};
 
+mod digits;
 mod events;
-mod fields;
-mod journal;
+pub(crate) mod fields;
+pub(crate) mod journal;
 mod operations;
 mod payloads;
-mod sessions;
+pub(crate) mod sessions;
 
 use crate::reports::fields::put_pair;
 use crate::reports::journal::put_journal;
@@ -36,7 +37,7 @@ pub fn report_text(alloc: Global, report: &Report) -> Result<Text, NoMemory>
     Ok(out)
 }
 
-fn put_options(alloc: Global, options: Options, out: &mut Text) -> Result<(), NoMemory>
+pub(crate) fn put_options(alloc: Global, options: Options, out: &mut Text) -> Result<(), NoMemory>
     ensures { OnOk result (out.new ≡ out.old ++ lines (fields (option_fields options) ∷ [])) }
 {
     out.extend(b"options")?;
@@ -45,7 +46,11 @@ fn put_options(alloc: Global, options: Options, out: &mut Text) -> Result<(), No
     out.extend(b"\n")
 }
 
-fn put_counters(alloc: Global, counters: Counters, out: &mut Text) -> Result<(), NoMemory>
+pub(crate) fn put_counters(
+    alloc: Global,
+    counters: Counters,
+    out: &mut Text,
+) -> Result<(), NoMemory>
     ensures { OnOk result (out.new ≡ out.old ++ lines (fields (counter_fields counters) ∷ [])) }
 {
     out.extend(b"counters")?;

@@ -5,6 +5,8 @@ ghost use Rattle.std.specs.Fmt.{signed_decimal};
 ghost use Rattle.qc_model.specs.ReportText.{hex as hex_text, table_text, lines, fields};
 ghost use Rattle.qc_script.specs.ReportParts.{spaced};
 
+use crate::reports::digits::put_digits_of;
+use itoa::Buffer;
 use qc_types::{NoMemory, TableName, Text};
 use std::alloc::Global;
 
@@ -20,7 +22,7 @@ pub fn put_word(word: &[u8], out: &mut Text) -> Result<(), NoMemory>
 pub fn put_digits(alloc: Global, number: u64, out: &mut Text) -> Result<(), NoMemory>
     ensures { OnOk result (out.new ≡ out.old ++ decimal number) }
 {
-    out.extend(number.to_string(alloc)?.as_bytes())
+    out.extend(Buffer::new().format(number).as_bytes())
 }
 
 /// Puts a space and the digits of a number.
@@ -57,7 +59,7 @@ pub fn put_word_of_pair(
 pub fn put_signed(alloc: Global, number: i64, out: &mut Text) -> Result<(), NoMemory>
     ensures { OnOk result (out.new ≡ out.old ++ signed_decimal number) }
 {
-    out.extend(number.to_string(alloc)?.as_bytes())
+    out.extend(Buffer::new().format(number).as_bytes())
 }
 
 /// Puts two lower-case hexadecimal digits a byte, or `-` for no bytes. It takes time linear in the bytes.
@@ -68,7 +70,7 @@ pub fn put_hex(alloc: Global, bytes: &[u8], out: &mut Text) -> Result<(), NoMemo
     if bytes.is_empty() {
         out.extend(b"-")
     } else {
-        out.extend(hex::encode(alloc, bytes)?.as_bytes())
+        put_digits_of(bytes, out)
     }
 }
 

@@ -24,8 +24,9 @@ pub fn put_journal(alloc: Global, events: &[Event], out: &mut Text) -> Result<()
     Ok(())
 }
 
+/// Puts the line of an event, by its number.
 #[tactic(auto, using(crate::proofs::Joined::joined))]
-fn put_line(alloc: Global, number: u64, event: &Event, out: &mut Text) -> Result<(), NoMemory>
+pub fn put_line(alloc: Global, number: u64, event: &Event, out: &mut Text) -> Result<(), NoMemory>
     requires { HasShortColumns event.now }
     ensures { OnOk result (out.new ≡ out.old ++ lines (fields (decimal number ∷ event_fields event.now) ∷ [])) }
 {

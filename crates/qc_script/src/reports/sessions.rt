@@ -2,7 +2,7 @@
 
 ghost use Rattle.std.specs.Prelude.{◌≡◌, ◌++◌, ◌∷◌, [], codes, OnOk};
 ghost use Rattle.qc_model.specs.ReportText.{lines, fields, session_lines, ending_fields, line_text, word_text};
-ghost use Rattle.qc_script.specs.ReportParts.{sessions_part, session_fields, spaced};
+ghost use Rattle.qc_script.specs.ReportParts.{sessions_part, session_fields, head_fields, spaced};
 
 use crate::reports::fields::{
     put_bytes, put_count, put_digits, put_number, put_word, put_word_of_pair,
@@ -10,6 +10,15 @@ use crate::reports::fields::{
 use qc_model::reports::{Ending, ReportLine, SessionReport, Word};
 use qc_types::{NoMemory, Text};
 use std::alloc::Global;
+
+/// What the line that begins a session tells of it.
+#[derive(Clone, Copy)]
+pub struct Head {
+    pub session: u8,
+    /// How many lines of commands follow.
+    pub commands: u64,
+    pub ending: Ending,
+}
 
 /// Puts how many sessions there are, and the lines of each. It takes time linear in the lines.
 pub fn put_sessions(
@@ -29,35 +38,42 @@ pub fn put_sessions(
 fn put_session(alloc: Global, session: &SessionReport, out: &mut Text) -> Result<(), NoMemory>
     ensures { OnOk result (out.new ≡ out.old ++ lines (session_lines session.now)) }
 {
-    put_head(alloc, session, out)?;
+    put_head(alloc, head_of(session), out)?;
     for line in session.lines.items() {
         put_line(alloc, line, out)?;
     }
     Ok(())
 }
 
-// The line that begins a session.
+/// The line that begins a session.
 #[tactic(auto, using(crate::proofs::Joined::joined))]
-fn put_head(alloc: Global, session: &SessionReport, out: &mut Text) -> Result<(), NoMemory>
-    ensures { OnOk result (out.new ≡ out.old ++ lines (fields (codes "session" ∷ session_fields session.now) ∷ [])) }
+pub fn put_head(alloc: Global, head: Head, out: &mut Text) -> Result<(), NoMemory>
+    ensures { OnOk result (out.new ≡ out.old ++ lines (fields (codes "session" ∷ head_fields head) ∷ [])) }
 {
     out.extend(b"session")?;
-    put_session_fields(alloc, session, out)?;
+    put_head_fields(alloc, head, out)?;
     out.extend(b"\n")
 }
 
-fn put_session_fields(
-    alloc: Global,
-    session: &SessionReport,
-    out: &mut Text,
-) -> Result<(), NoMemory>
-    ensures { OnOk result (out.new ≡ out.old ++ spaced (session_fields session.now)) }
+fn put_head_fields(alloc: Global, head: Head, out: &mut Text) -> Result<(), NoMemory>
+    ensures { OnOk result (out.new ≡ out.old ++ spaced (head_fields head)) }
 {
-    put_number(alloc, session.session as u64, out)?;
+    put_number(alloc, head.session as u64, out)?;
     put_word(b"commands", out)?;
-    put_number(alloc, session.lines.items().len() as u64, out)?;
+    put_number(alloc, head.commands, out)?;
     put_word(b"end", out)?;
-    put_ending(alloc, session.ending, out)
+    put_ending(alloc, head.ending, out)
+}
+
+/// What the line that begins a session tells of it.
+fn head_of(session: &SessionReport) -> Head
+    ensures { head_fields result ≡ session_fields session.now }
+{
+    Head {
+        session: session.session,
+        commands: session.lines.items().len() as u64,
+        ending: session.ending,
+    }
 }
 
 fn put_ending(alloc: Global, ending: Ending, out: &mut Text) -> Result<(), NoMemory>
@@ -80,7 +96,8 @@ fn put_ending(alloc: Global, ending: Ending, out: &mut Text) -> Result<(), NoMem
     }
 }
 
-fn put_line(alloc: Global, line: &ReportLine, out: &mut Text) -> Result<(), NoMemory>
+/// Puts the line of a command.
+pub fn put_line(alloc: Global, line: &ReportLine, out: &mut Text) -> Result<(), NoMemory>
     ensures { OnOk result (out.new ≡ out.old ++ lines (line_text line.now ∷ [])) }
 {
     put_digits(alloc, line.place, out)?;

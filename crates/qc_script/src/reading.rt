@@ -1,0 +1,139 @@
+//! Reads the text of a report.
+
+ghost use Rattle.std.specs.Prelude.{◌≡◌, ◌<◌, ◌^◌, ◌-◌, ◌++◌, ◌∷◌, [], length, IfOk, OnOk};
+ghost use Rattle.qc_model.specs.ReportText.{text_of_report, lines as lines_text, fields, option_fields, counter_fields};
+ghost use Rattle.qc_script.specs.ShortNames.{HasShortNames};
+
+mod events;
+mod fields;
+mod journal;
+mod lines;
+mod made;
+mod misspelt;
+mod operations;
+mod payloads;
+mod sessions;
+
+use crate::reading::fields::{fields_of, number, number_of_8, number_of_32};
+use crate::reading::journal::read_journal;
+use crate::reading::lines::{Lines, at_line, behind_line, is_spelt, next_line};
+use crate::reading::misspelt::Misspelt;
+use crate::reading::sessions::read_sessions;
+use crate::reports::{put_counters, put_options};
+use qc_model::events::Counters;
+use qc_model::reports::Report;
+use qc_types::{Options, Or, Text};
+use std::alloc::Global;
+
+/// Reads the text of a report, as `report_text` writes it. The refusal is the number of the first bad line: the first with which no report's
+/// text goes on. Where the text ends too early, that is the line which is missing, or which lacks its LF.
+///
+/// A row of the journal doesn't tell whether a cell is a number or a text. It is a number exactly where the table was last made with BIGINT in
+/// that column and the cell is a number as a row writes it.
+///
+/// Linear in the bytes, but that each row that is put looks up its table among those that were made.
+pub fn read_report(alloc: Global, bytes: &[u8]) -> Result<Report, Or<u32>>
+    requires { length bytes.now < 2 ^ 32 - 1 }
+    // What was read can be written again.
+    ensures short { IfOk result HasShortNames }
+    // The bytes are the text of what was read.
+    ensures found { IfOk result (λ report. bytes.now ≡ text_of_report report) }
+{
+    let lines = Lines {
+        number: 1,
+        left: bytes,
+    };
+    let lines = behind_line(b"qcache report 1\n", lines)?;
+    let (options, lines) = read_options(alloc, lines)?;
+    let (sessions, lines) = read_sessions(alloc, lines)?;
+    let (journal, lines) = read_journal(alloc, lines)?;
+    let (counters, lines) = read_counters(alloc, lines)?;
+    let lines = behind_line(b"end\n", lines)?;
+    nothing_left(lines)?;
+    Ok(Report {
+        options,
+        sessions,
+        journal,
+        counters,
+    })
+}
+
+/// No line is left.
+fn nothing_left(lines: Lines<'_>) -> Result<(), Or<u32>>
+    ensures { OnOk result (lines.entry.left.now ≡ []) }
+{
+    if !lines.left.is_empty() {
+        return Err(Or::Other(lines.number));
+    }
+    Ok(())
+}
+
+fn read_options(alloc: Global, lines: Lines<'_>) -> Result<(Options, Lines<'_>), Or<u32>>
+    ensures { IfOk result (λ r. lines.entry.left.now ≡ lines_text (fields (option_fields r.0) ∷ []) ++ r.1.left.now) }
+{
+    let (line, behind) = next_line(lines)?;
+    let options = at_line(lines.number, options_line(alloc, line))?;
+    Ok((options, behind))
+}
+
+fn options_line(alloc: Global, line: &[u8]) -> Result<Options, Or<Misspelt>>
+    ensures { IfOk result (λ options. line.now ≡ lines_text (fields (option_fields options) ∷ [])) }
+{
+    let options = options_in(alloc, line)?;
+    let mut spelt = Text::of(alloc, &[])?;
+    put_options(alloc, options, &mut spelt)?;
+    is_spelt(spelt.bytes(), line)?;
+    Ok(options)
+}
+
+fn options_in(alloc: Global, line: &[u8]) -> Result<Options, Or<Misspelt>> {
+    match fields_of(alloc, line)?.as_slice() {
+        [_options, size, limit, unit, kind] => Ok(Options {
+            size: number_of_32(size)?,
+            limit: number_of_32(limit)?,
+            unit: number_of_32(unit)?,
+            kind: number_of_8(kind)?,
+        }),
+        _ => Err(Or::Other(Misspelt)),
+    }
+}
+
+fn read_counters(alloc: Global, lines: Lines<'_>) -> Result<(Counters, Lines<'_>), Or<u32>>
+    ensures { IfOk result (λ r. lines.entry.left.now ≡ lines_text (fields (counter_fields r.0) ∷ []) ++ r.1.left.now) }
+{
+    let (line, behind) = next_line(lines)?;
+    let counters = at_line(lines.number, counters_line(alloc, line))?;
+    Ok((counters, behind))
+}
+
+fn counters_line(alloc: Global, line: &[u8]) -> Result<Counters, Or<Misspelt>>
+    ensures { IfOk result (λ counters. line.now ≡ lines_text (fields (counter_fields counters) ∷ [])) }
+{
+    let counters = counters_in(alloc, line)?;
+    let mut spelt = Text::of(alloc, &[])?;
+    put_counters(alloc, counters, &mut spelt)?;
+    is_spelt(spelt.bytes(), line)?;
+    Ok(counters)
+}
+
+fn counters_in(alloc: Global, line: &[u8]) -> Result<Counters, Or<Misspelt>> {
+    match fields_of(alloc, line)?.as_slice() {
+        [
+            _counters,
+            com_select,
+            hits,
+            inserts,
+            not_cached,
+            lowmem_prunes,
+            queries_in_cache,
+        ] => Ok(Counters {
+            com_select: number(com_select)?,
+            hits: number(hits)?,
+            inserts: number(inserts)?,
+            not_cached: number(not_cached)?,
+            lowmem_prunes: number(lowmem_prunes)?,
+            queries_in_cache: number(queries_in_cache)?,
+        }),
+        _ => Err(Or::Other(Misspelt)),
+    }
+}
