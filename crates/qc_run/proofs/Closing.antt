@@ -21,7 +21,6 @@ use Rattle.qc_laws.specs.runs.Runs.{HasEnded, HaveEnded, IsClosed, Position, Run
 use Rattle.qc_laws.specs.runs.Runs as runs
 use Rattle.qc_laws.proofs.runs.Steps.{of_seat_is}
 use Rattle.qc_laws.proofs.runs.Whole.{runs_agree}
-use Rattle.std.proofs.lemmas.Option.{none-some}
 use Rattle.qc_turn.specs.Releases.{ClosesWith}
 use Rattle.qc_turn.specs.declared.turn.Turn.{Turn}
 use Rattle.qc_turn.specs.declared.view.MetSeat.{MetSeat}
@@ -32,24 +31,38 @@ use Rattle.qc_core.specs.contracts.server.ServerKept.TheImpl.{ghosts}
 use Rattle.qc_core.specs.declared.parts.Parts.{Parts}
 use Rattle.qc_core.specs.Whole.{IsSomewhereSound}
 use Rattle.qc_sound.proofs.Needs.{needs_are}
+use Rattle.qc_serve.specs.declared.connecting.Receipt.{Receipt}
 use Rattle.qc_serve.specs.declared.session.Session.{Session}
 use Rattle.qc_serve.specs.Going.{as_fixed, number_of, position_of, seen_by}
 use Rattle.qc_serve.specs.Leaving.{HasLeft}
+use Rattle.qc_serve.specs.Logs.{logged_line}
 use Rattle.qc_run.specs.declared.slots.Slot.{Slot}
 use Rattle.qc_run.specs.Inputs as served
-use Rattle.qc_run.specs.Meets.{AreReports, kept_of, report_of}
+use Rattle.qc_run.specs.declared.outcomes.Outcome.{Outcome}
+use Rattle.qc_run.specs.Meets.{AreOutcomes, IsOutcomeOf, kept_of, report_of}
 use Rattle.qc_run.specs.Opens.{IsOpen}
-use Rattle.qc_run.specs.Ran.{HaveRun, HaveServed, MayRun}
+use Rattle.qc_run.specs.Ran.{HaveReceipts, HaveRun, HaveServed, IsReceiptOf, behind_setup, receipts_in, reports_in}
+use Rattle.qc_run.specs.Setup.{HasPrepared, IsPrepared}
 use Rattle.qc_run.specs.Slots.{IsServed}
+
+-- the reports of sessions that have all served their inputs
+abbrev AreReports : List Slot → List SessionReport → Type 0
+AreReports slots reports = AllZip (λ s r. (ending : Ending) × (s.ending ≡ Some ending) × (r ≡ report_of s ending)) slots reports
+
+are_reports : (over : List Slot) (outcomes : List Outcome) → AreOutcomes over outcomes → AreReports over (reports_in outcomes)
+are_reports [] [] told = tt
+are_reports [] (o ∷ os) told = absurd told
+are_reports (s ∷ over) [] told = absurd told
+are_reports (s ∷ over) (o ∷ os) told = ((told.0.0, told.0.1, told.0.2), are_reports over os told.1)
 
 -- what the last value has of the seat with this number
 abbrev HasKept : Journal → ℕ → MetSeat Event → Type 0
 HasKept J n kept = (kept.events ≡ of_seat ghosts n J) × StartsWith J kept.seen
 
 -- one session has ended in the journal
-one_ended : (t : Turn Parts Event) (o : Options) (first J : Journal) (i : ℕ × List ℕ) (a b : Slot) (r : SessionReport) (ending : Ending) → IsOpen t o first i a → IsServed t a b → b.ending ≡ Some ending → r ≡ report_of b ending
+one_ended : (t : Turn Parts Event) (o : Options) (was first J : Journal) (i : ℕ × List ℕ) (a b : Slot) (r : SessionReport) (ending : Ending) → IsOpen t o was i a → IsServed t a b → b.ending ≡ Some ending → r ≡ report_of b ending → (number_of b.session ≢ 0 → StartsWith (seen_by a.session) first)
     → (events_of (number_of b.session) J ≡ events_of (number_of b.session) (seen_by b.session)) → StartsWith J (seen_by b.session) → (r.session ≡ i.0) × HasEnded whole_machine o first J i.1 r
-one_ended t o first J i a b r ending opened is at same all seen =
+one_ended t o was first J i a b r ending opened is at same begins all seen =
     let ended = is.ended in
     let answered : served.HasAnswered a.session b.session a.input b.lines ending = of_some b.ending ending at is.answered in
     let run = answered.served in
@@ -66,7 +79,7 @@ one_ended t o first J i a b r ending opened is at same all seen =
       record {
         from = seen_by a.session;
         to = position_of b.session;
-        begins = λ ne. opened.begins;
+        begins = begins;
         none = none;
         runs = mine;
         ending = answered.ends ∙ ap (λ (input : List ℕ). (commands_of input).1) opened.input;
@@ -104,7 +117,7 @@ have_ended t o first J n (i ∷ inputs) (x ∷ begun) (y ∷ over) (r ∷ rs) a 
     let ended = is.ended in
     let number : number_of y.session ≡ number_of x.session = ended.session in
     let known = its_events t J (0 + (n + 1)) y (number_of x.session) ended.left number (first_number n (number_of x.session) opened.number) (f 0 (met_seat (view y.session.seat)) refl) in
-    let one = one_ended t o first J (n, i) x y r c.0.0 opened is c.0.1 c.0.2 known.0 known.1 in (
+    let one = one_ended t o first first J (n, i) x y r c.0.0 opened is c.0.1 c.0.2 (λ ne. opened.begins) known.0 known.1 in (
       one.0,
       one.1,
       have_ended t o first J (n + 1) inputs begun over rs a.1 b.1 c.1 (λ k kept e. let at : suc k + (n + 1) ≡ k + (n + 1 + 1) = omega arith in subst (λ (m : ℕ). HasKept J m kept) at (f (suc k) kept e)),
@@ -144,37 +157,142 @@ counted t o first n (i ∷ inputs) (x ∷ begun) (y ∷ over) (r ∷ rs) a b c m
     found true e at later = first_is (r.session) m (numbers rs) (at ∙ sym (eqb-true m n e))
     found false e at later = later_is (r.session) m (numbers rs) (later (next e))
 
+-- ---- receipts
+
+answered_lines : (t : Turn Parts Event) (a b : Slot) (ending : Ending) → IsServed t a b → b.ending ≡ Some ending → b.session.log.lines ≡ a.session.log.lines ++ map logged_line b.lines
+answered_lines t a b ending is at =
+    let answered : served.HasAnswered a.session b.session a.input b.lines ending = subst (λ (y : Option Ending). IfSome y (served.HasAnswered a.session b.session a.input b.lines)) at is.answered in
+    let run = answered.served in
+    run.lines
+
+one_receipt : (t : Turn Parts Event) (o : Options) (first : Journal) (i : ℕ × List ℕ) (a b : Slot) (outcome : Outcome) → IsOpen t o first i a → IsServed t a b → IsOutcomeOf b outcome → IsReceiptOf outcome.report outcome.receipt
+one_receipt t o first i a b outcome opened is (ending, at, report, receipt) =
+    let log : outcome.receipt.log.lines ≡ b.session.log.lines = ap (λ (r : Receipt). r.log.lines) receipt in
+    let none : a.session.log.lines ≡ [] = opened.log in
+    record {
+      session = ap (λ (r : Receipt). r.session) receipt ∙ sym (ap (λ (r : SessionReport). r.session) report);
+      lines = log ∙ (answered_lines t a b ending is at ∙ (λ i. none i ++ map logged_line (sym (ap (λ (r : SessionReport). r.lines) report) i)));
+    }
+
+have_receipts : (t : Turn Parts Event) (o : Options) (first : Journal) (n : ℕ) (inputs : List (List ℕ)) (begun over : List Slot) (outcomes : List Outcome) → AllZip (IsOpen t o first) (inputs_from n inputs) begun → AllZip (IsServed t) begun over → AreOutcomes over outcomes
+    → HaveReceipts (reports_in outcomes) (receipts_in outcomes)
+have_receipts t o first n [] [] [] [] a b c = tt
+have_receipts t o first n [] [] [] (x ∷ xs) a b c = absurd c
+have_receipts t o first n [] [] (x ∷ over) outcomes a b c = absurd b
+have_receipts t o first n [] (x ∷ begun) over outcomes a b c = absurd a
+have_receipts t o first n (i ∷ inputs) [] over outcomes a b c = absurd a
+have_receipts t o first n (i ∷ inputs) (x ∷ begun) [] outcomes a b c = absurd b
+have_receipts t o first n (i ∷ inputs) (x ∷ begun) (y ∷ over) [] a b c = absurd c
+have_receipts t o first n (i ∷ inputs) (x ∷ begun) (y ∷ over) (u ∷ outcomes) a b c = (one_receipt t o first (n, i) x y u a.0 b.0 c.0, have_receipts t o first (n + 1) inputs begun over outcomes a.1 b.1 c.1)
+
 -- ---- the whole
 
-pub have_run : (t : Turn Parts Event) (o : Options) (inputs : List (List ℕ)) (reports : List SessionReport) (v : View Parts Event) (server : Parts) → HaveServed t o inputs reports [] v → v.events ≡ [] → ClosesWith ghosts v server → server.options ≡ o → HaveRun o inputs reports server
-have_run t o inputs reports v server served none closes same =
-    let J = server.journal.events in
-    let opened = subst (λ (l : List (List ℕ)). AllZip (IsOpen t o []) (inputs_from 1 l) served.begun) (take_all (length served.begun) inputs (omega (arith, served.all))) served.opened in
-    let sound : IsSomewhereSound server = (closes.sound.0, closes.sound.2) in
-    let parts = sound.1.1 in
-    let begins : StartsWith J [] = (J, refl) in
-    record {
-      sound = sound;
-      first = [];
-      ended = have_ended t o [] J 1 inputs served.begun served.over reports opened served.served served.reported (λ k kept e. closes.met k kept (subst (λ (l : List (Option (MetSeat Event))). get_elem? l k ≡ some (Some kept)) (sym served.registry) e));
-      closed = record {
+module _ (t : Turn Parts Event) (o : Options) (inputs : List (List ℕ)) (outcomes : List Outcome) (before v : View Parts Event) (server : Parts) (served : HaveServed t o inputs outcomes before.seen v) (closes : ClosesWith ghosts v server) where
+  abbrev J : Journal
+  J = server.journal.events
+
+  opened : AllZip (IsOpen t o before.seen) (inputs_from 1 inputs) served.begun
+  opened = subst (λ (l : List (List ℕ)). AllZip (IsOpen t o before.seen) (inputs_from 1 l) served.begun) (take_all (length served.begun) inputs (omega (arith, served.all))) served.opened
+
+  abbrev whole : IsSomewhereSound server
+  whole = (closes.sound.0, closes.sound.2)
+
+  -- the journal goes on behind what the first seat had seen when the others were split off
+  goes_on : StartsWith J before.seen
+  goes_on = starts_again J v.seen before.seen closes.seen served.seen
+    where
+      starts_again : (xs ys zs : Journal) → StartsWith xs ys → StartsWith ys zs → StartsWith xs zs
+      starts_again xs ys zs (more, e) (rest, f) = (rest ++ more, e ∙ (ap (λ (l : Journal). l ++ more) f ∙ append_assoc zs rest more))
+
+  -- and session 0 has had no event since
+  own_stays : v.events ≡ before.events → before.events ≡ events_of 0 before.seen → events_of 0 J ≡ events_of 0 before.seen
+  own_stays same known = sym (of_seat_is 0 J) ∙ (sym closes.own ∙ (same ∙ known))
+
+  sessions_ended : HaveEnded whole_machine o before.seen J (inputs_from 1 inputs) (reports_in outcomes)
+  sessions_ended = have_ended t o before.seen J 1 inputs served.begun served.over (reports_in outcomes) opened served.served (are_reports served.over outcomes served.told)
+      (λ k kept e. closes.met k kept (subst (λ (l : List (Option (MetSeat Event))). get_elem? l k ≡ some (Some kept)) (sym served.registry) e))
+
+  sessions_receipts : HaveReceipts (reports_in outcomes) (receipts_in outcomes)
+  sessions_receipts = have_receipts t o before.seen 1 inputs served.begun served.over outcomes opened served.served served.told
+
+  -- no seat but these and the first has events
+  no_others : (n : ℕ) → is_among (numbers (reports_in outcomes)) (suc n) ≡ false → events_of (suc n) J ≡ []
+  no_others n e =
+      let long : length v.registry ≡ length served.over = ap length served.registry ∙ length-map served.over kept_of in
+      let among : suc n < 1 + length served.over → is_among (numbers (reports_in outcomes)) (suc n) ≡ true =
+      λ h. counted t o before.seen 1 inputs served.begun served.over (reports_in outcomes) opened served.served (are_reports served.over outcomes served.told) (suc n) (omega arith) h in
+      let beyond : length served.over < suc n = omega (arith, λ (h : suc n < 1 + length served.over). true≢false (sym (among h) ∙ e)) in
+      sym (of_seat_is (suc n) J) ∙ closes.others (suc n + 1) (omega (arith, long, beyond))
+
+  is_closed : server.options ≡ o → (reports : List SessionReport) → ((n : ℕ) → is_among (numbers reports) n ≡ false → events_of n J ≡ []) → events_of 0 J ≡ events_of 0 before.seen → IsClosed o before.seen J (numbers reports)
+  is_closed same reports none own =
+      let sound = whole in
+      let parts = sound.1.1 in
+      record {
         lawful = subst (λ (p : Options). IsLawful p J) same parts.sound.journal.lawful;
         needs = subst (λ (p : Options). HasNeeds p J) same (needs_are server.options [] J parts.sound.journal.needs);
-        no_other = others opened;
-        begins = begins;
-        setup = first_none;
-      };
-    }
-  where
-    first_none : events_of 0 server.journal.events ≡ []
-    first_none = sym (of_seat_is 0 server.journal.events) ∙ (sym closes.own ∙ none)
+        no_other = none;
+        begins = goes_on;
+        setup = own;
+      }
 
-    others : AllZip (IsOpen t o []) (inputs_from 1 inputs) served.begun → (n : ℕ) → is_among (numbers reports) n ≡ false → events_of n server.journal.events ≡ []
-    others opened zero e = first_none
-    others opened (suc n) e =
-        let long : length v.registry ≡ length served.over = ap length served.registry ∙ length-map served.over kept_of in
-        let beyond : length served.over < suc n = omega (arith, λ (h : suc n < 1 + length served.over). true≢false (sym (counted t o [] 1 inputs served.begun served.over reports opened served.served served.reported (suc n) (omega arith) h) ∙ e)) in
-        sym (of_seat_is (suc n) server.journal.events) ∙ closes.others (suc n + 1) (omega (arith, long, beyond))
+  -- a script without a setup part
+  pub ran_alone : server.options ≡ o → before.seen ≡ [] → before.events ≡ [] → v.events ≡ before.events → HaveRun o None inputs outcomes server
+  ran_alone same saw none events =
+      let own : events_of 0 J ≡ events_of 0 before.seen = own_stays events (none ∙ sym (ap (events_of 0) saw)) in
+      record {
+        sound = whole;
+        first = before.seen;
+        ended = sessions_ended;
+        closed = is_closed same (reports_in outcomes) (others (own ∙ ap (events_of 0) saw)) own;
+        receipts = sessions_receipts;
+      }
+    where
+      others : events_of 0 J ≡ [] → (n : ℕ) → is_among (numbers (reports_in outcomes)) n ≡ false → events_of n J ≡ []
+      others own zero e = own
+      others own (suc n) e = no_others n e
+
+  -- and one with it
+  pub ran_behind : (input : List ℕ) (outcome : Outcome) → server.options ≡ o → IsPrepared t o input before outcome → v.events ≡ before.events → HaveRun o (Some input) inputs (outcome ∷ outcomes) server
+  ran_behind input outcome same prepared events =
+      let over = prepared.over in
+      let begun = prepared.begun in
+      let opened = prepared.opened in
+      let is = prepared.served in
+      let ended = is.ended in
+      let left = ended.left in
+      let seat = prepared.seat in
+      let number : number_of begun.session ≡ 0 = opened.number in
+      let zero_is : number_of over.session ≡ 0 = ended.session ∙ number in
+      let saw : seen_by over.session ≡ before.seen = ap (λ (w : View Parts Event). w.seen) seat in
+      let known : before.events ≡ events_of 0 before.seen = sym (ap (λ (w : View Parts Event). w.events) seat) ∙ (left.events ∙ (λ i. events_of (number i) (saw i))) in
+      let own : events_of 0 J ≡ events_of 0 before.seen = own_stays events known in
+      let of = prepared.left in
+      let one = one_ended t o [] before.seen J (0, input) begun over outcome.report of.0 opened is of.1 of.2 (λ ne. absurd (ne zero_is))
+      ((λ i. events_of (zero_is i) J) ∙ (own ∙ (λ i. events_of (sym zero_is i) (sym saw i)))) (subst (StartsWith J) (sym saw) goes_on) in
+      let first : outcome.report.session ≡ 0 = one.0 in
+      record {
+        sound = whole;
+        first = before.seen;
+        ended = (one.0, one.1, sessions_ended);
+        closed = is_closed same (outcome.report ∷ reports_in outcomes) (others outcome.report first) own;
+        receipts = (one_receipt t o [] (0, input) begun over outcome opened is of, sessions_receipts);
+      }
+    where
+      or_false : (a b : Bool) → (a || b) ≡ false → b ≡ false
+      or_false true b e = absurd (true≢false e)
+      or_false false b e = e
+
+      others : (r : SessionReport) → r.session ≡ 0 → (n : ℕ) → is_among (numbers (r ∷ reports_in outcomes)) n ≡ false → events_of n J ≡ []
+      others r is zero e = absurd (true≢false (sym (first_is r.session 0 (numbers (reports_in outcomes)) is) ∙ e))
+      others r is (suc n) e = no_others n (or_false (r.session == suc n) (is_among (numbers (reports_in outcomes)) (suc n)) e)
+
+pub have_run : (t : Turn Parts Event) (o : Options) (setup : Option (List ℕ)) (inputs : List (List ℕ)) (prepared : Option Outcome) (outcomes : List Outcome) (before v : View Parts Event) (server : Parts) → HasPrepared t o setup before prepared → HaveServed t o inputs outcomes before.seen v
+    → v.events ≡ before.events → ClosesWith ghosts v server → server.options ≡ o → HaveRun o setup inputs (behind_setup prepared outcomes) server
+have_run t o None inputs None outcomes before v server prepared served events closes same = ran_alone t o inputs outcomes before v server served closes same prepared.0 prepared.1 events
+have_run t o None inputs (Some outcome) outcomes before v server prepared served events closes same = absurd prepared
+have_run t o (Some input) inputs None outcomes before v server prepared served events closes same = absurd prepared
+have_run t o (Some input) inputs (Some outcome) outcomes before v server prepared served events closes same = ran_behind t o inputs outcomes before v server served closes input outcome same prepared events
 
 -- options are known by what the lock keeps of them
 pub same_options : (a b : Options) → as_fixed a ≡ as_fixed b → a ≡ b
@@ -182,14 +300,9 @@ same_options a b e = λ i. record { size = get_or (e i) 0 0; limit = get_or (e i
 
 -- ---- the report
 
-inputs_alone : (script : Script) → script.setup ≡ None → inputs_of script ≡ inputs_from 1 script.sessions
-inputs_alone script none = by script.setup script.sessions none
-  where
-    by : (setup : Option (List ℕ)) (sessions : List (List ℕ)) → setup ≡ None → inputs_of (record { setup = setup; sessions = sessions }) ≡ inputs_from 1 sessions
-    by None sessions e = refl
-    by (Some bytes) sessions e = absurd (none-some bytes (sym e))
-
-pub report_agrees : (script : Script) (options : Options) (reports : List SessionReport) (inputs : List (List ℕ)) (server : Parts) → MayRun script → inputs ≡ script.sessions → HaveRun options inputs reports server → Agrees whole_machine script options (runs.report_of options reports server.journal.events)
-report_agrees script options reports inputs server may same ran =
-    let is : inputs_from 1 inputs ≡ inputs_of script = ap (inputs_from 1) same ∙ sym (inputs_alone script may.setup) in
-    runs_agree whole_machine script options ran.first server.journal.events reports (subst (λ (ins : List (ℕ × List ℕ)). HaveEnded whole_machine options ran.first server.journal.events ins reports) is ran.ended) ran.closed
+pub report_agrees : (script : Script) (options : Options) (reports : List SessionReport) (outcomes : List Outcome) (inputs : List (List ℕ)) (server : Parts) → inputs ≡ script.sessions → reports ≡ reports_in outcomes → HaveRun options script.setup inputs outcomes server
+    → Agrees whole_machine script options (runs.report_of options reports server.journal.events)
+report_agrees script options reports outcomes inputs server same told ran =
+    subst (λ (rs : List SessionReport). Agrees whole_machine script options (runs.report_of options rs server.journal.events)) (sym told)
+    (runs_agree whole_machine script options ran.first server.journal.events (reports_in outcomes)
+    (subst (λ (ins : List (List ℕ)). HaveEnded whole_machine options ran.first server.journal.events (inputs_of (record { setup = script.setup; sessions = ins })) (reports_in outcomes)) same ran.ended) ran.closed)

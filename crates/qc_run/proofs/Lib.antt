@@ -5,3 +5,7 @@ pub mod Names
 pub mod Lists
 pub mod Opening
 pub mod Running
+pub mod Preparing
+pub mod Ordering
+pub mod Sends
+pub mod Closures

@@ -4,8 +4,6 @@ use Rattle.std.specs.Prelude.{reverse, slice_index_or, slice_set}
 use Rattle.std.specs.List.{All, AllZip}
 use Rattle.std.proofs.lemmas.List.{reverse-append, take-append-drop}
 use Rattle.qc_model.specs.declared.events.Event.{Event}
-use Rattle.qc_model.specs.declared.reports.Ending.{Ending}
-use Rattle.qc_model.specs.declared.reports.SessionReport.{SessionReport}
 use Rattle.qc_model.specs.Journal.{Journal}
 use Rattle.qc_laws.specs.runs.Runs.{StartsWith}
 use Rattle.qc_turn.specs.declared.seat.Seat.{Seat}
@@ -19,7 +17,8 @@ use Rattle.qc_core.specs.contracts.server.ServerKept.TheImpl.{ghosts}
 use Rattle.qc_core.specs.declared.parts.Parts.{Parts}
 use Rattle.qc_serve.specs.Going.{seen_by}
 use Rattle.qc_run.specs.declared.slots.Slot.{Slot}
-use Rattle.qc_run.specs.Meets.{AreReports, HasMet, HasMetBehind, MayBeMet, MayMeet, kept_of, report_of}
+use Rattle.qc_run.specs.declared.outcomes.Outcome.{Outcome}
+use Rattle.qc_run.specs.Meets.{AreOutcomes, HasMet, HasMetBehind, IsOutcomeOf, MayBeMet, MayMeet, kept_of}
 use Rattle.qc_run.specs.Opens.{IsFirst}
 
 module _ {A : Type 0} where
@@ -44,8 +43,8 @@ popped t slots left s may met parts =
     at_behind : (slots left : List Slot) (s : Slot) (met : List Slot) → slots ≡ left ++ (s ∷ met) → (d : Slot) → slice_index_or slots (length left) d ≡ s
     at_behind slots left s met whole d = ap (λ (l : List Slot). slice_index_or l (length left) d) whole ∙ at_front left met s d
 
-pub popped_from : (t : Turn Parts Event) (old now : Seat Parts Event ghosts) (slots before left : List Slot) (s : Slot) (served : Bool) (reports : List SessionReport) → MayBeMet t slots → HasMetBehind t old now slots before served reports → before ≡ left ++ s ∷ [] → MayMeet t (length left + 1) s
-popped_from t old now slots before left s served reports may behind is = popped t slots left s may behind.met (behind.parts ∙ ap (λ (l : List Slot). l ++ behind.met) is)
+pub popped_from : (t : Turn Parts Event) (old now : Seat Parts Event ghosts) (slots before left : List Slot) (s : Slot) (served : Bool) (outcomes : List Outcome) → MayBeMet t slots → HasMetBehind t old now slots before served outcomes → before ≡ left ++ s ∷ [] → MayMeet t (length left + 1) s
+popped_from t old now slots before left s served outcomes may behind is = popped t slots left s may behind.met (behind.parts ∙ ap (λ (l : List Slot). l ++ behind.met) is)
 
 pub met_none : (t : Turn Parts Event) (first : Seat Parts Event ghosts) (slots : List Slot) → IsFirst t first → HasMetBehind t first first slots slots true []
 met_none t first slots is = record {
@@ -57,14 +56,14 @@ met_none t first slots is = record {
   fixed = refl;
   seen = λ journal starts all. starts;
   count = omega arith;
-  reported = λ e. tt;
+  told = λ e. tt;
 }
 
 -- one more seat is met
-pub met_more : (t : Turn Parts Event) (old now new : Seat Parts Event ghosts) (slots left before : List Slot) (s : Slot) (served served' : Bool) (reports reports' : List SessionReport) → MayBeMet t slots → length slots ≤ length (view old).registry
-    → before ≡ left ++ s ∷ [] → (behind : HasMetBehind t old now slots before served reports) → IsSeatOf t new → view new ≡ after_meet (view now) (view s.session.seat) → length reports' ≤ length reports + 1
-    → (served' ≡ true → (served ≡ true) × ((ending : Ending) × (s.ending ≡ Some ending) × (reports' ≡ reports ++ report_of s ending ∷ []))) → HasMetBehind t old new slots left served' reports'
-met_more t old now new slots left before s served served' reports reports' may long is behind seated after count more =
+pub met_more : (t : Turn Parts Event) (old now new : Seat Parts Event ghosts) (slots left before : List Slot) (s : Slot) (served served' : Bool) (outcomes outcomes' : List Outcome) → MayBeMet t slots → length slots ≤ length (view old).registry
+    → before ≡ left ++ s ∷ [] → (behind : HasMetBehind t old now slots before served outcomes) → IsSeatOf t new → view new ≡ after_meet (view now) (view s.session.seat) → length outcomes' ≤ length outcomes + 1
+    → (served' ≡ true → (served ≡ true) × ((outcome : Outcome) × IsOutcomeOf s outcome × (outcomes' ≡ outcomes ++ outcome ∷ []))) → HasMetBehind t old new slots left served' outcomes'
+met_more t old now new slots left before s served served' outcomes outcomes' may long is behind seated after count more =
     let met = behind.met in
     let parts : slots ≡ (left ++ s ∷ []) ++ met = subst (λ (l : List Slot). slots ≡ l ++ met) is behind.parts in
     let whole : slots ≡ left ++ (s ∷ met) = parts ∙ append_assoc left (s ∷ []) met in
@@ -87,7 +86,7 @@ met_more t old now new slots left before s served served' reports reports' may l
       seen = λ journal starts all. subst (λ (l : Journal). StartsWith l journal) (sym (ap (λ (w : View Parts Event). w.seen) after))
           (longer_one (λ (l : Journal). StartsWith l journal) (view now).seen (seen_by s.session) (behind.seen journal starts all) (seen_one journal all whole));
       count = omega (arith, count, behind.count);
-      reported = λ e. let m = more e in reported_one (m.1.0) m.1.1 m.1.2 (behind.reported m.0);
+      told = λ e. let m = more e in told_one (m.1.0) m.1.1 m.1.2 (behind.told m.0);
     }
   where
     at_front : (xs ys : List Slot) (y d : Slot) → slice_index_or (xs ++ y ∷ ys) (length xs) d ≡ y
@@ -99,13 +98,13 @@ met_more t old now new slots left before s served served' reports reports' may l
         let e = ap length whole in let f = length-append left (s ∷ behind.met) in
         subst (λ (x : Slot). StartsWith (seen_by x.session) journal) (ap (λ (l : List Slot). slice_index_or l (length left) s) whole ∙ at_front left behind.met s s) (all (length left) s (omega (arith, e, f)))
 
-    reported_one : (ending : Ending) → s.ending ≡ Some ending → reports' ≡ reports ++ report_of s ending ∷ [] → AreReports behind.met (reverse reports) → AreReports (s ∷ behind.met) (reverse reports')
-    reported_one ending at same all = subst (AreReports (s ∷ behind.met)) (sym (ap reverse same ∙ reverse-append reports (report_of s ending ∷ []))) ((ending, at, refl), all)
+    told_one : (outcome : Outcome) → IsOutcomeOf s outcome → outcomes' ≡ outcomes ++ outcome ∷ [] → AreOutcomes behind.met (reverse outcomes) → AreOutcomes (s ∷ behind.met) (reverse outcomes')
+    told_one outcome is same all = subst (AreOutcomes (s ∷ behind.met)) (sym (ap reverse same ∙ reverse-append outcomes (outcome ∷ []))) (is, all)
 
 -- all are met
-pub met_all : (t : Turn Parts Event) (old now : Seat Parts Event ghosts) (slots left : List Slot) (served : Bool) (reports : List SessionReport) → left ≡ [] → HasMetBehind t old now slots left served reports
-    → HasMet t old now slots × (served ≡ true → AreReports slots (reverse reports))
-met_all t old now slots left served reports none behind =
+pub met_all : (t : Turn Parts Event) (old now : Seat Parts Event ghosts) (slots left : List Slot) (served : Bool) (outcomes : List Outcome) → left ≡ [] → HasMetBehind t old now slots left served outcomes
+    → HasMet t old now slots × (served ≡ true → AreOutcomes slots (reverse outcomes)) × (length outcomes ≤ length slots)
+met_all t old now slots left served outcomes none behind =
     let met = behind.met in
     let same : slots ≡ met = subst (λ (l : List Slot). slots ≡ l ++ met) none behind.parts in
     let registry : (view now).registry ≡ map kept_of met ++ drop (length slots) (view old).registry = subst (λ (l : List Slot). (view now).registry ≡ take (length l) (view old).registry ++ (map kept_of met ++ drop (length slots) (view old).registry)) none behind.registry in (
@@ -116,5 +115,6 @@ met_all t old now slots left served reports none behind =
         fixed = behind.fixed;
         seen = behind.seen;
       },
-      λ e. subst (λ (l : List Slot). AreReports l (reverse reports)) (sym same) (behind.reported e),
+      λ e. subst (λ (l : List Slot). AreOutcomes l (reverse outcomes)) (sym same) (behind.told e),
+      subst (λ (l : List Slot). length outcomes ≤ length l) (sym same) behind.count,
     )

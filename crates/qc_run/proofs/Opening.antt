@@ -27,12 +27,13 @@ use Rattle.qc_run.proofs.Lists.{zip_push}
 
 -- ---- one session
 
-pub is_open : (t : Turn Parts Event) (o : Options) (first seat : Seat Parts Event ghosts) (s : Session) (input : List ℕ) → HasBegun t o seat s → view seat ≡ next_seat (view first) → IsOpen t o (view first).seen (length (view first).registry + 1, input) (new_slot s input)
-is_open t o first seat s input begun is =
+-- a session has begun on a seat that had done nothing
+pub is_open : (t : Turn Parts Event) (o : Options) (first : Journal) (n : ℕ) (seat : Seat Parts Event ghosts) (s : Session) (input : List ℕ) → HasBegun t o seat s → (view seat).number ≡ n + 1 → (view seat).events ≡ [] → (view seat).registry ≡ [] → (view seat).seen ≡ first
+    → IsOpen t o first (n, input) (new_slot s input)
+is_open t o first n seat s input begun size events alone saw =
     let rest = begun.rest in
     let rests = rest.rests in
-    let size : (view seat).number ≡ length (view first).registry + 2 = ap (λ (v : View Parts Event). v.number) is in
-    let quiet : events_of (number_of s) (seen_by s) ≡ [] = sym rests.events ∙ (begun.events ∙ ap (λ (v : View Parts Event). v.events) is) in
+    let quiet : events_of (number_of s) (seen_by s) ≡ [] = sym rests.events ∙ (begun.events ∙ events) in
     record {
       rest = begun.rest;
       going = begun.going;
@@ -44,9 +45,16 @@ is_open t o first seat s input begun is =
       log = begun.lines;
       lines = refl;
       ending = refl;
-      begins = subst (λ (j : Journal). StartsWith (seen_by s) j) (ap (λ (v : View Parts Event). v.seen) is) begun.seen;
+      alone = begun.registry ∙ alone;
+      begins = subst (λ (j : Journal). StartsWith (seen_by s) j) saw begun.seen;
       none = quiet_numbered (number_of s) 1 (seen_by s) quiet;
     }
+
+-- on the next seat of the first one
+pub next_open : (t : Turn Parts Event) (o : Options) (first seat : Seat Parts Event ghosts) (s : Session) (input : List ℕ) → HasBegun t o seat s → view seat ≡ next_seat (view first) → IsOpen t o (view first).seen (length (view first).registry + 1, input) (new_slot s input)
+next_open t o first seat s input begun is =
+    let size : (view seat).number ≡ length (view first).registry + 2 = ap (λ (v : View Parts Event). v.number) is in
+    is_open t o (view first).seen (length (view first).registry + 1) seat s input begun (omega (arith, size)) (ap (λ (v : View Parts Event). v.events) is) (ap (λ (v : View Parts Event). v.registry) is) (ap (λ (v : View Parts Event). v.seen) is)
 
 -- ---- one after another
 

@@ -7,7 +7,6 @@ use Rattle.qc_types.specs.declared.options.Options.{Options}
 use Rattle.qc_model.specs.declared.events.Event.{Event}
 use Rattle.qc_model.specs.declared.reports.Ending.{Ending}
 use Rattle.qc_model.specs.declared.reports.Ending.TheVariants as ending
-use Rattle.qc_model.specs.declared.reports.SessionReport.{SessionReport}
 use Rattle.qc_model.specs.Agrees.{inputs_from}
 use Rattle.qc_model.specs.Journal.{Journal}
 use Rattle.qc_laws.specs.runs.Runs.{StartsWith}
@@ -22,7 +21,8 @@ use Rattle.qc_serve.specs.Going.{number_of, seen_by}
 use Rattle.qc_serve.specs.Leaving.{HasLeft}
 use Rattle.qc_run.specs.declared.slots.Slot.{Slot}
 use Rattle.qc_run.specs.Inputs.{HasAnswered}
-use Rattle.qc_run.specs.Meets.{AreReports, HasMet, MayBeMet, MayMeet, kept_of, report_of}
+use Rattle.qc_run.specs.declared.outcomes.Outcome.{Outcome}
+use Rattle.qc_run.specs.Meets.{AreOutcomes, HasMet, IsOutcomeOf, MayBeMet, MayMeet, kept_of, receipt_of, report_of}
 use Rattle.qc_run.specs.Opens.{AreOpen, IsOpen}
 use Rattle.qc_run.specs.Ran.{HaveServed}
 use Rattle.qc_run.specs.Slots.{IsServed, MayServe}
@@ -30,7 +30,7 @@ use Rattle.qc_run.proofs.Lists.{zip_at, zip_long}
 
 -- ---- those that have begun may be served
 
-one_may_serve : (t : Turn Parts Event) (o : Options) (first : Journal) (i : ℕ × List ℕ) (s : Slot) → IsOpen t o first i s → MayServe t s
+pub one_may_serve : (t : Turn Parts Event) (o : Options) (first : Journal) (i : ℕ × List ℕ) (s : Slot) → IsOpen t o first i s → MayServe t s
 one_may_serve t o first i s opened = record { rest = opened.rest; going = opened.going; none = opened.lines; unended = opened.ending }
 
 all_may_serve : (t : Turn Parts Event) (o : Options) (first : Journal) (ins : List (ℕ × List ℕ)) (slots : List Slot) → AllZip (IsOpen t o first) ins slots → All (MayServe t) slots
@@ -99,19 +99,19 @@ seen_after t o first i a b ending opened served is =
     starts_again : (xs ys zs : Journal) → StartsWith xs ys → StartsWith ys zs → StartsWith xs zs
     starts_again xs ys zs (more, e) (rest, f) = (rest ++ more, e ∙ (ap (λ (l : Journal). l ++ more) f ∙ append_assoc zs rest more))
 
-all_seen : (t : Turn Parts Event) (o : Options) (first : Journal) (inputs : List (List ℕ)) (begun over : List Slot) (reports : List SessionReport) → AreOpen t o first inputs begun → AllZip (IsServed t) begun over → AreReports over reports → All (λ s. StartsWith (seen_by s.session) first) over
-all_seen t o first inputs begun over reports opened served reported i d l =
+all_seen : (t : Turn Parts Event) (o : Options) (first : Journal) (inputs : List (List ℕ)) (begun over : List Slot) (outcomes : List Outcome) → AreOpen t o first inputs begun → AllZip (IsServed t) begun over → AreOutcomes over outcomes → All (λ s. StartsWith (seen_by s.session) first) over
+all_seen t o first inputs begun over outcomes opened served told i d l =
     let ins = inputs_from 1 (take (length begun) inputs) in
     let a = zip_long (IsServed t) begun over served in
     let b = zip_long (IsOpen t o first) ins begun opened in
     let one = zip_at (IsOpen t o first) ins begun opened i (0, []) d (omega (arith, l, a, b)) in
     let was = zip_at (IsServed t) begun over served i d d (omega (arith, l, a)) in
-    let told = zip_at _ over reports reported i d (report_of d ending.Input) l in
-    seen_after t o first (slice_index_or ins i (0, [])) (slice_index_or begun i d) (slice_index_or over i d) told.0 one was told.1
+    let of = zip_at IsOutcomeOf over outcomes told i d (record { report = report_of d ending.Input; receipt = receipt_of d }) l in
+    seen_after t o first (slice_index_or ins i (0, [])) (slice_index_or begun i d) (slice_index_or over i d) of.0 one was of.1
 
-pub have_served : (t : Turn Parts Event) (o : Options) (inputs : List (List ℕ)) (reports : List SessionReport) (old middle new : Seat Parts Event ghosts) (begun over : List Slot) → AreOpen t o (view old).seen inputs begun → length begun ≡ length inputs → (view middle).seen ≡ (view old).seen
-    → length (view middle).registry ≡ length inputs → AllZip (IsServed t) begun over → HasMet t middle new over → AreReports over reports → HaveServed t o inputs reports (view old).seen (view new)
-have_served t o inputs reports old middle new begun over opened all same long served met reported =
+pub have_served : (t : Turn Parts Event) (o : Options) (inputs : List (List ℕ)) (outcomes : List Outcome) (old middle new : Seat Parts Event ghosts) (begun over : List Slot) → AreOpen t o (view old).seen inputs begun → length begun ≡ length inputs → (view middle).seen ≡ (view old).seen
+    → length (view middle).registry ≡ length inputs → AllZip (IsServed t) begun over → HasMet t middle new over → AreOutcomes over outcomes → HaveServed t o inputs outcomes (view old).seen (view new)
+have_served t o inputs outcomes old middle new begun over opened all same long served met told =
     let a = zip_long (IsServed t) begun over served in
     record {
       begun = begun;
@@ -119,58 +119,7 @@ have_served t o inputs reports old middle new begun over opened all same long se
       opened = opened;
       all = all;
       served = served;
-      reported = reported;
+      told = told;
       registry = met.registry ∙ (ap (λ (r : List (Option (MetSeat Event))). map kept_of over ++ r) (drop_of_length-le (view middle).registry (omega (arith, a, all, long))) ∙ append-nil (map kept_of over));
-      seen = met.seen (view old).seen (subst (λ (j : Journal). StartsWith j (view old).seen) (sym same) ([], sym (append-nil (view old).seen))) (all_seen t o (view old).seen inputs begun over reports opened served reported);
+      seen = met.seen (view old).seen (subst (λ (j : Journal). StartsWith j (view old).seen) (sym same) ([], sym (append-nil (view old).seen))) (all_seen t o (view old).seen inputs begun over outcomes opened served told);
     }
-
--- ---- one after another
-
-module _ {A : Type 0} where
-  any_default : (xs : List A) (i : ℕ) (d e : A) → i < length xs → slice_index_or xs i d ≡ slice_index_or xs i e
-  any_default [] i d e l = absurd (omega (arith, l))
-  any_default (x ∷ xs) zero d e l = refl
-  any_default (x ∷ xs) (suc i) d e l = any_default xs i d e (omega (arith, l))
-
-  set_here : (xs : List A) (i : ℕ) (a d : A) → i < length xs → slice_index_or (slice_set xs i a) i d ≡ a
-  set_here [] i a d l = absurd (omega (arith, l))
-  set_here (x ∷ xs) zero a d l = refl
-  set_here (x ∷ xs) (suc i) a d l = set_here xs i a d (omega (arith, l))
-
-  set_there : (xs : List A) (i j : ℕ) (a d : A) → (i ≡ j → ⊥) → slice_index_or (slice_set xs i a) j d ≡ slice_index_or xs j d
-  set_there [] i j a d ne = refl
-  set_there (x ∷ xs) zero zero a d ne = absurd (ne refl)
-  set_there (x ∷ xs) zero (suc j) a d ne = refl
-  set_there (x ∷ xs) (suc i) zero a d ne = refl
-  set_there (x ∷ xs) (suc i) (suc j) a d ne = set_there xs i j a d (λ e. ne (ap suc e))
-
--- those in front were served, and the others are as they were
-abbrev pub ServedTo : Turn Parts Event → List Slot → List Slot → ℕ → Type 0
-ServedTo t olds items k =
-    (length items ≡ length olds) × ((i : ℕ) (d : Slot) → i < k → IsServed t (slice_index_or olds i d) (slice_index_or items i d)) × ((i : ℕ) (d : Slot) → k ≤ i → slice_index_or items i d ≡ slice_index_or olds i d)
-
-pub served_more : (t : Turn Parts Event) (olds items : List Slot) (k : ℕ) (was new : Slot) → k < length olds → ServedTo t olds items k → was ≡ slice_index_or items k was → IsServed t was new → ServedTo t olds (slice_set items k new) (k + 1)
-served_more t olds items k was new l inv at served = (length-set items k new ∙ inv.0, before, behind)
-  where
-    here : (d : Slot) → slice_index_or olds k d ≡ was
-    here d = sym (inv.2 k d (omega arith)) ∙ (any_default items k d was (omega (arith, l, inv.0)) ∙ sym at)
-
-    before : (i : ℕ) (d : Slot) → i < k + 1 → IsServed t (slice_index_or olds i d) (slice_index_or (slice_set items k new) i d)
-    before i d h = choose (eqb i k) refl
-      where
-        choose : (b : Bool) → eqb i k ≡ b → IsServed t (slice_index_or olds i d) (slice_index_or (slice_set items k new) i d)
-        choose true e =
-            let same : k ≡ i = sym (eqb-true i k e) in
-            subst (λ (n : ℕ). IsServed t (slice_index_or olds n d) (slice_index_or (slice_set items k new) n d)) same
-            (subst (λ (s : Slot). IsServed t s (slice_index_or (slice_set items k new) k d)) (sym (here d)) (subst (λ (s : Slot). IsServed t was s) (sym (set_here items k new d (omega (arith, l, inv.0)))) served))
-        choose false e =
-            let ne : k ≡ i → ⊥ = λ same. true≢false (sym (eq-eqb i k (sym same)) ∙ e) in
-            subst (λ (s : Slot). IsServed t (slice_index_or olds i d) s) (sym (set_there items k i new d ne)) (inv.1 i d (omega (arith, h, λ (same : i ≡ k). ne (sym same))))
-
-    behind : (i : ℕ) (d : Slot) → k + 1 ≤ i → slice_index_or (slice_set items k new) i d ≡ slice_index_or olds i d
-    behind i d h = set_there items k i new d (λ (same : k ≡ i). absurd (omega (arith, h, same))) ∙ inv.2 i d (omega (arith, h))
-
--- ---- results
-
-pub on_ok : {X E : Type 0} (P : Type 0) (r : Result X E) (x : X) → r ≡ Ok x → OnOk r P → P
-on_ok {X} {E} P r x is h = subst (λ (q : Result X E). OnOk q P) is h

@@ -13,7 +13,7 @@ use Rattle.qc_model.specs.declared.events.Event.{Event}
 use Rattle.qc_model.specs.declared.reports.Ending.{Ending}
 use Rattle.qc_model.specs.declared.reports.Ending.TheVariants as ending
 use Rattle.qc_model.specs.declared.reports.ReportLine.{ReportLine}
-use Rattle.qc_model.specs.Agrees.{commands_of, ending_of, then_commands}
+use Rattle.qc_model.specs.Agrees.{commands_of, ending_of, then_commands, whole_machine}
 use Rattle.qc_laws.specs.runs.Cuts.{Takes}
 use Rattle.qc_laws.proofs.runs.Composes.{answered}
 use Rattle.qc_laws.proofs.runs.Cutting.{cuts_none, cuts_one, takes_all, takes_more, takes_one}
@@ -33,7 +33,6 @@ use Rattle.qc_serve.specs.Leaving.{HasLeft}
 use Rattle.qc_serve.specs.Logs.{logged_line}
 use Rattle.qc_serve.specs.Sent.{Sends, bytes_of}
 use Rattle.qc_serve.specs.Served.{HasServed, ending_at, reading_end}
-use Rattle.qc_serve.specs.Stage.{serve_machine}
 use Rattle.qc_serve.proofs.Rounds.{serves_more, serves_none, serves_quietly}
 use Rattle.qc_run.specs.Inputs.{EndsAt, HasAnswered, HasEnded, HasGone, IsLastLine, KeepsLine}
 
@@ -41,10 +40,11 @@ use Rattle.qc_run.specs.Inputs.{EndsAt, HasAnswered, HasEnded, HasGone, IsLastLi
 
 serves_as : (t : Turn Parts Event) (c : Command) (old new : Session) (reply : List ℕ) → old.place ≤ length (seen_by old) → (does : DoesOne t c old new reply) → HasServed old new (c ∷ []) (does.answered ∷ []) None None
 serves_as t c old new reply small does = record {
-  runs = answered serve_machine old.options (number_of old) (position_of old) (position_of new) c does.answered small does.answers;
+  runs = answered whole_machine old.options (number_of old) (position_of old) (position_of new) c does.answered small does.answers;
   lines = does.lines;
   sends = refl;
   options = does.options;
+  standing = does.standing;
   session = does.session;
 }
 
@@ -95,6 +95,7 @@ ended_by t old middle new input left lines e gone leaves =
     let served = gone.served in
     record {
       left = subst (λ (n : ℕ). HasLeft t n new.seat) served.session leaves.left;
+      standing = leaves.standing ∙ served.standing;
       ended = λ h. none-some e (sym h ∙ ap (λ (s : Session). s.end) leaves.same);
       session = ap number_of leaves.same ∙ served.session;
     }
@@ -119,7 +120,7 @@ answered_by t old middle new input left lines e (Some last) small gone leaves is
 pub broken_off : (t : Turn Parts Event) (old new : Session) (c : Command) (e : End) (held now : Option (List Piece)) → out.HasEnded t c old new held now e → HasEnded t old new
 broken_off t old new c e held now has =
     let breaks = has.breaks in
-    record { left = has.left; ended = λ h. none-some e (sym h ∙ has.end); session = breaks.session }
+    record { left = has.left; standing = breaks.standing; ended = λ h. none-some e (sym h ∙ has.end); session = breaks.session }
 
 no_ending : (before now : ℕ) (e : End) → MayFail before now e → ending_at e ≡ None
 no_ending before now end.WriteFault h = refl
@@ -172,6 +173,7 @@ ends_lacking t c old middle new reply ne does leaves = record {
   other = λ h. (
     record {
       left = subst (λ (n : ℕ). HasLeft t n new.seat) does.session leaves.left;
+      standing = leaves.standing ∙ does.standing;
       ended = λ h. none-some end.Memory (sym h ∙ ap (λ (s : Session). s.end) leaves.same);
       session = ap number_of leaves.same ∙ does.session;
     },
@@ -185,7 +187,7 @@ ends_lacking t c old middle new reply ne does leaves = record {
 ended_later : (t : Turn Parts Event) (old middle new : Session) (input left : List ℕ) (lines : List ReportLine) → HasGone t old middle input left lines → HasEnded t middle new → HasEnded t old new
 ended_later t old middle new input left lines gone has =
     let served = gone.served in
-    record { left = subst (λ (n : ℕ). HasLeft t n new.seat) served.session has.left; ended = has.ended; session = has.session ∙ served.session }
+    record { left = subst (λ (n : ℕ). HasLeft t n new.seat) served.session has.left; standing = has.standing ∙ served.standing; ended = has.ended; session = has.session ∙ served.session }
 
 decide_quit : (c : Command) → (c ≡ command.Quit) ⊎ (c ≢ command.Quit)
 decide_quit command.Quit = inl refl

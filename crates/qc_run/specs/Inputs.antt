@@ -15,7 +15,7 @@ use Rattle.qc_serve.specs.declared.log.Logged.{Logged}
 use Rattle.qc_serve.specs.declared.session.Session.{Session}
 use Rattle.qc_serve.specs.declared.sinks.Piece.{Piece}
 use Rattle.qc_serve.specs.Executed.{Leaves}
-use Rattle.qc_serve.specs.Going.{DoesOne, IsAtRest, number_of}
+use Rattle.qc_serve.specs.Going.{DoesOne, IsAtRest, number_of, standing_of}
 use Rattle.qc_serve.specs.Leaving.{HasLeft}
 use Rattle.qc_serve.specs.Logs.{logged_line}
 use Rattle.qc_serve.specs.Sent.{bytes_of}
@@ -24,6 +24,7 @@ use Rattle.qc_serve.specs.Served.{HasServed, ending_at}
 -- the session has ended, and its seat rests and isn't connected any more
 pub record HasEnded (t : Turn Parts Event) (old new : Session) : Type 0 where
   pub left : HasLeft t (number_of old) new.seat
+  pub standing : standing_of new ≡ standing_of old
   pub ended : new.end ≢ None
   pub session : number_of new ≡ number_of old
 

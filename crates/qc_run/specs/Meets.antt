@@ -13,8 +13,10 @@ use Rattle.qc_turn.specs.Seats.{view}
 use Rattle.qc_turn.specs.Views.{met_seat}
 use Rattle.qc_core.specs.contracts.server.ServerKept.TheImpl.{ghosts}
 use Rattle.qc_core.specs.declared.parts.Parts.{Parts}
+use Rattle.qc_serve.specs.declared.connecting.Receipt.{Receipt}
 use Rattle.qc_serve.specs.Going.{number_of, seen_by}
 use Rattle.qc_serve.specs.Leaving.{HasLeft}
+use Rattle.qc_run.specs.declared.outcomes.Outcome.{Outcome}
 use Rattle.qc_run.specs.declared.slots.Slot.{Slot}
 use Rattle.qc_run.specs.Opens.{IsFirst}
 
@@ -40,16 +42,24 @@ pub record HasMet (t : Turn Parts Event) (old new : Seat Parts Event ghosts) (sl
   pub fixed : (view new).fixed ≡ (view old).fixed
   pub seen : (journal : Journal) → StartsWith (view old).seen journal → All (λ s. StartsWith (seen_by s.session) journal) slots → StartsWith (view new).seen journal
 
+-- the receipt of a session
+abbrev pub receipt_of : Slot → Receipt
+receipt_of s = record { session = number_of s.session; log = s.session.log }
+
 -- the report of a session whose input ends so
 abbrev pub report_of : Slot → Ending → SessionReport
 report_of s ending = record { session = number_of s.session; lines = s.lines; ending = ending }
 
--- the reports of sessions that have all served their inputs
-abbrev pub AreReports : List Slot → List SessionReport → Type 0
-AreReports slots reports = AllZip (λ s r. (ending : Ending) × (s.ending ≡ Some ending) × (r ≡ report_of s ending)) slots reports
+-- what a session leaves that has served its input
+abbrev pub IsOutcomeOf : Slot → Outcome → Type 0
+IsOutcomeOf s outcome = (ending : Ending) × (s.ending ≡ Some ending) × (outcome.report ≡ report_of s ending) × (outcome.receipt ≡ receipt_of s)
+
+-- what sessions leave that have all served their inputs
+abbrev pub AreOutcomes : List Slot → List Outcome → Type 0
+AreOutcomes slots outcomes = AllZip IsOutcomeOf slots outcomes
 
 -- the first seat has met the last ones of them, and these are left
-pub record HasMetBehind (t : Turn Parts Event) (old now : Seat Parts Event ghosts) (slots left : List Slot) (served : Bool) (reports : List SessionReport) : Type 0 where
+pub record HasMetBehind (t : Turn Parts Event) (old now : Seat Parts Event ghosts) (slots left : List Slot) (served : Bool) (outcomes : List Outcome) : Type 0 where
   pub met : List Slot
   pub parts : slots ≡ left ++ met
   pub first : IsFirst t now
@@ -57,5 +67,5 @@ pub record HasMetBehind (t : Turn Parts Event) (old now : Seat Parts Event ghost
   pub events : (view now).events ≡ (view old).events
   pub fixed : (view now).fixed ≡ (view old).fixed
   pub seen : (journal : Journal) → StartsWith (view old).seen journal → All (λ s. StartsWith (seen_by s.session) journal) slots → StartsWith (view now).seen journal
-  pub count : length reports ≤ length met
-  pub reported : served ≡ true → AreReports met (reverse reports)
+  pub count : length outcomes ≤ length met
+  pub told : served ≡ true → AreOutcomes met (reverse outcomes)

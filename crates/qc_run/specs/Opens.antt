@@ -41,6 +41,7 @@ pub record IsOpen (t : Turn Parts Event) (o : Options) (first : Journal) (i : �
   pub log : s.session.log.lines ≡ []
   pub lines : s.lines ≡ []
   pub ending : s.ending ≡ None
+  pub alone : (view s.session.seat).registry ≡ []
   pub begins : StartsWith (seen_by s.session) first
   pub none : own (number_of s.session) (seen_by s.session) ≡ []
 

@@ -4,8 +4,10 @@
 mod inputs;
 mod meets;
 mod opens;
+mod outcomes;
 mod reports;
 mod script;
+mod setup;
 mod slots;
 
 pub use script::{Ran, run_script};

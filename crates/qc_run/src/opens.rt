@@ -64,7 +64,7 @@ fn open<R: Wait>(
 }
 
 /// The seat that was handed back. None is refused, since its number is at most 65.
-fn seat_of(refusal: NotConnected) -> Seat<Server>
+pub(crate) fn seat_of(refusal: NotConnected) -> Seat<Server>
     ensures { result ≡ handed_back refusal }
 {
     match refusal {

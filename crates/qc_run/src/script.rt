@@ -1,36 +1,39 @@
 //! A script is run.
 
-ghost use Rattle.std.specs.Prelude.{◌≡◌, ◌≤◌, [], length, reverse, vec_capacity, IfOk, OnOk};
-ghost use Rattle.qc_model.specs.Agrees.{Agrees, whole_machine};
+ghost use Rattle.std.specs.Prelude.{◌≡◌, ◌+◌, ◌<◌, ◌≤◌, [], length, reverse, vec_capacity, IfOk, OnOk};
 ghost use Rattle.qc_script.specs.ShortNames.{HasShortNames};
 ghost use Rattle.qc_turn.specs.Seats.{view};
 ghost use Rattle.qc_turn.specs.Views.{AllMet};
 ghost use Rattle.qc_core.specs.Whole.{IsSomewhereSound};
 ghost use Rattle.qc_run.specs.Opens.{HasSplit, IsFirst};
-ghost use Rattle.qc_run.specs.Ran.{AreTaken, HaveRun, HaveServed, MayRun};
+ghost use Rattle.qc_run.specs.Ran.{AreTaken, HaveReceipts, HaveRun, HaveServed, IsReportOf, MayRun, behind_setup};
 
 use crate::meets::meet_all;
 use crate::opens::open_all;
+use crate::outcomes::{Outcome, in_order};
 use crate::reports::report_of;
+use crate::setup::prepare;
 use crate::slots::{Slot, serve_all};
 use qc_core::Server;
-use qc_model::reports::{Report, Script, SessionReport};
-use qc_serve::Gate;
+use qc_model::reports::{Report, Script};
+use qc_serve::{Gate, Receipts};
 use qc_turn::{Seat, Turn};
 use qc_types::{NoMemory, Options, Text};
 use std::alloc::Global;
 use std::sync::Wait;
+use std::thread::Threads;
 
-/// A run of a script: its report, and the server as the last seat left it.
+/// A run of a script: its report, the server as the last seat left it, and a receipt of each session, in the order of the report.
 #[derive(Drop)]
 pub struct Ran {
     pub report: Report,
     pub server: Server,
+    pub receipts: Receipts,
 }
 
-/// Runs the sessions of a script, one after another, over one server with these options. The one error is want of memory.
-/// The cost is that of the sessions' commands, and linear in the script and in the report.
-pub fn run_script<R: Wait, G: Gate>(
+/// Runs a script over one server with these options: the setup part alone, and then its sessions at the same time, each in a thread of its own where one
+/// can be made. The one error is want of memory. The cost is that of the sessions' commands, and linear in the script and in the report.
+pub fn run_script<R: Threads + Wait + Sync, G: Gate + Sync>(
     rt: &R,
     alloc: Global,
     options: Options,
@@ -39,46 +42,61 @@ pub fn run_script<R: Wait, G: Gate>(
 ) -> Result<Ran, NoMemory>
     requires options { AreTaken options }
     requires script { MayRun script }
-    ensures agrees { IfOk result (λ ran. Agrees whole_machine script options ran.report) }
+    ensures agrees { IfOk result (λ ran. IsReportOf script options ran.report) }
     ensures names { IfOk result (λ ran. HasShortNames ran.report) }
     ensures server { IfOk result (λ ran. IsSomewhereSound ran.server × (ran.server.journal.events ≡ ran.report.journal)) }
+    ensures receipts { IfOk result (λ ran. HaveReceipts ran.report.sessions ran.receipts) }
 {
-    let Script { setup: _, sessions } = script;
+    let Script { setup, sessions } = script;
     let inputs = sessions.into_vec();
-    let mut reports = Vec::with_capacity(alloc, inputs.len())?;
-    let server = run_sessions(rt, alloc, &options, inputs, gate, &mut reports)?;
-    reports.reverse();
+    let mut outcomes = Vec::with_capacity(alloc, inputs.len() + 1)?;
+    let server = run_parts(rt, alloc, &options, setup, inputs, gate, &mut outcomes)?;
+    let (reports, receipts) = in_order(alloc, outcomes)?;
     let report = report_of(options, reports, &server)?;
-    Ok(Ran { report, server })
+    Ok(Ran {
+        report,
+        server,
+        receipts: Receipts::from_vec(receipts),
+    })
 }
 
-/// Runs the sessions with these inputs, and gives the server that they leave, and their reports, the last one first.
-fn run_sessions<R: Wait, G: Gate>(
+/// Runs the setup part and the sessions with these inputs, and gives the server that they leave. Their outcomes come in the opposite order.
+fn run_parts<R: Threads + Wait + Sync, G: Gate + Sync>(
     rt: &R,
     alloc: Global,
     options: &Options,
+    setup: Option<Text>,
     inputs: Vec<Text>,
     gate: &G,
-    reports: &mut Vec<SessionReport>,
+    outcomes: &mut Vec<Outcome>,
 ) -> Result<Server, NoMemory>
     requires options { AreTaken options.now }
     requires few { length inputs.items ≤ 64 }
-    requires room { (reports.old.items ≡ []) × (length inputs.items ≤ vec_capacity reports.old) }
-    ensures { IfOk result (HaveRun options.now inputs.items (reverse reports.new.items)) }
+    requires room { (outcomes.old.items ≡ []) × (length inputs.items + 1 ≤ vec_capacity outcomes.old) }
+    ensures { IfOk result (HaveRun options.now setup inputs.items (reverse outcomes.new.items)) }
 {
     let server = Server::new(alloc, *options)?;
     let slots = Vec::with_capacity(alloc, inputs.len())?;
     match Turn::new(alloc, server, options.size / 8) {
         Ok((turn, first)) => {
+            let (first, prepared) = prepare(rt, alloc, &turn, first, options, setup, gate);
             let mut first = first;
             let served = run_over(
-                rt, alloc, &turn, &mut first, options, inputs, gate, slots, reports,
+                rt,
+                alloc,
+                &turn,
+                &mut first,
+                options,
+                inputs,
+                prepared.is_ok(),
+                gate,
+                slots,
+                outcomes,
             );
             let server = turn.close(first);
-            match served {
-                Ok(()) => Ok(server),
-                Err(NoMemory) => Err(NoMemory),
-            }
+            put_setup(prepared?, outcomes);
+            served?;
+            Ok(server)
         }
         Err(NoMemory) => {
             slots.destroy_empty();
@@ -87,31 +105,41 @@ fn run_sessions<R: Wait, G: Gate>(
     }
 }
 
-/// Runs them over a turn.
-fn run_over<R: Wait, G: Gate>(
+/// Puts what the setup part left, where the script has one, behind what the sessions left.
+fn put_setup(setup: Option<Outcome>, outcomes: &mut Vec<Outcome>)
+    requires { length outcomes.old.items < vec_capacity outcomes.old }
+    ensures { reverse outcomes.new.items ≡ behind_setup setup (reverse outcomes.old.items) }
+{
+    if let Some(outcome) = setup {
+        outcomes.push_reserved(outcome);
+    }
+}
+
+/// Runs the sessions over a turn; or ends them, for want of memory, before they have answered anything.
+fn run_over<R: Threads + Wait + Sync, G: Gate + Sync>(
     rt: &R,
     alloc: Global,
     turn: &Turn<Server>,
     first: &mut Seat<Server>,
     options: &Options,
     inputs: Vec<Text>,
+    may_serve: bool,
     gate: &G,
     slots: Vec<Slot>,
-    reports: &mut Vec<SessionReport>,
+    outcomes: &mut Vec<Outcome>,
 ) -> Result<(), NoMemory>
     requires first { HasSplit turn.now options.now first.old 0 }
     requires few { length inputs.items ≤ 64 }
-    requires room { (slots.items ≡ []) × (length inputs.items ≤ vec_capacity slots) × (reports.old.items ≡ []) × (length inputs.items ≤ vec_capacity reports.old) }
+    requires room { (slots.items ≡ []) × (length inputs.items ≤ vec_capacity slots) × (outcomes.old.items ≡ []) × (length inputs.items ≤ vec_capacity outcomes.old) }
     ensures first { IsFirst turn.now first.new × AllMet (view first.new).registry }
     ensures same { ((view first.new).events ≡ (view first.old).events) × ((view first.new).fixed ≡ (view first.old).fixed) }
-    ensures ran { OnOk result (HaveServed turn.now options.now inputs.items (reverse reports.new.items) (view first.old).seen (view first.new)) }
+    ensures ran { OnOk result (HaveServed turn.now options.now inputs.items (reverse outcomes.new.items) (view first.old).seen (view first.new)) }
+    ensures room { (length outcomes.new.items ≤ length inputs.items) × (vec_capacity outcomes.new ≡ vec_capacity outcomes.old) }
 {
     let mut slots = slots;
     let opened = open_all(rt, alloc, turn, first, options, inputs, &mut slots);
-    let slots = serve_all(rt, alloc, turn, slots, opened.is_ok(), gate);
-    let served = meet_all(turn, first, slots, reports);
-    match opened {
-        Ok(()) => { if served { Ok(()) } else { Err(NoMemory) } }
-        Err(NoMemory) => Err(NoMemory),
-    }
+    let slots = serve_all(rt, alloc, turn, slots, may_serve && opened.is_ok(), gate);
+    let served = meet_all(turn, first, slots, outcomes);
+    opened?;
+    if served { Ok(()) } else { Err(NoMemory) }
 }

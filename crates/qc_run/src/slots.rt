@@ -1,19 +1,22 @@
 //! Sessions of a script, each with its input and what it has answered.
 
-ghost use Rattle.std.specs.Prelude.{◌≡◌};
+ghost use Rattle.std.specs.Prelude.{◌≡◌, ◌≢◌, None, IfSome, IfNone};
 ghost use Rattle.std.specs.List.{All, AllZip};
+ghost use Rattle.qc_run.specs.Meets.{IsOutcomeOf};
 ghost use Rattle.qc_run.specs.Slots.{IsServed, MayServe, new_slot};
 
 use crate::inputs::serve_input;
+use crate::outcomes::Outcome;
 use qc_core::Server;
-use qc_model::reports::{Ending, ReportLines};
+use qc_model::reports::{Ending, ReportLines, SessionReport};
 use qc_serve::{End, Gate, Session};
-use qc_turn::Turn;
+use qc_turn::{Seat, Turn};
 use qc_types::Text;
 use std::alloc::Global;
 use std::marker::Brand;
 use std::sync::Wait;
 use std::sync::ledger::Blank;
+use std::thread::{Threads, for_each_mut};
 
 /// A session and its input; once it has ended, its lines, and how its input ended. No ending: memory was wanting.
 pub(crate) struct Slot {
@@ -37,7 +40,7 @@ impl Slot {
     }
 
     /// Serves the session's input to its end; or ends the session, for want of memory, before it has answered anything.
-    fn serve<R: Wait, G: Gate>(
+    pub(crate) fn serve<R: Wait, G: Gate>(
         &mut self,
         rt: &R,
         alloc: Global,
@@ -69,10 +72,35 @@ impl Slot {
             Blank::new(1),
         );
     }
+
+    /// The seat of a session that has ended, and what the session leaves, where its input was served to its end.
+    pub(crate) fn into_parts(self) -> (Seat<Server>, Option<Outcome>)
+        requires { self.session.end ≢ None }
+        ensures seat { result.0 ≡ self.session.seat }
+        ensures outcome { IfSome result.1 (IsOutcomeOf self) }
+    {
+        let Slot {
+            session,
+            input: _,
+            lines,
+            ending,
+        } = self;
+        let (seat, receipt) = session.into_seat();
+        let Some(ending) = ending else {
+            return (seat, None);
+        };
+        let report = SessionReport {
+            session: receipt.session(),
+            lines,
+            ending,
+        };
+        (seat, Some(Outcome { report, receipt }))
+    }
 }
 
-/// Serves all sessions, one after another; or ends them, for want of memory, before they have answered anything.
-pub(crate) fn serve_all<R: Wait, G: Gate>(
+/// Serves all sessions at the same time, each in a thread of its own where one can be made; or ends them, for want of memory, before they have answered
+/// anything.
+pub(crate) fn serve_all<R: Threads + Wait + Sync, G: Gate + Sync>(
     rt: &R,
     alloc: Global,
     turn: &Turn<Server>,
@@ -84,8 +112,30 @@ pub(crate) fn serve_all<R: Wait, G: Gate>(
     ensures { AllZip (IsServed turn.now) slots.items result.items }
 {
     let mut slots = slots;
-    for index in 0..slots.len() {
-        slots[index].serve(rt, alloc, turn, may_serve, gate);
-    }
+    serve_each(rt, alloc, turn, slots.as_mut_slice(), may_serve, gate);
     slots
+}
+
+/// The same of sessions that are lent.
+fn serve_each<R: Threads + Wait + Sync, G: Gate + Sync>(
+    rt: &R,
+    alloc: Global,
+    turn: &Turn<Server>,
+    slots: &mut [Slot],
+    may_serve: bool,
+    gate: &G,
+)
+    requires { All (MayServe turn.now) slots.old }
+    ensures { AllZip (IsServed turn.now) slots.old slots.new }
+{
+    let threads = slots.len().max(1);
+    for_each_mut(
+        rt,
+        slots,
+        threads,
+        &|_, slot: &mut Slot|
+            requires { MayServe turn.now slot.now }
+            ensures { IsServed turn.entry.now slot.entry.now slot.exit.now }
+        { slot.serve(rt, alloc, turn, may_serve, gate) },
+    );
 }

@@ -2,10 +2,10 @@ use Rattle.std.proofs.Common.{◌+◌, length, sym, subst}
 use Rattle.qc_turn.specs.Seats.{view}
 use Rattle.qc_run.specs.declared.slots.Slot.{Slot}
 use Rattle.qc_run.specs.Opens.{IsOpen}
-use Rattle.qc_run.proofs.Opening.{is_open}
+use Rattle.qc_run.proofs.Opening.{next_open}
 use Rattle.qc_run.proofs.opens.open.Goals as goal
 
 pub returns-in-Ok-clause-opens : goal.returns-in-Ok-clause-opens
 returns-in-Ok-clause-opens g c =
     subst (λ (s : Slot). IsOpen c.args.turn.now c.args.options.now (view c.args.first.now).seen (length (view c.args.first.now).registry + 1, c.args.input) s) (sym c.new.ensures)
-    (is_open c.args.turn.now c.args.options.now c.args.first.now c.in_ok-seat.seat c.in-Ok.session c.args.input c.in-Ok.ensures.begins c.in_ok-seat.ensures.next.1)
+    (next_open c.args.turn.now c.args.options.now c.args.first.now c.in_ok-seat.seat c.in-Ok.session c.args.input c.in-Ok.ensures.begins c.in_ok-seat.ensures.next.1)

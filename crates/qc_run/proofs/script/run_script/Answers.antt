@@ -1,25 +1,24 @@
-use Rattle.std.proofs.Common.{ap, sym, subst, ◌∙◌}
+use Rattle.std.proofs.Common.{List, ap, sym, subst, ◌∙◌}
+use Rattle.std.specs.Prelude.{reverse}
+use Rattle.qc_model.specs.Agrees.{Agrees, whole_machine}
+use Rattle.qc_model.specs.declared.reports.Report.{Report}
+use Rattle.qc_script.specs.ShortNames.{HasShortNames}
+use Rattle.qc_run.specs.Ran.{HaveReceipts, IsReportOf, receipts_in, reports_in}
 use Rattle.qc_run.proofs.Closing.{report_agrees}
 use Rattle.qc_run.proofs.Names.{names_are_short}
-use Rattle.qc_model.specs.declared.reports.Report.{Report}
-use Rattle.qc_model.specs.Agrees.{Agrees, whole_machine}
-use Rattle.qc_model.specs.declared.reports.SessionReport.{SessionReport}
-use Rattle.std.proofs.Common.{List}
-use Rattle.qc_script.specs.ShortNames.{HasShortNames}
-use Rattle.qc_laws.specs.runs.Runs.{report_of}
 use Rattle.qc_run.proofs.script.run_script.Goals as goal
 
 pub returns-clause-agrees : goal.returns-clause-agrees
+unfolding IsReportOf
 returns-clause-agrees g c =
     let script = c.args.script in
     let options = c.args.options in
     let server = c.in_ok-server.server in
     let ran = c.in_ok-server.ensures in
     subst (λ (r : Report). Agrees whole_machine script options r) (sym c.in_ok-report.ensures)
-    (subst (λ (rs : List SessionReport). Agrees whole_machine script options (report_of options rs server.journal.events)) (sym c.reverse.ensures.items)
-    (report_agrees script options _ c.into_vec-inputs.result.items server c.requires.script c.into_vec-inputs.ensures ran))
+    (report_agrees script options _ _ c.into_vec-inputs.result.items server c.into_vec-inputs.ensures c.in_ok-reports.ensures.reports ran)
 
 pub returns-clause-names : goal.returns-clause-names
 returns-clause-names g c =
     let ran = c.in_ok-server.ensures in
-    subst HasShortNames (sym c.in_ok-report.ensures) (names_are_short c.args.options c.reverse.new.self.items c.in_ok-server.server ran.sound)
+    subst HasShortNames (sym c.in_ok-report.ensures) (names_are_short c.args.options c.in_ok-reports.reports.items c.in_ok-server.server ran.sound)
