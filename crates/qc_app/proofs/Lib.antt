@@ -1,4 +1,3 @@
-pub mod Inputs
 pub mod Pieces
 pub mod Tops
 mod examples

@@ -11,10 +11,9 @@ use Rattle.qc_model.specs.declared.reports.Script.{Script}
 use Rattle.qc_model.specs.declared.reports.ScriptRefusal.{ScriptRefusal}
 use Rattle.qc_model.specs.declared.reports.ScriptRefusal.TheVariants as refusal
 use Rattle.qc_model.specs.ScriptLines.{script_of, most_script, after_lines, lines_of, no_sessions}
-use Rattle.qc_model.specs.Agrees.{Agrees, whole_machine}
 use Rattle.qc_app.specs.Arguments.{options_of}
 use Rattle.qc_app.proofs.Rounding.{options_are_rounded}
-use Rattle.qc_run.specs.Ran.{AreTaken}
+use Rattle.qc_run.specs.Ran.{AreTaken, IsReportOf}
 use Rattle.qc_app.specs.Reading.{ReadsEnough}
 use Rattle.qc_app.specs.Top.{ReadsAll, RefusesInput, TellsRefusal, IsRunOf}
 
@@ -75,7 +74,7 @@ not_refused (Some left) now bytes s h e t =
 -- ---- the run
 
 pub run_is : (words : List (List ℕ)) (before now : Option (List ℕ)) (bytes : List ℕ) (s : Script) (o : Options) (report : Report)
-    → ReadsEnough before now bytes → script_of bytes ≡ Ok s → options_of words ≡ Some o → Agrees whole_machine s o report → IsRunOf words before now report
+    → ReadsEnough before now bytes → script_of bytes ≡ Ok s → options_of words ≡ Some o → IsReportOf s o report → IsRunOf words before now report
 run_is words before now bytes s o report h e chosen agrees =
     record {
       bytes = bytes;

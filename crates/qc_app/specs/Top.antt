@@ -6,7 +6,7 @@ use Rattle.qc_model.specs.declared.reports.Report.{Report}
 use Rattle.qc_model.specs.declared.reports.Script.{Script}
 use Rattle.qc_model.specs.declared.reports.ScriptRefusal.{ScriptRefusal}
 use Rattle.qc_model.specs.ScriptLines.{script_of}
-use Rattle.qc_model.specs.Agrees.{Agrees, whole_machine}
+use Rattle.qc_run.specs.Ran.{IsReportOf}
 use Rattle.qc_app.specs.Arguments.{options_of}
 
 -- a source was read to its end, and gave these bytes
@@ -32,7 +32,7 @@ pub record IsRunOf (words : List (List ℕ)) (before now : Option (List ℕ)) (r
   pub read : ReadsAll before now bytes
   pub means : script_of bytes ≡ Ok script
   pub chosen : options_of words ≡ Some options
-  pub agrees : Agrees whole_machine script options report
+  pub agrees : IsReportOf script options report
 
 -- a sink holds these bytes more
 abbrev pub HoldsMore : Option (List ℕ) → Option (List ℕ) → List ℕ → Type 0

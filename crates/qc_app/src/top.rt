@@ -17,6 +17,7 @@ use qc_serve::Gate;
 use qc_types::{Or, PutStep, Sink, Source};
 use std::alloc::Global;
 use std::sync::Wait;
+use std::thread::Threads;
 
 /// How a call of the program ended.
 #[derive(Drop)]
@@ -69,15 +70,16 @@ impl Outcome {
 }
 
 /// Does what the words behind the program's name ask for. `run` reads a script from the input to its end, or until it is too long for a
-/// script, runs its session over a shared server, and puts the text of the report to the output. `--size` is the bytes of the cache's memory, of
-/// which with 0 there is none, `--limit` the most bytes of a reply that is kept, `--unit` the bytes of the least block for a reply, and `--type` the
-/// cache type with which the session begins. The session passes the gate before each command, and between two pieces of a reply.
+/// script, runs it over one shared server, and puts the text of the report to the output. The setup part of the script is run alone, and then its
+/// sessions at the same time, each in a thread of its own where one can be made. `--size` is the bytes of the cache's memory, of which with 0 there is
+/// none, `--limit` the most bytes of a reply that is kept, `--unit` the bytes of the least block for a reply, and `--type` the cache type with which
+/// each session begins. Each session passes the gate before each command, and between two pieces of a reply.
 ///
 /// The words are validated first, then the input is read, then the script is validated, then it is run. Nothing is put before the run has ended.
 /// A source or a sink that doesn't tell what it has left or holds is promised less: the clauses then speak of some input of which the
 /// report is the run. The cost is linear in the input and the report, and besides each change costs what its table holds, and each
 /// SELECT the row combinations that it reads.
-pub fn qcache_main<R: Wait, S: Source, K: Sink, G: Gate>(
+pub fn qcache_main<R: Threads + Wait + Sync, S: Source, K: Sink, G: Gate + Sync>(
     rt: &R,
     alloc: Global,
     words: &[String],

@@ -1,12 +1,12 @@
-use Rattle.std.proofs.Common.{◌≡◌, sym, ap, ◌∙◌, subst, map, string_bytes, Global}
+use Rattle.std.proofs.Common.{◌≡◌, rules, sym, ap, ◌∙◌, subst, map, string_bytes, Global}
 use Rattle.std.specs.Option.{IfSome}
 use Rattle.qc_model.specs.declared.reports.Report.{Report}
 use Rattle.qc_model.specs.ScriptLines.{script_of}
+use Rattle.qc_run.specs.Ran.{MayRun}
 use Rattle.qc_app.specs.Arguments.{options_of}
 use Rattle.qc_app.specs.declared.top.Ended.{Ended}
 use Rattle.qc_app.specs.Outcomes.{ended_of}
 use Rattle.qc_app.specs.Top.{RefusesInput, IsRunOf}
-use Rattle.qc_app.proofs.Inputs.{script_may_run}
 use Rattle.qc_app.proofs.Tops.{refusal_is, not_taken, not_refused, run_is, if_some, given, given_refusal, words_given, words_are_taken}
 use Rattle.qc_app.proofs.top.qcache_main.Goals as goal
 
@@ -30,13 +30,12 @@ returns-in-Err-Other-clause-completes g c = λ chosen tells quiet still.
 pub run_script-requires-clause-options : goal.run_script-requires-clause-options
 run_script-requires-clause-options g c =
     let words = map (string_bytes {Z = Global}) c.args.words.now in
-    words_are_taken words c.in-Ok-Some.options
-    (words_given c.read_words.result c.in-Ok-Some.field-0 c.in-Ok-Some.options (options_of words) c.in-Ok-Some.is c.in-Ok-Some.field-0-is c.read_words.ensures.options)
+    let taken = words_are_taken words c.in-Ok-Some.options
+    (words_given c.read_words.result c.in-Ok-Some.field-0 c.in-Ok-Some.options (options_of words) c.in-Ok-Some.is c.in-Ok-Some.field-0-is c.read_words.ensures.options) in
+    search rules
 
 pub run_script-requires-clause-script : goal.run_script-requires-clause-script
-run_script-requires-clause-script g c =
-    script_may_run c.deref.result.now c.in-Ok-read_script.script
-    (given c.read_script.result c.in-Ok-read_script.script (script_of c.deref.result.now) c.in-Ok-read_script.is c.read_script.ensures.script)
+run_script-requires-clause-script g c = let may : MayRun c.in-Ok-read_script.script = record { few = c.in-Ok-read_script.ensures.few } in search rules
 
 pub returns-in-Ok-run_script-clause-agrees : goal.returns-in-Ok-run_script-clause-agrees
 returns-in-Ok-run_script-clause-agrees g c =
