@@ -64,6 +64,7 @@ use std::alloc::Global;
 use std::process::Abort;
 use std::sync::Wait;
 use std::test::Fail;
+use std::thread::Threads;
 
 /// The command that a text means.
 fn command_of(alloc: Global, text: &str) -> Result<Command, Fail>
@@ -149,7 +150,7 @@ fn script_of(alloc: Global, input: Text) -> Result<Script, Fail>
 }
 
 /// What a session on an empty database answers and leaves otherwise than a script says.
-fn differences_with<R: Wait>(
+fn differences_with<R: Threads + Wait + Sync>(
     rt: &R,
     alloc: Global,
     options: Options,
@@ -160,7 +161,11 @@ fn differences_with<R: Wait>(
     let script = cases(alloc, script)?;
     let input = input_of(alloc, &script)?;
     let whole = script_of(alloc, input)?;
-    let Ran { report, server: _ } = run_script(rt, alloc, options, whole, &Ungated)?;
+    let Ran {
+        report,
+        server: _,
+        receipts: _,
+    } = run_script(rt, alloc, options, whole, &Ungated)?;
     let [session] = report.sessions.items() else {
         return Err(Fail::from("another number of sessions"));
     };
@@ -173,7 +178,11 @@ fn differences_with<R: Wait>(
 }
 
 /// Asserts that sessions without a cache answer and leave what scripts say, each on a session of its own.
-fn agree(rt: &(impl Abort + Wait), alloc: Global, scripts: &[&str]) -> Result<(), Fail> {
+fn agree(
+    rt: &(impl Abort + Threads + Wait + Sync),
+    alloc: Global,
+    scripts: &[&str],
+) -> Result<(), Fail> {
     for script in scripts {
         let lines = differences_with(rt, alloc, options(0, 1_048_576), script)?;
         is_empty(rt, &lines);
@@ -183,7 +192,7 @@ fn agree(rt: &(impl Abort + Wait), alloc: Global, scripts: &[&str]) -> Result<()
 
 /// The same with a cache that keeps replies of so many bytes, behind the setup.
 fn agree_cached(
-    rt: &(impl Abort + Wait),
+    rt: &(impl Abort + Threads + Wait + Sync),
     alloc: Global,
     limit: u32,
     scripts: &[&str],
@@ -196,7 +205,7 @@ fn agree_cached(
 }
 
 /// What a session with such a cache answers and leaves otherwise than a script says.
-fn cached_differences<R: Wait>(
+fn cached_differences<R: Threads + Wait + Sync>(
     rt: &R,
     alloc: Global,
     limit: u32,

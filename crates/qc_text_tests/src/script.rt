@@ -1,4 +1,6 @@
 //! Scripts and reports.
 
+mod reading;
 mod reports;
 mod scripts;
+mod workload;

@@ -1,0 +1,73 @@
+//! As many sessions as there may be, of one command each.
+
+use crate::runs::{must, run, same};
+use qc_app::{Ended, Ending, Event, Report, SessionReport, Word};
+use qc_serve::Ungated;
+use std::alloc::{AllocError, Global};
+use std::process::Abort;
+
+/// The answer to the session that makes a database.
+const MADE: &[u8] = b"\x07\x00\x00\x01\x00\x01\x00\x02\x00\x00\x00";
+
+/// Each session makes a database of its own.
+fn script(alloc: Global) -> Result<String, AllocError> {
+    let mut script = String::new(alloc);
+    for number in 1..65u32 {
+        let session = format!(in alloc; "session {number}\nquery CREATE DATABASE d{number}\n")?;
+        script.push_str(&session)?;
+    }
+    Ok(script)
+}
+
+/// Asserts that a session was answered its command. The place of its event.
+fn place_of(rt: &impl Abort, session: &SessionReport, number: u8) -> u64 {
+    same(rt, session.session, number);
+    assert_eq!(rt; session.ending, Ending::Input);
+    let [line] = session.lines.items() else {
+        panic!(rt; "another number of lines");
+    };
+    assert_eq!(rt; line.how, Word::Other);
+    assert_eq!(rt; line.reply.bytes(), MADE);
+    line.place
+}
+
+/// Asserts that the event at a place is the first one of this session, a commit.
+fn is_commit_of(rt: &impl Abort, report: &Report, place: u64, number: u8) {
+    assert!(rt; place > 0, "no event");
+    let index = place as usize - 1;
+    let Some(Event::Commit { who, ops: _ }) = report.journal.items().get(index) else {
+        panic!(rt; "no commit at place {place}");
+    };
+    same(rt, who.session, number);
+    same(rt, who.number, 1u64);
+}
+
+/// Asserts that there are 64 sessions, in their order, each with its event.
+fn are_all_there(rt: &impl Abort, report: &Report) {
+    let sessions = report.sessions.items();
+    same(rt, sessions.len(), 64usize);
+    same(rt, report.journal.items().len(), 64usize);
+    let mut number = 0u8;
+    for session in sessions {
+        number = number.wrapping_add(1);
+        let place = place_of(rt, session, number);
+        is_commit_of(rt, report, place, number);
+    }
+}
+
+#[test]
+fn sixty_four_sessions(rt: HostRuntime) {
+    let alloc = rt.alloc();
+    let script = must(&rt, script(alloc));
+    let (ended, _out) = must(&rt, run(&rt, alloc, "run", &script, &Ungated));
+    let Ended {
+        status,
+        report,
+        bad: _,
+    } = ended;
+    same(&rt, status, 0u8);
+    let Some(report) = report else {
+        panic!(rt; "no report");
+    };
+    are_all_there(&rt, &report);
+}
