@@ -27,6 +27,7 @@ use Rattle.qc_turn.specs.declared.view.MetSeat.{MetSeat}
 use Rattle.qc_turn.specs.declared.view.View.{View}
 use Rattle.qc_turn.specs.Seats.{view}
 use Rattle.qc_turn.specs.Views.{met_seat, of_seat}
+use Rattle.qc_turn.proofs.Tasks.{starts_trans}
 use Rattle.qc_core.specs.contracts.server.ServerKept.TheImpl.{ghosts}
 use Rattle.qc_core.specs.declared.parts.Parts.{Parts}
 use Rattle.qc_core.specs.Whole.{IsSomewhereSound}
@@ -199,10 +200,7 @@ module _ (t : Turn Parts Event) (o : Options) (inputs : List (List ℕ)) (outcom
 
   -- the journal goes on behind what the first seat had seen when the others were split off
   goes_on : StartsWith J before.seen
-  goes_on = starts_again J v.seen before.seen closes.seen served.seen
-    where
-      starts_again : (xs ys zs : Journal) → StartsWith xs ys → StartsWith ys zs → StartsWith xs zs
-      starts_again xs ys zs (more, e) (rest, f) = (rest ++ more, e ∙ (ap (λ (l : Journal). l ++ more) f ∙ append_assoc zs rest more))
+  goes_on = starts_trans J v.seen before.seen closes.seen served.seen
 
   -- and session 0 has had no event since
   own_stays : v.events ≡ before.events → before.events ≡ events_of 0 before.seen → events_of 0 J ≡ events_of 0 before.seen

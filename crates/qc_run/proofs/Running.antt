@@ -15,6 +15,7 @@ use Rattle.qc_turn.specs.declared.turn.Turn.{Turn}
 use Rattle.qc_turn.specs.declared.view.MetSeat.{MetSeat}
 use Rattle.qc_turn.specs.Seats.{view}
 use Rattle.qc_turn.specs.Views.{AllMet}
+use Rattle.qc_turn.proofs.Tasks.{starts_trans}
 use Rattle.qc_core.specs.contracts.server.ServerKept.TheImpl.{ghosts}
 use Rattle.qc_core.specs.declared.parts.Parts.{Parts}
 use Rattle.qc_serve.specs.Going.{number_of, seen_by}
@@ -94,10 +95,7 @@ seen_after t o first i a b ending opened served is =
     let answered : HasAnswered a.session b.session a.input b.lines ending = subst (λ (x : Option Ending). IfSome x (HasAnswered a.session b.session a.input b.lines)) is served.answered in
     let run = answered.served in
     let runs = run.runs in
-    starts_again (seen_by b.session) (seen_by a.session) first runs.begins opened.begins
-  where
-    starts_again : (xs ys zs : Journal) → StartsWith xs ys → StartsWith ys zs → StartsWith xs zs
-    starts_again xs ys zs (more, e) (rest, f) = (rest ++ more, e ∙ (ap (λ (l : Journal). l ++ more) f ∙ append_assoc zs rest more))
+    starts_trans (seen_by b.session) (seen_by a.session) first runs.begins opened.begins
 
 all_seen : (t : Turn Parts Event) (o : Options) (first : Journal) (inputs : List (List ℕ)) (begun over : List Slot) (outcomes : List Outcome) → AreOpen t o first inputs begun → AllZip (IsServed t) begun over → AreOutcomes over outcomes → All (λ s. StartsWith (seen_by s.session) first) over
 all_seen t o first inputs begun over outcomes opened served told i d l =

@@ -1,5 +1,5 @@
 -- The setup part, which is run alone on the first seat.
-use Rattle.std.specs.Prelude.{◌≡◌, ℕ, ◌≢◌, List, [], Option, Some, None}
+use Rattle.std.specs.Prelude.{◌≡◌, ℕ, List, [], Option, Some, None}
 use Rattle.qc_types.specs.declared.options.Options.{Options}
 use Rattle.qc_model.specs.declared.events.Event.{Event}
 use Rattle.qc_turn.specs.declared.seat.Seat.{Seat}
@@ -9,7 +9,7 @@ use Rattle.qc_turn.specs.Seats.{IsSeatOf, view}
 use Rattle.qc_turn.specs.Views.{first_seat}
 use Rattle.qc_core.specs.contracts.server.ServerKept.TheImpl.{ghosts}
 use Rattle.qc_core.specs.declared.parts.Parts.{Parts}
-use Rattle.qc_serve.specs.Going.{as_fixed, number_of, seen_by}
+use Rattle.qc_serve.specs.Going.{as_fixed}
 use Rattle.qc_run.specs.declared.outcomes.Outcome.{Outcome}
 use Rattle.qc_run.specs.declared.slots.Slot.{Slot}
 use Rattle.qc_run.specs.Meets.{IsOutcomeOf}
