@@ -1,7 +1,8 @@
 -- The bytes of a key are stored, word by word.
-use Rattle.std.proofs.Common.{◌≡◌, ◌≢◌, ℕ, zero, suc, ◌+◌, ◌-◌, ◌*◌, ◌/◌, ◌%◌, ◌^◌, ◌<◌, ◌≤◌, min, eqb, eq-eqb, eqb-true, Bool, true, false, List, [], ◌∷◌, length, take, drop, get_or, set, refl, sym, ap, subst, ◌∙◌, arith, true≢false, drop-cons}
+use Rattle.std.proofs.Common.{◌≡◌, ◌≢◌, ℕ, zero, suc, ◌+◌, ◌-◌, ◌*◌, ◌/◌, ◌%◌, ◌^◌, ◌<◌, ◌≤◌, min, eqb, eq-eqb, eqb-true, Bool, true, false, List, [], ◌∷◌, length, take, drop, get_or, set, refl, sym, ap, subst, ◌∙◌, arith, true≢false, drop-cons, pow-suc}
 use Rattle.std.specs.Prelude.{◌&&◌, ◌==◌, slice_index}
-use Rattle.std.proofs.lemmas.List.{get_or-set_same, get_or-set_other, length-set, drop-drop, drop_at}
+use Rattle.std.proofs.lemmas.List.{get_or-set_same, get_or-set_other, length-set, drop-drop}
+use Rattle.qc_laws.proofs.history.Serials.{both_true}
 use Rattle.byteorder.specs.Endian.{little_from}
 use Rattle.qc_model.specs.Licence.{words_of_bytes}
 use Rattle.qc_tiles.specs.declared.blocks.Block.{Block}
@@ -35,6 +36,30 @@ read_spells (suc n) i xs h k =
     let is : y * 256 + x ≡ x + 256 * y = omega arith in
     let more = spells_more y x (take n (drop (suc i) xs)) (h i) (read_spells n (suc i) xs h (omega (arith, k))) in
     (λ j. spells (sym is j) (ap (take (suc n)) (drop-cons xs i 0 (omega (arith, k))) j)) ∙ more
+
+-- two numbers that spell the same bytes, and reach no further, are the same
+spelled_same : (p : List ℕ) (v w : ℕ) → v < 256 ^ length p → w < 256 ^ length p → spells v p ≡ true → spells w p ≡ true → v ≡ w
+spelled_same [] v w lv lw sv sw = omega (arith, lv, lw)
+spelled_same (b ∷ p) v w lv lw sv sw =
+    let power : 256 ^ suc (length p) ≡ 256 ^ length p * 256 = pow-suc 256 (length p) in
+    let one = both_true (v % 256 == b) (spells (v / 256) p) sv in
+    let two = both_true (w % 256 == b) (spells (w / 256) p) sw in
+    let rest = spelled_same p (v / 256) (w / 256) (omega (arith, lv, power)) (omega (arith, lw, power)) one.1 two.1 in
+    let low : v % 256 ≡ w % 256 = eqb-true (v % 256) b one.0 ∙ sym (eqb-true (w % 256) b two.0) in
+    omega (arith, rest, low)
+
+-- a whole word spells eight bytes exactly where it is their number
+pub whole_word : (word n : ℕ) (p : List ℕ) → word < 2 ^ 64 → n < 2 ^ 64 → length p ≡ 8 → spells n p ≡ true → (word == n) ≡ spells word p
+whole_word word n p lw ln long s = elim (eqb word n) as (λ b. eqb word n ≡ b → b ≡ spells word p) [
+  | true ↦ λ e. sym (subst (λ m. spells m p ≡ true) (sym (eqb-true word n e)) s)
+  | false ↦ λ e. elim (spells word p) as (λ b. spells word p ≡ b → false ≡ b) [
+    | true ↦ λ t. absurd (true≢false (sym (eq-eqb word n (spelled_same p word n (small word lw) (small n ln) t s)) ∙ e))
+    | false ↦ λ t. refl
+  ] refl
+] refl
+  where
+    small : (m : ℕ) → m < 2 ^ 64 → m < 256 ^ length p
+    small m low = subst (λ k. m < 256 ^ k) (sym long) low
 
 -- ---- the words
 

@@ -10,6 +10,7 @@ ghost use Rattle.qc_core.specs.Calls.{HasKey, LacksKey};
 ghost use Rattle.qc_core.specs.Spelled.{spells, is_text, read, IsSame, MayRead};
 
 use crate::server::Server;
+use byteorder::{ByteOrder, LittleEndian};
 use qc_key::hash;
 use qc_tiles::Block;
 use qc_turn::Held;
@@ -18,6 +19,9 @@ use qc_turn::Held;
 fn is_piece(word: u64, piece: &[u8]) -> bool
     ensures { result ≡ spells word piece.now }
 {
+    if piece.len() == 8 {
+        return word == LittleEndian::read_u64(piece);
+    }
     let mut left = word;
     for byte in piece {
         if left % 256 != u64::from(*byte) {

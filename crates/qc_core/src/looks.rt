@@ -3,6 +3,7 @@
 ghost use Rattle.std.specs.Prelude.{◌≡◌, ◌*◌, ◌≤◌, ◌<◌, length, option_map, Some, not, ◌&&◌, IsSome, IfSome, IfNone};
 ghost use Rattle.std.specs.List.{list_all};
 ghost use Rattle.qc_model.specs.Choice.{answering, changed_since, is_stale, wrote};
+ghost use Rattle.qc_model.specs.Journal.{last_change};
 ghost use Rattle.qc_chain.specs.Words.{words_of};
 ghost use Rattle.qc_dir.specs.Directory.{entry_at};
 ghost use Rattle.qc_turn.specs.declared.task.Task.TheVariants as task;
@@ -20,26 +21,24 @@ use qc_trx::SessionState;
 use qc_turn::Held;
 use qc_types::TableName;
 
-/// Whether a table changed after a place, where there is one.
-fn is_past(place: Option<u64>, change: u64) -> bool
-    ensures { result ≡ changed_since place change }
-{
-    match place {
-        None => false,
-        Some(place) => place < change,
-    }
-}
-
 impl Server {
+    /// Whether a table changed behind this place, where there is one.
+    fn changed_behind(&self, place: Option<u64>, table: &TableName) -> bool
+        ensures { result ≡ changed_since place (last_change self.now.journal.events table.now) }
+    {
+        match place {
+            None => false,
+            Some(place) => place < self.journal().last_change(table),
+        }
+    }
+
     /// Whether the session sees these tables as they are now.
     fn are_current(&self, tables: &[TableName], state: &SessionState) -> bool
         ensures { result ≡ list_all (λ t. not (wrote state.now.state t) && not (is_stale state.now.state self.now.journal.events t)) tables.now }
     {
         let place = state.snapshot();
         for table in tables {
-            if state.wrote(table)
-                || is_past(place, self.parts.journal.journal().last_change(table))
-            {
+            if state.wrote(table) || self.changed_behind(place, table) {
                 return false;
             }
         }

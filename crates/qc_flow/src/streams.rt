@@ -54,6 +54,9 @@ impl Stream {
         ensures sent { (self.new.sent ≡ self.old.sent + result) × (self.new.serial ≡ self.old.serial) × (self.new.bytes ≡ self.old.bytes) }
     {
         let count = (self.bytes - self.sent).min(PIECE);
+        if count == 0 {
+            return 0;
+        }
         let words = count.div_ceil(8) as usize;
         let mut piece = [0u64; PIECE_WORDS];
         seat.load_piece(turn, self.sent / 8, &mut piece[..words]);

@@ -11,6 +11,7 @@ ghost use Rattle.qc_wire.specs.Cells.{cell_text, cell_texts};
 
 use crate::cells::RowCells;
 use crate::encoding::{NULL_CELL, push_integer, push_low_first, push_string};
+use crate::header::HEADER_LENGTH;
 use qc_sql::cells::StoredCell;
 use qc_sql::replies::ColumnDef;
 use qc_types::{NoMemory, SqlError, Text};
@@ -209,7 +210,7 @@ pub(crate) fn put_packet(
     ensures ok { OnOk result (out.new ≡ out.old ++ packet sequence payload.now) }
     ensures err { OnErr result (out.new ≡ out.old) }
 {
-    let mut whole = Vec::new(alloc);
+    let mut whole = Vec::with_capacity(alloc, HEADER_LENGTH + payload.len())?;
     push_low_first(&mut whole, 3, payload.len() as u64)?;
     whole.push(sequence)?;
     whole.extend_from_slice(payload)?;
