@@ -1,5 +1,5 @@
 -- A session ends at a command.
-use Rattle.std.proofs.Common.{◌≡◌, ℕ, ◌+◌, ◌-◌, ◌<◌, ◌≤◌, List, [], ◌∷◌, ◌++◌, length, take, refl, sym, ap, ◌∙◌, subst, arith, append-nil, append_assoc, inl, inr, Option, Some, None, Result, Ok, Err, OnErr}
+use Rattle.std.proofs.Common.{◌≡◌, ℕ, ◌+◌, ◌-◌, ◌<◌, ◌≤◌, List, [], ◌∷◌, ◌++◌, length, take, refl, sym, ap, ◌∙◌, subst, arith, append-nil, inl, inr, Option, Some, None, Result, Ok, Err, OnErr}
 use Rattle.std.specs.Prelude.{◌⊎◌, MatchOption, map}
 use lib.Seq.{take-append-le}
 use Rattle.qc_types.specs.declared.options.Options.{Options}
@@ -15,11 +15,12 @@ use Rattle.qc_model.specs.Agrees.{Machine, key_of_command, line, who_of, whole_m
 use Rattle.qc_model.specs.Journal.{Journal, before}
 use Rattle.qc_model.specs.Machine.{Local}
 use Rattle.qc_model.specs.Needs.{HasOwnNeeds}
-use Rattle.qc_laws.specs.runs.Runs.{HasItsEvent, HasNoEvent, Position, StartsWith, own}
+use Rattle.qc_laws.specs.runs.Runs.{HasItsEvent, HasNoEvent, Position, own}
 use Rattle.qc_laws.proofs.runs.Composes.{events_below}
 use Rattle.qc_turn.specs.declared.seat.Seat.{Seat}
 use Rattle.qc_turn.specs.declared.turn.Turn.{Turn}
 use Rattle.qc_turn.specs.Seats.{view}
+use Rattle.qc_turn.proofs.Tasks.{starts_trans}
 use Rattle.qc_core.specs.contracts.server.ServerKept.TheImpl.{ghosts}
 use Rattle.qc_core.specs.declared.parts.Parts.{Parts}
 use Rattle.qc_serve.specs.declared.ending.End.{End}
@@ -143,9 +144,6 @@ must_end_from t c old new log held out same must =
 
 -- ---- the seat leaves
 
-starts_on : (a b c : Journal) → StartsWith b a → StartsWith c b → StartsWith c a
-starts_on a b c (more, is) (rest, same) = (more ++ rest, same ∙ (ap (λ (j : Journal). j ++ rest) is ∙ append_assoc a more rest))
-
 -- a line stays one where the journal goes on by others
 event_line_on : (m : Machine) (options : Options) (s : ℕ) (from : Position) (c : Command) (l : ReportLine) (seen now : Journal) → GoesOn s seen now → HasEventLine m options s from c l seen → HasEventLine m options s from c l now
 event_line_on m options s from c l seen now on (e, reply, next, grows, does, is, needs) =
@@ -181,7 +179,7 @@ ends_with t c old middle seat held out e must left standing on =
     record {
       left = subst (λ (n : ℕ). HasLeft t n seat) b.session left;
       end = refl;
-      breaks = record { begins = starts_on (seen_by old) (seen_by middle) (seen_by (record middle { seat = seat; end = Some e })) b.begins goes.begins; events = b.events; few = b.few; grows = goes.none ∙ b.grows; lines = b.lines; session = b.session; standing = standing ∙ b.standing; sent = sent_on c old middle seat (Some e) held out goes b.sent };
+      breaks = record { begins = starts_trans (seen_by (record middle { seat = seat; end = Some e })) (seen_by middle) (seen_by old) goes.begins b.begins; events = b.events; few = b.few; grows = goes.none ∙ b.grows; lines = b.lines; session = b.session; standing = standing ∙ b.standing; sent = sent_on c old middle seat (Some e) held out goes b.sent };
     }
 
 pub ended : (t : Turn Parts Event) (c : Command) (old middle new : Session) (held out : Option (List Piece)) (e : End) → MustEnd t c old middle held out → Leaves t middle new e → HasEnded t c old new held out e

@@ -46,6 +46,7 @@ use Rattle.qc_trx.specs.SnapshotStates.{SnapshotState, after_arrival, after_sigh
 use Rattle.qc_turn.specs.declared.seat.Seat.{Seat}
 use Rattle.qc_turn.specs.declared.turn.Turn.{Turn}
 use Rattle.qc_turn.specs.Seats.{view}
+use Rattle.qc_turn.proofs.Tasks.{starts_trans}
 use Rattle.qc_core.specs.contracts.server.ServerKept.TheImpl.{ghosts}
 use Rattle.qc_core.specs.declared.parts.Parts.{Parts}
 use Rattle.qc_select.specs.declared.selected.Selected.{Selected}
@@ -263,9 +264,6 @@ placed t text select old mid x rest d =
 
 -- ---- the event is in the journal that the seat has seen
 
-starts_trans : (a b c : Journal) → StartsWith b a → StartsWith c b → StartsWith c a
-starts_trans a b c x y = (x.0 ++ y.0, y.1 ∙ (ap (λ (j : Journal). j ++ y.0) x.1 ∙ append_assoc a x.0 y.0))
-
 word_is : (who : Who) (key : List ℕ) (tables : List TableName) (x : Selected) → word_of_selected x ≡ word_of (event.Run who (how_of key tables x))
 word_is who key tables (selected.Hit hit) = refl
 word_is who key tables (selected.Start serial place plan) = refl
@@ -308,7 +306,7 @@ module _ (t : Turn Parts Event) (text : List ℕ) (select : Select) (old new : S
       subst (λ (m : Result Statement ParseFault). ExecutesText old.options (next_who old) s text K m e r a) (sym means) (record { chosen = (how_of key p.tables x, refl, p.allowed); answered = refl; same = refl }) in
       record {
         without = ap (local_text s) means;
-        begins = starts_trans I now (seen_by new) (starts_trans I J now goes.begins (q ++ e ∷ [], p.events)) begins;
+        begins = starts_trans (seen_by new) now I begins (starts_trans now J I (q ++ e ∷ [], p.events) goes.begins);
         grows = on.none ∙ (ap (own n) p.events ∙ (one_more n I J q [] e goes.none (quiet_prunes n q p.only) (eq-eqb n n refl) refl ∙ ap (λ (m : ℕ). own n I ++ (m, e) ∷ []) count));
         does = subst (λ (y : ℕ × Journal × State). Executes old.options (who_of n (y.0 + 1)) s (command.Query text) y.1 e r y.2) (λ i. (sym (own_count n I) i, sym earlier i, sym state i)) executed;
         needs = subst (λ (j : Journal). HasOwnNeeds old.options j (key_of_text s text) e) (sym earlier) p.needs;
