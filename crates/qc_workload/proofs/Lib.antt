@@ -1,0 +1,17 @@
+pub mod Grammar
+pub mod Fixed
+pub mod Lexing
+pub mod Inserted
+pub mod Updated
+pub mod Selected
+pub mod Written
+pub mod Maps
+pub mod Changes
+pub mod Follows
+pub mod Steps
+pub mod Sent
+pub mod Draws
+pub mod World
+pub mod Walk
+pub mod Totals
+pub mod Whole
