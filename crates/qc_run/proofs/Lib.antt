@@ -9,3 +9,4 @@ pub mod Preparing
 pub mod Ordering
 pub mod Sends
 pub mod Closures
+pub mod Joining

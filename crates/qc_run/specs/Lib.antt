@@ -4,3 +4,4 @@ pub mod Opens
 pub mod Meets
 pub mod Setup
 pub mod Ran
+pub mod Joined

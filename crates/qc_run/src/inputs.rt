@@ -1,19 +1,19 @@
 //! A session serves an input in memory.
 
-ghost use Rattle.std.specs.Prelude.{◌≡◌, ◌<◌, ◌≤◌, ◌++◌, ◌∷◌, [], None, length, IfOk, IfErr, IfSome, OnOk, OnErr};
+ghost use Rattle.std.specs.Prelude.{◌≡◌, ◌<◌, ◌≤◌, ◌++◌, ◌∷◌, [], None, length, IfErr, IfSome, OnOk, OnErr};
 ghost use Rattle.qc_sql.specs.Commands.{command_payload};
 ghost use Rattle.qc_sql.specs.Packets.{most_payload};
 ghost use Rattle.qc_model.specs.declared.reports.ReportLine.{ReportLine};
 ghost use Rattle.qc_serve.specs.Going.{IsAtRest};
-ghost use Rattle.qc_serve.specs.Sent.{bytes_of};
 ghost use Rattle.qc_run.specs.Inputs.{EndsAt, HasAnswered, HasEnded, IsLastLine, KeepsLine};
 
+use crate::joined::Joined;
 use qc_core::Server;
 use qc_model::reports::{Ending, ReportLine, ReportLines};
-use qc_serve::{End, Executed, Gate, Pieces, Replies, Session, execute, reading_end};
+use qc_serve::{End, Executed, Gate, Session, execute, reading_end};
 use qc_sql::commands::Command;
 use qc_turn::Turn;
-use qc_types::{NoMemory, Steps, Text};
+use qc_types::{NoMemory, Steps};
 use qc_wire::read_command;
 use std::alloc::Global;
 use std::sync::Wait;
@@ -41,6 +41,7 @@ pub(crate) fn serve_input<R: Wait, G: Gate, L: Ledger>(
 {
     let mut steps = Steps::<L>::new(blank);
     let mut left = input;
+    let mut sink = Joined::new(alloc);
     for _ in rt.forever() {
         let command = match read_command(alloc, &mut left) {
             Ok(command) => command,
@@ -50,7 +51,9 @@ pub(crate) fn serve_input<R: Wait, G: Gate, L: Ledger>(
                 return end.ending();
             }
         };
-        if let Err(end) = answer(rt, alloc, turn, session, &command, lines, gate, &mut steps) {
+        if let Err(end) = answer(
+            rt, alloc, turn, session, &command, lines, gate, &mut steps, &mut sink,
+        ) {
             return end.ending();
         }
     }
@@ -67,6 +70,7 @@ fn answer<R: Wait, G: Gate, L: Ledger>(
     lines: &mut ReportLines,
     gate: &G,
     steps: &mut Steps<L>,
+    sink: &mut Joined,
 ) -> Result<(), End>
     requires rests { IsAtRest turn.now session.old × (session.old.end ≡ None) }
     requires within { length (command_payload command.now) ≤ most_payload }
@@ -74,10 +78,10 @@ fn answer<R: Wait, G: Gate, L: Ledger>(
     ensures ends { IfErr result (EndsAt turn.now command.now session.old session.new) }
     ensures same { OnErr result (lines.new ≡ lines.old) }
 {
-    let mut sink = Replies::new(alloc, Vec::new(alloc));
-    match execute(rt, alloc, turn, session, command, &mut sink, gate, steps) {
+    sink.clear();
+    match execute(rt, alloc, turn, session, command, sink, gate, steps) {
         Executed::Ended(end) => Err(end),
-        Executed::Replied => match keep_line(alloc, session, sink.pieces(), lines) {
+        Executed::Replied => match keep_line(alloc, session, sink, lines) {
             Ok(()) => Ok(()),
             Err(NoMemory) => {
                 session.finish(rt, turn, End::Memory);
@@ -91,31 +95,20 @@ fn answer<R: Wait, G: Gate, L: Ledger>(
 fn keep_line(
     alloc: Global,
     session: &Session,
-    pieces: &Pieces,
+    sink: &Joined,
     lines: &mut ReportLines,
 ) -> Result<(), NoMemory>
     requires { 0 < length session.now.log.lines }
-    ensures kept { (l : ReportLine) → IsLastLine l session.now pieces.now → OnOk result (lines.new ≡ lines.old ++ l ∷ []) }
+    ensures kept { (l : ReportLine) → IsLastLine l session.now sink.now → OnOk result (lines.new ≡ lines.old ++ l ∷ []) }
     ensures same { OnErr result (lines.new ≡ lines.old) }
 {
     let Some(line) = session.log().lines().last() else {
         unreachable!()
     };
-    let reply = joined(alloc, pieces)?;
+    let reply = sink.reply(alloc)?;
     lines.push(ReportLine {
         place: line.place,
         how: line.how,
         reply,
     })
-}
-
-/// The bytes of pieces, one after another.
-fn joined(alloc: Global, pieces: &Pieces) -> Result<Text, NoMemory>
-    ensures { IfOk result (λ t. t ≡ bytes_of pieces.now) }
-{
-    let mut bytes = Text::of(alloc, &[])?;
-    for piece in pieces.items() {
-        bytes.extend(piece.bytes.bytes())?;
-    }
-    Ok(bytes)
 }

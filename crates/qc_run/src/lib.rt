@@ -2,6 +2,7 @@
 #![tactic(auto)]
 
 mod inputs;
+mod joined;
 mod meets;
 mod opens;
 mod outcomes;

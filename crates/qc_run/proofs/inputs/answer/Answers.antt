@@ -1,13 +1,11 @@
 use Rattle.std.proofs.Common.{sym, subst, Some, [], List}
 use Rattle.qc_serve.specs.declared.sinks.Piece.{Piece}
 use Rattle.qc_serve.specs.Executed.{IsReplied}
-use Rattle.qc_serve.specs.Sent.{KeptReplies}
-use Rattle.qc_run.specs.Inputs.{IsLastLine}
-use Rattle.qc_run.proofs.Serving.{ends_at, ends_lacking, last_line, some_lines, was_answered}
+use Rattle.qc_run.proofs.Serving.{ends_at, last_line, was_answered}
 use Rattle.qc_run.proofs.inputs.answer.Goals as goal
 
 pub returns-in-Ended-clause-ends : goal.returns-in-Ended-clause-ends
-returns-in-Ended-clause-ends g c = ends_at c.args.turn.now c.args.command.now c.args.session.now c.execute.new.session _ _ _ _ c.in-Ended.end c.in-Ended.ensures.executes c.in-Ended.ensures.quits
+returns-in-Ended-clause-ends g c = ends_at c.args.turn.now c.args.command.now c.args.session.now c.execute.new.session _ _ 0 0 c.in-Ended.end c.in-Ended.ensures.executes c.in-Ended.ensures.quits
 
 pub returns-in-Ok-clause-answers : goal.returns-in-Ok-clause-answers
 returns-in-Ok-clause-answers g c =
@@ -15,7 +13,7 @@ returns-in-Ok-clause-answers g c =
     let command = c.args.command.now in
     let old = c.args.session.now in
     let new = c.execute.new.session in
-    let a = was_answered t command old new (Some c.new-sink.result.held) (Some c.execute.new.sink.held) c.new-sink.result.faults c.execute.new.sink.faults c.in-Replied.ensures.executes c.in-Replied.ensures.quits in
-    let replied : IsReplied t command old new (Some []) (Some c.execute.new.sink.held) = subst (λ (s : KeptReplies). IsReplied t command old new (Some s.held) (Some c.execute.new.sink.held)) c.new-sink.ensures a.0 in
-    let last = subst (λ (ps : List Piece). IsLastLine replied.does.answered new ps) (sym c.pieces.ensures) (last_line t command old new c.execute.new.sink.held replied) in
+    let a = was_answered t command old new (Some c.clear.new.self) (Some c.execute.new.sink) 0 0 c.in-Replied.ensures.executes c.in-Replied.ensures.quits in
+    let replied : IsReplied t command old new (Some []) (Some c.execute.new.sink) = subst (λ (ps : List Piece). IsReplied t command old new (Some ps) (Some c.execute.new.sink)) c.clear.ensures a.0 in
+    let last = last_line t command old new c.execute.new.sink replied in
     record { going = a.1; reply = replied.reply; does = replied.does; kept = c.in-Ok.ensures.kept replied.does.answered last }
