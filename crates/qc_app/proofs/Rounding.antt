@@ -1,4 +1,4 @@
--- The options of words are rounded and in their ranges.
+-- The options of what words ask for are rounded and in their ranges.
 use Rattle.std.proofs.Common.{◌≡◌, ◌⊎◌, ℕ, zero, suc, ◌*◌, ◌/◌, ◌≤◌, ◌&&◌, nat_le, Bool, true, false, cond, List, [], ◌∷◌, Option, Some, None, subst, inl, inr, arith, refl, option_and_then, option_map}
 use Rattle.std.specs.Prelude.{codes, bytes_eq}
 use Rattle.std.specs.Str.Parse.{digits_value}
@@ -6,7 +6,9 @@ use Rattle.std.proofs.lemmas.Bool.{and_parts, leb-true}
 use Rattle.std.proofs.lemmas.Option.{cond_some, none-some, same_Some}
 use Rattle.clap.specs.Words.{Row, Text, first_of, matches_of, takes}
 use Rattle.qc_types.specs.declared.options.Options.{Options}
-use Rattle.qc_app.specs.Arguments.{is_number, number_or, option_in, options_in, rounded, run_command, run_options}
+use Rattle.qc_app.specs.declared.arguments.reading.Asked.{Asked}
+use Rattle.qc_app.specs.declared.arguments.reading.Asked.TheVariants as ask
+use Rattle.qc_app.specs.Arguments.{default_options, is_number, number_or, option_in, options_asked, options_in, rounded, run_command, run_options, workload_number}
 use Rattle.qc_app.specs.Laws.{AreRounded, AreRoundedOptions}
 
 -- each number lies in its range
@@ -69,10 +71,26 @@ run_rounded words options e = taken (takes run_command words) e
     taken true e = rows_rounded (matches_of run_command words) options e
     taken false e = absurd (none-some options e)
 
+without_words : AreRounded default_options
+without_words = record { size = refl; size_most = omega arith; limit_most = omega arith; unit = refl; unit_least = omega arith; unit_most = omega arith; kind_most = omega arith; room = inr (omega arith) }
+
 pub options_are_rounded : AreRoundedOptions
-options_are_rounded [] options e = absurd (none-some options e)
-options_are_rounded (first ∷ rest) options e = run (bytes_eq first (codes "run")) e
+options_are_rounded [] asked e = absurd (none-some asked e)
+options_are_rounded (first ∷ rest) asked e = run (bytes_eq first (codes "run")) e
   where
-    run : (b : Bool) → cond b (run_options (first ∷ rest)) None ≡ Some options → AreRounded options
-    run true e = run_rounded (first ∷ rest) options e
-    run false e = absurd (none-some options e)
+    options : (o : Option Options) → run_options (first ∷ rest) ≡ o → option_map ask.Run o ≡ Some asked → AreRounded (options_asked asked)
+    options None is e = absurd (none-some asked e)
+    options (Some o) is e = subst (λ a. AreRounded (options_asked a)) (same_Some (ask.Run o) asked e) (run_rounded (first ∷ rest) o is)
+
+    number : (o : Option ℕ) → option_map ask.Workload o ≡ Some asked → AreRounded (options_asked asked)
+    number None e = absurd (none-some asked e)
+    number (Some n) e = subst (λ a. AreRounded (options_asked a)) (same_Some (ask.Workload n) asked e) without_words
+
+    workload : (b : Bool) → cond b (option_map ask.Workload (workload_number (first ∷ rest))) None ≡ Some asked → AreRounded (options_asked asked)
+    workload true e = number (workload_number (first ∷ rest)) e
+    workload false e = absurd (none-some asked e)
+
+    run : (b : Bool) → cond b (option_map ask.Run (run_options (first ∷ rest))) (cond (bytes_eq first (codes "workload")) (option_map ask.Workload (workload_number (first ∷ rest))) None) ≡ Some asked
+        → AreRounded (options_asked asked)
+    run true e = options (run_options (first ∷ rest)) refl e
+    run false e = workload (bytes_eq first (codes "workload")) e

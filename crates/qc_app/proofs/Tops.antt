@@ -1,7 +1,6 @@
 -- From what was read to what is said of the whole input.
 use Rattle.std.proofs.Common.{◌≡◌, ℕ, ◌<◌, ◌≤◌, Bool, true, false, List, length, refl, sym, ap, ◌∙◌, subst, arith, true≢false, Option, Some, None, Result, Ok, Err, length-append, inl, inr, ◌⊎◌, ◌==◌}
 use Rattle.std.specs.Prelude.{is_ok, IfOk, IfSome, nat_lt, if◌then◌else◌}
-use Rattle.qc_types.specs.declared.options.Options.{Options}
 use Rattle.qc_types.specs.declared.memory.Or.{Or}
 use Rattle.qc_types.specs.declared.memory.Or.TheVariants as or
 use Rattle.qc_types.specs.Answers.{Gives}
@@ -10,24 +9,38 @@ use Rattle.qc_model.specs.declared.reports.Report.{Report}
 use Rattle.qc_model.specs.declared.reports.Script.{Script}
 use Rattle.qc_model.specs.declared.reports.ScriptRefusal.{ScriptRefusal}
 use Rattle.qc_model.specs.declared.reports.ScriptRefusal.TheVariants as refusal
+use Rattle.qc_model.specs.Journal.{present}
 use Rattle.qc_model.specs.ScriptLines.{script_of, most_script, after_lines, lines_of, no_sessions}
-use Rattle.qc_app.specs.Arguments.{options_of}
-use Rattle.qc_app.proofs.Rounding.{options_are_rounded}
-use Rattle.qc_run.specs.Ran.{AreTaken, IsReportOf}
+use Rattle.qc_script.specs.WorkloadScript.{workload_script}
+use Rattle.qc_core.specs.declared.parts.Parts.{Parts}
+use Rattle.qc_core.specs.Whole.{IsSomewhereSound}
+use Rattle.qc_serve.specs.declared.connecting.Receipt.{Receipt}
+use Rattle.qc_run.specs.declared.script.Ran.{Ran}
+use Rattle.qc_run.specs.Ran.{AreTaken, MayRun}
+use Rattle.qc_app.specs.declared.arguments.reading.Asked.{Asked}
+use Rattle.qc_app.specs.declared.top.Ended.{Ended}
+use Rattle.qc_app.specs.Arguments.{asked_of, options_asked}
 use Rattle.qc_app.specs.Reading.{ReadsEnough}
-use Rattle.qc_app.specs.Top.{ReadsAll, RefusesInput, TellsRefusal, IsRunOf}
+use Rattle.qc_app.specs.Top.{AreShown, IsBacked, IsShown, LeavesRun, ReadsAll, RefusesInput, Spells, TellsInput}
+use Rattle.qc_app.proofs.Rounding.{options_are_rounded}
 
 -- ---- the words
 
-pub words_given : {E : Type 0} (r : Result (Option Options) E) (given : Option Options) (o : Options) (meant : Option Options) → r ≡ Ok given → given ≡ Some o
-    → IfOk r (λ x. x ≡ meant) → meant ≡ Some o
-words_given {E} r given o meant is some h = sym (subst (λ (q : Result (Option Options) E). IfOk q (λ x. x ≡ meant)) is h) ∙ some
+pub words_given : {E : Type 0} (r : Result (Option Asked) E) (given : Option Asked) (a : Option Asked) (meant : Option Asked) → r ≡ Ok given → given ≡ a
+    → IfOk r (λ x. x ≡ meant) → meant ≡ a
+words_given {E} r given a meant is some h = sym (subst (λ (q : Result (Option Asked) E). IfOk q (λ x. x ≡ meant)) is h) ∙ some
 
--- they are rounded, and in their ranges
-pub words_are_taken : (words : List (List ℕ)) (o : Options) → options_of words ≡ Some o → AreTaken o
-words_are_taken words o e =
-    let r = options_are_rounded words o e in
+-- the options are rounded, and in their ranges
+pub words_are_taken : (words : List (List ℕ)) (a : Asked) → asked_of words ≡ Some a → AreTaken (options_asked a)
+words_are_taken words a e =
+    let r = options_are_rounded words a e in
     record { size = r.size; size_most = r.size_most; unit = r.unit; unit_least = r.unit_least; unit_most = r.unit_most }
+
+-- ---- the workload's script
+
+pub workload_may_run : (number : ℕ) (script : Script) → script ≡ workload_script number → MayRun script
+unfolding workload_script
+workload_may_run number script is = record { few = subst (λ (s : Script). length s.sessions ≤ 64) (sym is) (omega arith) }
 
 -- ---- a script that is too long
 
@@ -61,30 +74,18 @@ refusal_is (Some left) now bytes r (inl h) e = subst (λ (b : List ℕ). script_
 refusal_is (Some left) now bytes r (inr h) e = too_long left (long_front left bytes h.0 h.1) ∙ sym (too_long bytes h.0) ∙ e
 
 -- a refused script isn't told to be taken
-pub not_taken : {P : Type 0} (before now : Option (List ℕ)) (bytes : List ℕ) (r : ScriptRefusal) → ReadsEnough before now bytes → script_of bytes ≡ Err r → TellsRefusal before false → P
+pub not_taken : {P : Type 0} (before now : Option (List ℕ)) (bytes : List ℕ) (r : ScriptRefusal) → ReadsEnough before now bytes → script_of bytes ≡ Err r → TellsInput before false → P
 not_taken None now bytes r h e t = absurd t
 not_taken (Some left) now bytes r h e t = absurd (true≢false (sym t ∙ ap is_ok (refusal_is (Some left) now bytes r h e)))
 
--- a script that is taken isn't told to be refused
-pub not_refused : {P : Type 0} (before now : Option (List ℕ)) (bytes : List ℕ) (s : Script) → ReadsEnough before now bytes → script_of bytes ≡ Ok s → TellsRefusal before true → P
-not_refused None now bytes s h e t = absurd t
-not_refused (Some left) now bytes s h e t =
-    absurd (true≢false (sym (ap is_ok (subst (λ (b : List ℕ). script_of b ≡ Ok s) (sym (all_read (Some left) now bytes s h e).0) e)) ∙ t))
+-- a script that is spelled isn't told to be refused
+pub spelled_not_refused : {P : Type 0} (before now : Option (List ℕ)) (script : Script) → Spells before now script → TellsInput before true → P
+spelled_not_refused None now script spells tells = absurd tells
+spelled_not_refused (Some left) now script spells tells =
+    absurd (true≢false (sym (ap is_ok (subst (λ (b : List ℕ). script_of b ≡ Ok script) (sym spells.read.0) spells.means)) ∙ tells))
 
--- ---- the run
-
-pub run_is : (words : List (List ℕ)) (before now : Option (List ℕ)) (bytes : List ℕ) (s : Script) (o : Options) (report : Report)
-    → ReadsEnough before now bytes → script_of bytes ≡ Ok s → options_of words ≡ Some o → IsReportOf s o report → IsRunOf words before now report
-run_is words before now bytes s o report h e chosen agrees =
-    record {
-      bytes = bytes;
-      script = s;
-      options = o;
-      read = all_read before now bytes s h e;
-      means = e;
-      chosen = chosen;
-      agrees = agrees;
-    }
+pub input_spells : (before now : Option (List ℕ)) (bytes : List ℕ) (script : Script) → ReadsEnough before now bytes → script_of bytes ≡ Ok script → Spells before now script
+input_spells before now bytes script read means = record { bytes = bytes; read = all_read before now bytes script read means; means = means }
 
 -- what a call gave
 pub given_refusal : {X E : Type 0} (r : Result X (Or E)) (o : Or E) (e : E) (meant : Result X E) → r ≡ Err o → o ≡ or.Other e → Gives (λ x. x) (λ x. x) r meant → meant ≡ Err e
@@ -93,6 +94,19 @@ given_refusal {X} {E} r o e meant a b h = subst (λ (q : Result X (Or E)). Gives
 pub given : {X E : Type 0} (r : Result X (Or E)) (x : X) (meant : Result X E) → r ≡ Ok x → Gives (λ x. x) (λ x. x) r meant → meant ≡ Ok x
 given {X} {E} r x meant a h = subst (λ (q : Result X (Or E)). Gives (λ x. x) (λ x. x) q meant) a h
 
-pub if_some : {X : Type 0} (P Q : X → Type 0) → ((x : X) → P x → Q x) → (o : Option X) → IfSome o P → IfSome o Q
-if_some P Q f (Some x) h = f x h
-if_some P Q f None h = tt
+-- ---- what it leaves
+
+-- a sound server has the database of its journal
+pub sound_database : (s : Parts) → IsSomewhereSound s → s.database ≡ present s.journal.events
+sound_database s sound = sound.1.1.sound.journal.database
+
+pub left_report : (ran : Ran) (e : Ended) (P : Report → Type 0) → LeavesRun ran e → P ran.report → IfSome e.report P
+left_report ran e P (inl (report, server, receipts)) h = subst (λ (o : Option Report). IfSome o P) (sym report) h
+left_report ran e P (inr (report, server, receipts)) h = subst (λ (o : Option Report). IfSome o P) (sym report) tt
+
+shown_by : (e : Ended) (r : Option Report) (s : Option Parts) (q : Option (List Receipt)) → e.report ≡ r → e.server ≡ s → e.receipts ≡ q → AreShown r s q → IsShown e
+shown_by e r s q report server receipts h = subst (λ (p : Option Report × Option Parts × Option (List Receipt)). AreShown p.0 p.1 p.2) (λ i. (sym report i, sym server i, sym receipts i)) h
+
+pub left_shown : (ran : Ran) (e : Ended) → LeavesRun ran e → IsBacked ran.server ran.receipts ran.report → IsShown e
+left_shown ran e (inl (report, server, receipts)) backed = shown_by e (Some ran.report) (Some ran.server) (Some ran.receipts) report server receipts backed
+left_shown ran e (inr (report, server, receipts)) backed = shown_by e None None None report server receipts tt

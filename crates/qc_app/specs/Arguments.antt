@@ -6,6 +6,8 @@ use Rattle.std.specs.Str.Parse.{digits_value}
 use Rattle.clap.specs.Words.{App, Row, Rule, Text, first_of, matches_of, new_app, new_rule, takes, with_rule}
 use Rattle.clap.specs.declared.builder.action.ArgAction.TheVariants.{Set}
 use Rattle.qc_types.specs.declared.options.Options.{Options}
+use Rattle.qc_app.specs.declared.arguments.reading.Asked.{Asked}
+use Rattle.qc_app.specs.declared.arguments.reading.Asked.TheVariants as ask
 
 -- an option that sets one value and isn't required
 abbrev pub option_rule : Text → Rule
@@ -55,7 +57,23 @@ abbrev pub begins_with_run : List Text → Bool
 begins_with_run [] = false
 begins_with_run (first ∷ rest) = bytes_eq first (codes "run")
 
--- the options of the words behind the program's name, or none where these aren't in the form
-abbrev pub options_of : List Text → Option Options
-options_of [] = None
-options_of (first ∷ rest) = if bytes_eq first (codes "run") then run_options (first ∷ rest) else None
+-- the number of words that begin with `workload`, where one word more is there, with a number below 2^32
+abbrev pub workload_number : List Text → Option ℕ
+workload_number (first ∷ number ∷ []) = number_in 0 4294967295 number
+workload_number _ = None
+
+-- what the words behind the program's name ask for, or nothing where these aren't in the form
+abbrev pub asked_of : List Text → Option Asked
+asked_of [] = None
+asked_of (first ∷ rest) =
+    if bytes_eq first (codes "run") then option_map ask.Run (run_options (first ∷ rest)) else
+    if bytes_eq first (codes "workload") then option_map ask.Workload (workload_number (first ∷ rest)) else None
+
+-- the options without any words
+abbrev pub default_options : Options
+default_options = record { size = 1048576; limit = 1048576; unit = 4096; kind = 1 }
+
+-- the options of what is asked for
+abbrev pub options_asked : Asked → Options
+options_asked (ask.Run options) = options
+options_asked (ask.Workload number) = default_options

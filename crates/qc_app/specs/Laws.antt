@@ -2,7 +2,8 @@
 use Rattle.std.specs.Prelude.{◌≡◌, ◌≤◌, ◌⊎◌, ◌%◌, List, Some}
 use Rattle.clap.specs.Words.{Text}
 use Rattle.qc_types.specs.declared.options.Options.{Options}
-use Rattle.qc_app.specs.Arguments.{options_of}
+use Rattle.qc_app.specs.declared.arguments.reading.Asked.{Asked}
+use Rattle.qc_app.specs.Arguments.{asked_of, options_asked}
 
 -- rounded, and in their ranges
 pub record AreRounded (options : Options) : Type 0 where
@@ -16,6 +17,6 @@ pub record AreRounded (options : Options) : Type 0 where
   -- there is no memory, or 1024 bytes at least
   pub room : (options.size ≡ 0) ⊎ (1024 ≤ options.size)
 
--- The options of words are rounded and in their ranges.
+-- The options of what words ask for are rounded and in their ranges.
 abbrev pub AreRoundedOptions : Type 0
-AreRoundedOptions = (words : List Text) (options : Options) → options_of words ≡ Some options → AreRounded options
+AreRoundedOptions = (words : List Text) (asked : Asked) → asked_of words ≡ Some asked → AreRounded (options_asked asked)

@@ -1,4 +1,4 @@
-//! The words of the command line, as `clap` reads them.
+//! The words of the command line. `clap` reads those of `run`.
 
 mod command;
 mod laws;
@@ -6,4 +6,4 @@ mod numbers;
 mod reading;
 
 pub use laws::options_are_rounded;
-pub use reading::read_words;
+pub use reading::{Asked, read_words};

@@ -3,9 +3,9 @@
 
 use qc_app::{Ended, StdSink, StdSource, qcache_main};
 use qc_serve::Ungated;
-use std::env;
 use std::io::{self, ErrorKind};
 use std::process::ExitCode;
+use std::{env, mem};
 
 fn main(rt: HostRuntime) -> ExitCode {
     let mut input = StdSource::new(rt.reader());
@@ -16,7 +16,10 @@ fn main(rt: HostRuntime) -> ExitCode {
     };
     // Whether the standard error takes the message changes nothing of how the run ended.
     let _told = tell(&rt, &ended);
-    ExitCode::from(ended.status)
+    let status = ended.status;
+    // The memory goes back with the process, which ends here, and not value by value.
+    mem::forget(ended);
+    ExitCode::from(status)
 }
 
 /// Words that aren't UTF-8 are in no form; or memory was wanting for them.
@@ -29,6 +32,8 @@ fn without_words(error: &io::Error) -> Ended {
         },
         report: None,
         bad: None,
+        server: None,
+        receipts: None,
     }
 }
 

@@ -3,7 +3,7 @@
 ghost use Rattle.std.specs.Prelude.{◌≡◌, true, IfOk, OnErr, map, string_bytes};
 ghost use Rattle.clap.specs.Words.{found_of, rows_of};
 ghost use Rattle.qc_app.specs.Arguments as meant;
-ghost use Rattle.qc_app.specs.Arguments.{begins_with_run, options_of};
+ghost use Rattle.qc_app.specs.Arguments.{asked_of, begins_with_run, options_asked};
 
 use super::command::run_command;
 use super::numbers::number_in;
@@ -29,20 +29,59 @@ const DEFAULT_TYPE: u32 = 1;
 
 const MOST_TYPE: u32 = 2;
 
-/// The options that the words behind the program's name ask for, or none where these aren't in the form, which is `run` and then what
-/// `clap` takes for `--size`, `--limit`, `--unit` and `--type`, each with a number in its range. Of words that don't begin with `run` no memory is asked for.
-/// Linear in the words.
-pub fn read_words(alloc: Global, words: &[String]) -> Result<Option<Options>, NoMemory>
-    ensures options { IfOk result (λ options. options ≡ options_of (map string_bytes words.now)) }
+/// What the words ask for.
+#[derive(Clone, Copy, Debug, PartialEq, Eq)]
+pub enum Asked {
+    /// `run`: the script of the input, with these options.
+    Run(Options),
+    /// `workload`: the script of the workload with this number, with the default options.
+    Workload(u32),
+}
+
+impl Asked {
+    /// The options of its run.
+    pub(crate) fn options(self) -> Options
+        ensures { result ≡ options_asked self }
+    {
+        match self {
+            Asked::Run(options) => options,
+            Asked::Workload(_) => Options {
+                size: DEFAULT_BYTES,
+                limit: DEFAULT_BYTES,
+                unit: DEFAULT_UNIT,
+                kind: DEFAULT_TYPE as u8,
+            },
+        }
+    }
+}
+
+/// What the words behind the program's name ask for, or nothing where these aren't in the form. This is `run` and then what `clap` takes for `--size`,
+/// `--limit`, `--unit` and `--type`, each with a number in its range; or `workload` and one word of 1 to 10 digits, whose number is below 2^32. Of words that
+/// don't begin with `run` no memory is asked for. Linear in the words.
+pub fn read_words(alloc: Global, words: &[String]) -> Result<Option<Asked>, NoMemory>
+    ensures asked { IfOk result (λ asked. asked ≡ asked_of (map string_bytes words.now)) }
     ensures memory { OnErr result (begins_with_run (map string_bytes words.now) ≡ true) }
 {
     match words.first() {
-        Some(first) if first.as_str() == "run" => read_run(alloc, words),
+        Some(first) if first.as_str() == "run" => Ok(read_run(alloc, words)?.map(Asked::Run)),
+        Some(first) if first.as_str() == "workload" => {
+            Ok(workload_number(words).map(Asked::Workload))
+        }
         _ => Ok(None),
     }
 }
 
-/// The same of words that begin with `run`, which `clap` takes for the program's name.
+/// The number of words that begin with `workload`, where one word more is there, with a number in the range.
+fn workload_number(words: &[String]) -> Option<u32>
+    ensures { result ≡ meant.workload_number (map string_bytes words.now) }
+{
+    match words {
+        [_, number] => number_in(0, u32::MAX, number.as_str()),
+        _ => None,
+    }
+}
+
+/// The options of words that begin with `run`, which `clap` takes for the program's name.
 fn read_run(alloc: Global, words: &[String]) -> Result<Option<Options>, NoMemory>
     ensures { IfOk result (λ options. options ≡ meant.run_options (map string_bytes words.now)) }
 {
