@@ -1,9 +1,10 @@
-//! Words, each with the options that they ask for.
+//! Words, each with what they ask for.
 
 use crate::told::{must, same};
-use qc_app::read_words;
+use qc_app::{Asked, read_words};
 use qc_types::{NoMemory, Options};
 use std::alloc::{AllocError, Global};
+use std::process::Abort;
 
 /// Lines of words with one space between them, each with the size, limit, unit and type that they ask for.
 const TAKEN: [(&str, &str); 29] = [
@@ -41,8 +42,19 @@ const TAKEN: [(&str, &str); 29] = [
     ("run --size 0 --", "0 1048576 4096 1"),
 ];
 
+/// Lines of words that ask for a workload, each with its number.
+const WORKLOADS: [(&str, &str); 7] = [
+    ("workload 1", "workload 1"),
+    ("workload 0", "workload 0"),
+    ("workload 12345", "workload 12345"),
+    ("workload 4294967295", "workload 4294967295"),
+    ("workload 0000000007", "workload 7"),
+    ("workload 0000000000", "workload 0"),
+    ("workload 07", "workload 7"),
+];
+
 /// Lines of words that aren't in the form.
-const REFUSED: [&str; 71] = [
+const REFUSED: [&str; 102] = [
     "",
     " run",
     "run ",
@@ -112,7 +124,38 @@ const REFUSED: [&str; 71] = [
     "-h",
     "--version",
     "workload",
-    "workload 1",
+    "workload ",
+    "workload  1",
+    " workload 1",
+    "workload 4294967296",
+    "workload 9999999999",
+    "workload 00000000007",
+    "workload 04294967295",
+    "workload +1",
+    "workload -1",
+    "workload x",
+    "workload 1x",
+    "workload 1.0",
+    "workload 0x1",
+    "workload 1_0",
+    "workload ٣",
+    "workload 1 2",
+    "workload 1 1",
+    "workload 1 --size 0",
+    "workload --size 0",
+    "workload --size 0 1",
+    "workload --",
+    "workload -- 1",
+    "workload 1 --",
+    "workload --help",
+    "workload run",
+    "workload=1",
+    "Workload 1",
+    "WORKLOAD 1",
+    "workloads 1",
+    "work 1",
+    "1 workload",
+    "run workload 1",
     "qcache run",
 ];
 
@@ -128,23 +171,37 @@ fn words(alloc: Global, line: &str) -> Result<Vec<String>, AllocError> {
 fn told(alloc: Global, words: &[String]) -> Result<String, NoMemory> {
     match read_words(alloc, words)? {
         Some(
-            Options {
-                size,
-                limit,
-                unit,
-                kind,
-            },
+            Asked::Run(
+                Options {
+                    size,
+                    limit,
+                    unit,
+                    kind,
+                },
+            ),
         ) => { Ok(format!(in alloc; "{size} {limit} {unit} {kind}")?) }
+        Some(Asked::Workload(number)) => Ok(format!(in alloc; "workload {number}")?),
         None => Ok(String::from_str(alloc, "refused")?),
     }
 }
 
+/// Asserts that the words of a line ask for this.
+fn ask_for(rt: &impl Abort, alloc: Global, line: &str, shown: &str) {
+    let words = must(rt, words(alloc, line));
+    assert_eq!(rt; must(rt, told(alloc, &words)).as_str(), shown, "at {line}");
+}
+
 #[test]
 fn words_in_the_form(rt: HostRuntime) {
-    let alloc = rt.alloc();
     for (line, shown) in TAKEN {
-        let words = must(&rt, words(alloc, line));
-        assert_eq!(rt; must(&rt, told(alloc, &words)).as_str(), shown, "at {line}");
+        ask_for(&rt, rt.alloc(), line, shown);
+    }
+}
+
+#[test]
+fn words_of_a_workload(rt: HostRuntime) {
+    for (line, shown) in WORKLOADS {
+        ask_for(&rt, rt.alloc(), line, shown);
     }
 }
 

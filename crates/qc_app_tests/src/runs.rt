@@ -12,6 +12,7 @@ mod setup;
 mod streams;
 mod taken;
 mod whole;
+mod workload;
 
 ghost use Rattle.std.specs.Prelude.{◌<◌};
 
@@ -97,6 +98,8 @@ fn report_of(ended: Ended) -> Option<Report> {
         status: _,
         report,
         bad: _,
+        server: _,
+        receipts: _,
     } = ended;
     report
 }
@@ -107,6 +110,8 @@ fn refusal_of(ended: Ended) -> Option<ScriptRefusal> {
         status: _,
         report: _,
         bad,
+        server: _,
+        receipts: _,
     } = ended;
     bad
 }

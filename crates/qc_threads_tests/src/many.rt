@@ -2,7 +2,7 @@
 
 use crate::runs::{must, run, same};
 use qc_app::{Ended, Ending, Event, Report, SessionReport, Word};
-use qc_serve::Ungated;
+use qc_serve::{Receipt, Ungated};
 use std::alloc::{AllocError, Global};
 use std::process::Abort;
 
@@ -19,15 +19,21 @@ fn script(alloc: Global) -> Result<String, AllocError> {
     Ok(script)
 }
 
-/// Asserts that a session was answered its command. The place of its event.
-fn place_of(rt: &impl Abort, session: &SessionReport, number: u8) -> u64 {
+/// Asserts that a session was answered its command, and that its receipt says so too. The place of its event.
+fn place_of(rt: &impl Abort, session: &SessionReport, receipt: &Receipt, number: u8) -> u64 {
     same(rt, session.session, number);
+    same(rt, receipt.session(), number);
     assert_eq!(rt; session.ending, Ending::Input);
     let [line] = session.lines.items() else {
         panic!(rt; "another number of lines");
     };
+    let [logged] = receipt.log().lines() else {
+        panic!(rt; "another number of lines in the receipt");
+    };
     assert_eq!(rt; line.how, Word::Other);
     assert_eq!(rt; line.reply.bytes(), MADE);
+    assert_eq!(rt; logged.how, line.how);
+    same(rt, logged.place, line.place);
     line.place
 }
 
@@ -42,15 +48,16 @@ fn is_commit_of(rt: &impl Abort, report: &Report, place: u64, number: u8) {
     same(rt, who.number, 1u64);
 }
 
-/// Asserts that there are 64 sessions, in their order, each with its event.
-fn are_all_there(rt: &impl Abort, report: &Report) {
+/// Asserts that there are 64 sessions, in their order, each with its receipt and its event.
+fn are_all_there(rt: &impl Abort, report: &Report, receipts: &[Receipt]) {
     let sessions = report.sessions.items();
     same(rt, sessions.len(), 64usize);
+    same(rt, receipts.len(), 64usize);
     same(rt, report.journal.items().len(), 64usize);
     let mut number = 0u8;
-    for session in sessions {
+    for (session, receipt) in sessions.iter().zip(receipts) {
         number = number.wrapping_add(1);
-        let place = place_of(rt, session, number);
+        let place = place_of(rt, session, receipt, number);
         is_commit_of(rt, report, place, number);
     }
 }
@@ -64,10 +71,15 @@ fn sixty_four_sessions(rt: HostRuntime) {
         status,
         report,
         bad: _,
+        server: _,
+        receipts,
     } = ended;
     same(&rt, status, 0u8);
     let Some(report) = report else {
         panic!(rt; "no report");
     };
-    are_all_there(&rt, &report);
+    let Some(receipts) = receipts else {
+        panic!(rt; "no receipts");
+    };
+    are_all_there(&rt, &report, receipts.items());
 }

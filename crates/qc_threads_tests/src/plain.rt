@@ -158,6 +158,8 @@ fn two_sessions_behind_the_setup_part(rt: HostRuntime) {
         status,
         report,
         bad: _,
+        server: _,
+        receipts: _,
     } = ended;
     same(&rt, status, 0u8);
     let text = String::from_utf8_lossy(rt.alloc(), out.bytes());

@@ -57,4 +57,6 @@ pub fn has_report(rt: &impl Abort, run: Result<(Ended, BytesSink), AllocError>, 
     let (ended, out) = must(rt, run);
     same(rt, ended.status, 0u8);
     same(rt, out.bytes(), report.as_bytes());
+    assert!(rt; ended.server.is_some(), "no server");
+    assert!(rt; ended.receipts.is_some(), "no receipts");
 }

@@ -17,6 +17,8 @@ fn message_is(
         status,
         report: None,
         bad,
+        server: None,
+        receipts: None,
     };
     let told = must(rt, ended.to_string(alloc));
     same(rt, told.as_str(), wanted);

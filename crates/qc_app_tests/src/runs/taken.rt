@@ -56,7 +56,7 @@ fn words_of_the_command_line(rt: HostRuntime) {
 #[test]
 fn words_in_no_form(rt: HostRuntime) {
     let alloc = rt.alloc();
-    let rows: [&str; 19] = [
+    let rows: [&str; 23] = [
         "",
         "Run --size 0",
         "--size 0",
@@ -76,6 +76,10 @@ fn words_in_no_form(rt: HostRuntime) {
         "run --version",
         "--help",
         "--version",
+        "workload",
+        "workload x",
+        "workload 4294967296",
+        "workload 1 2",
     ];
     for line in rows {
         let mut input = must(&rt, source(alloc, plain::FIRST_ROW.as_bytes(), 100, &[1]));
