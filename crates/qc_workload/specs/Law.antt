@@ -1,5 +1,5 @@
 -- The laws of the workload: what its tables hold at each moment, on every schedule, and what its reports come to.
-use Rattle.std.specs.Prelude.{◌≡◌, ℕ, ◌+◌, ◌-◌, ◌*◌, ◌<◌, ◌≤◌, List, [], ◌∷◌, ◌++◌, map, count_by}
+use Rattle.std.specs.Prelude.{◌≡◌, ℕ, ◌+◌, ◌-◌, ◌*◌, ◌<◌, ◌≤◌, List, [], ◌∷◌, ◌++◌, ◌||◌, map, count_by}
 use Rattle.std.specs.List.{AllByRecursion, flat_map}
 use Rattle.qc_types.specs.declared.options.Options.{Options}
 use Rattle.qc_sql.specs.Database.{MapOf}
@@ -11,7 +11,6 @@ use Rattle.qc_model.specs.Agrees.{Agrees, whole_machine}
 use Rattle.qc_script.specs.WorkloadScript.{before_session, workload_script}
 use Rattle.qc_workload.specs.Tables.{database}
 use Rattle.qc_workload.specs.Counts.{is_commit, HasCounts}
-use Rattle.std.specs.Prelude.{◌||◌}
 
 -- what a session's draws have made of its rows after so many of its events, of which the first is `init`
 abbrev pub tally_after : ℕ → ℕ → ℕ → Tally
