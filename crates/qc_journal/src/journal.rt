@@ -81,7 +81,8 @@ impl Journal {
         number
     }
 
-    /// The events once more, in their order. Fails where memory runs out. Linear in what they hold.
+    /// The events once more, in their order. Fails where memory runs out. Linear in their number and in what they hold, but for the operations of commits, which
+    /// are shared.
     pub fn events(&self) -> Result<Events, NoMemory>
         ensures { IfOk result (λ events. events ≡ self.now.events) }
     {

@@ -1,10 +1,8 @@
-//! Events once more, in memory of their own.
+//! Events once more. What commits carried out is shared, since it may be long; all else has memory of its own.
 
 ghost use Rattle.std.specs.Prelude.{◌≡◌, IfOk};
 
 use qc_model::events::{Event, How, Reason};
-use qc_sql::tables::RowOp;
-use qc_table::copy_of_columns;
 use qc_types::{Duplicate, NoMemory, OwnedList};
 use std::alloc::Global;
 
@@ -31,22 +29,6 @@ pub fn copy_of_reason(alloc: Global, reason: &Reason) -> Result<Reason, NoMemory
     ensures { IfOk result (λ copy. copy ≡ reason.now) }
 {
     reason.replicate(alloc)
-}
-
-impl Replicate for RowOp {
-    fn replicate(&self, alloc: Global) -> Result<RowOp, NoMemory> {
-        match self {
-            RowOp::Put(table, row) => Ok(RowOp::Put(table.duplicate(alloc)?, row.copy(alloc)?)),
-            RowOp::Del(table, key) => Ok(RowOp::Del(table.duplicate(alloc)?, *key)),
-            RowOp::CreateTable(table, columns) => Ok(RowOp::CreateTable(
-                table.duplicate(alloc)?,
-                copy_of_columns(alloc, columns)?,
-            )),
-            RowOp::DropTable(table) => Ok(RowOp::DropTable(table.duplicate(alloc)?)),
-            RowOp::CreateDb(name) => Ok(RowOp::CreateDb(name.copy(alloc)?)),
-            RowOp::DropDb(name) => Ok(RowOp::DropDb(name.copy(alloc)?)),
-        }
-    }
 }
 
 impl Replicate for Reason {
@@ -109,7 +91,7 @@ impl Replicate for Event {
             }),
             Event::Commit { who, ops } => Ok(Event::Commit {
                 who: *who,
-                ops: replicas(alloc, ops.items())?,
+                ops: ops.share()?,
             }),
             Event::Done { serial } => Ok(Event::Done { serial: *serial }),
             Event::Gone { serial, why } => Ok(Event::Gone {

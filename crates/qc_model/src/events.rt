@@ -1,6 +1,6 @@
 //! Events of the journal.
 
-use qc_sql::tables::Ops;
+use crate::shared_ops::SharedOps;
 use qc_types::{OwnedList, TableName, Tables, Text, Totals, Why};
 
 /// A session, and the number of its deciding event.
@@ -87,7 +87,7 @@ pub enum Event {
     /// Changes of a session became part of the database.
     Commit {
         who: Who,
-        ops: Ops,
+        ops: SharedOps,
     },
     /// An entry was completed.
     Done {

@@ -3,3 +3,4 @@
 
 pub mod events;
 pub mod reports;
+pub mod shared_ops;
