@@ -185,7 +185,7 @@ put_sound t row sound fits =
     let is : with_changes t one ≡ with_row row t = ap (table t.columns) (one_more key (Some row) t.rows [] sound.ordered rises_none) in
     subst IsSoundTable is (merged_sound t one sound ((fits, refl), tt) (rises_one key))
 
-rows_sound : (t : Table) (new : List (List Value)) → IsSoundTable t → list_all (row_fits t.columns) new ≡ true → IsSoundTable (with_rows new t)
+pub rows_sound : (t : Table) (new : List (List Value)) → IsSoundTable t → list_all (row_fits t.columns) new ≡ true → IsSoundTable (with_rows new t)
 rows_sound t [] sound fits = sound
 rows_sound t (row ∷ new) sound fits = let each = both _ _ fits in rows_sound (with_row row t) new (put_sound t row sound each.0) each.1
 
@@ -215,7 +215,7 @@ row_taken columns n cs row store fits = (
   λ j c is. taken_by columns n c j row (kind_at columns j) refl (store.1 j c is) fits,
 )
 
-fits_at : (columns : List Column) (new : List (List Value)) (i : ℕ) → list_all (row_fits columns) new ≡ true → i < length new → row_fits columns (put_at new i) ≡ true
+pub fits_at : (columns : List Column) (new : List (List Value)) (i : ℕ) → list_all (row_fits columns) new ≡ true → i < length new → row_fits columns (put_at new i) ≡ true
 fits_at columns [] i fits low = absurd (omega arith)
 fits_at columns (row ∷ new) zero fits low = (both _ _ fits).0
 fits_at columns (row ∷ new) (suc i) fits low = fits_at columns new i (both _ _ fits).1 (omega arith)

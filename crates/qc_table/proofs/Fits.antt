@@ -1,10 +1,11 @@
 -- A database that fits is within rows.
-use Rattle.std.proofs.Common.{◌≡◌, true, false, [], ◌∷◌, length, refl, arith, Option, Some, None}
-use Rattle.std.specs.Prelude.{◌&&◌, Ok, nat_le, nat_lt}
+use Rattle.std.proofs.Common.{◌≡◌, true, false, List, [], ◌∷◌, length, refl, ap, sym, arith, Option, Some, None}
+use Rattle.std.specs.Prelude.{◌&&◌, ◌==◌, Ok, nat_le, nat_lt}
 use Rattle.std.proofs.lemmas.Bool.Decides.{nat_tests}
 use Rattle.std.specs.List.{list_all}
 use Rattle.qc_types.specs.declared.names.TableName.{TableName}
-use Rattle.qc_sql.specs.Database.{Name, Database, Tables, most_rows}
+use Rattle.qc_sql.specs.declared.tables.RowOp.{RowOp}
+use Rattle.qc_sql.specs.Database.{Name, Database, Tables, apply, most_rows}
 use Rattle.qc_sql.specs.Words.{◌or_else◌, when}
 use Rattle.qc_model.specs.Licence.{is_within_rows}
 use Rattle.qc_model.specs.Machine.{full_in, full_table}
@@ -52,3 +53,11 @@ unless_ok (Some t) d x is = absurd cc
 
 pub fitted : (d x : Database) → fitting d ≡ Ok x → (full_table d ≡ None) × (x ≡ d)
 fitted d x is = unless_ok (full_table d) d x is
+
+is_zero : (n : _) → (n == 0) ≡ true → n ≡ 0
+is_zero n h = grind (arith, nat_tests)
+
+-- no operation leaves a database within rows as it is
+pub none_made : (ops : List RowOp) (d x : Database) → (length ops == 0) ≡ true → x ≡ d → is_within_rows d ≡ true → fitting (apply ops d) ≡ Ok x
+none_made [] d x none same within = rw (none_full d within) (ap Ok (sym same))
+none_made (o ∷ ops) d x none same within = absurd (omega (arith, is_zero (length (o ∷ ops)) none))

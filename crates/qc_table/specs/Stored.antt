@@ -1,12 +1,12 @@
 -- A table as it is stored: its keys, and its columns.
-use Rattle.std.specs.Prelude.{◌≡◌, ℕ, ℤ, Bool, true, false, List, [], ◌++◌, ◌<◌, map, length, sum_by, Option, Some, None, slice_index_or, slice_set}
+use Rattle.std.specs.Prelude.{◌≡◌, ℕ, ℤ, Bool, true, false, List, [], ◌∷◌, ◌++◌, ◌<◌, map, length, sum_by, Option, Some, None, slice_index_or, slice_set}
 use Rattle.std.specs.List.{slice_get, range_with_len}
 use Rattle.std.specs.Prelude.{zip}
 use Rattle.qc_types.specs.declared.names.Value.{Value}
 use Rattle.qc_types.specs.declared.names.Value.TheVariants as value
 use Rattle.qc_sql.specs.declared.tables.Column.{Column}
 use Rattle.qc_sql.specs.declared.tables.Kind.{Kind}
-use Rattle.qc_sql.specs.Database.{MapOf, is_int}
+use Rattle.qc_sql.specs.Database.{MapOf, is_int, key_of}
 use Rattle.qc_table.specs.declared.cells.Cells.{Cells}
 use Rattle.qc_table.specs.declared.cells.Cells.TheVariants as cells
 use Rattle.qc_table.specs.Columns.{ints_of, text_length, texts_of, HasIntRoom, HasTextRoom, IsInts, IsTexts}
@@ -108,9 +108,35 @@ HaveAt i cs = (j : ℕ) (c : Cells) → slice_get cs j ≡ Some c → i < length
 abbrev pub CanPutRow : ℕ → List Value → List Cells → Type 0
 CanPutRow i row cs = (j : ℕ) (c : Cells) → slice_get cs j ≡ Some c → CanPut i (value_at row j) c
 
+-- columns in which a row that they take may come in the place of the one at an index
+pub record IsReplaced (i : ℕ) (row : List Value) (cs : List Cells) : Type 0 where
+  pub takes : TakeRow row cs
+  pub there : HaveAt i cs
+  pub fits : CanPutRow i row cs
+
+-- the place of the row at an index
+abbrev pub place_at : List ℕ → ℕ → ℕ
+place_at places k = slice_index_or places k 0
+
+-- columns in which each row may come in its place
+pub record AreReplaced (places : List ℕ) (rows : List (List Value)) (cs : List Cells) : Type 0 where
+  pub count : length places ≡ length rows
+  pub ready : (j : ℕ) (c : Cells) → slice_get cs j ≡ Some c → IsCells c
+  pub each : (k : ℕ) → k < length rows → IsReplaced (place_at places k) (put_at rows k) cs
+
+-- each row's place has its key
+abbrev pub HaveKeys : List Column → List ℤ → List ℕ → List (List Value) → Type 0
+HaveKeys columns keys places rows = (k : ℕ) → k < length rows → slice_get keys (place_at places k) ≡ Some (key_of columns (put_at rows k))
+
 -- a value in the place of the one at an index
 abbrev pub with_one : ℕ → Value → List Value → List Value
 with_one i v vs = slice_set vs i v
+
+-- values in their places, the first of them put first
+abbrev pub with_values : List ℕ → List Value → List Value → List Value
+with_values [] vs ws = ws
+with_values (i ∷ places) [] ws = ws
+with_values (i ∷ places) (v ∷ vs) ws = with_values places vs (with_one i v ws)
 
 -- more values
 abbrev pub and_more : List Value → List Value → List Value

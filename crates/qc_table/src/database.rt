@@ -105,11 +105,15 @@ impl Database {
     }
 
     /// What the operations make of it, the first of them first, or the first table that has too many rows then. Either way this database stays as it is.
-    /// Fails where memory runs out, too. Costs k log k for k operations and tables, and what the tables hold that are touched.
+    /// Fails where memory runs out, too. Costs k log k for k operations and tables, and what the tables hold that are touched. With no operation it is this
+    /// database, shared: constant time.
     pub fn apply(&self, alloc: Global, ops: &Ops) -> Result<Database, Or<TableFull>>
         requires { ops_fit ops.now self.now ≡ true }
         ensures { Gives (λ d. d) (λ full. full.table) result (fitting (apply ops.now self.now)) }
     {
+        if ops.items().is_empty() {
+            return Ok(self.share()?);
+        }
         let databases = self.tables_after(alloc, ops)?;
         Ok(Database {
             databases: Arc::new(alloc, databases)?,
@@ -118,9 +122,10 @@ impl Database {
 
     /// Makes of it what the operations make, the first of them first, or names the first table that would have too many rows; it is as before then, and also
     /// where memory runs out. One operation alone is carried out in place where no other one shares the database: it costs the logarithm of how many databases
-    /// and tables there are, and what the table holds that it touches. Where no other one shares the version of that table either, rows cost less: what they
-    /// hold, over many calls, where all operations put rows into that table whose keys rise above all others, and of one row that replaces another, where no
-    /// VARCHAR changes, what it holds and the logarithm of how many rows there are. Else it costs as much as `apply`, which copies each table that is touched.
+    /// and tables there are, and what the table holds that it touches. Where no other one shares the version of that table either, rows cost less where all
+    /// operations put them into that table: what they hold, over many calls, where their keys rise above all others, and what they hold and the logarithm of
+    /// how many rows there are for each, where all replace others and no VARCHAR changes. Else it costs as much as `apply`, which copies each table that is
+    /// touched.
     /// The copy is shared with no one, so what comes next changes it in place.
     pub fn change(&mut self, alloc: Global, ops: &Ops) -> Result<(), Or<TableFull>>
         requires { ops_fit ops.now self.old ≡ true }

@@ -18,9 +18,10 @@ use std::alloc::Global;
 /// The tables of each database.
 pub(crate) type Databases = NameMap<NameMap<TableVersion>>;
 
-/// Carries out operations: rows that come behind the others of one table, or one operation of any kind. Answers `false`, and leaves all as it was, where they
-/// are others, and where a table would have too many rows. Costs the logarithm of how many databases and tables there are, and what the rows hold over many
-/// calls, or what the table holds that one operation touches.
+/// Carries out operations: rows of one table that all come behind the others or all replace some, or one operation of any kind. Answers `false`, and leaves
+/// all as it was, where they are others, and where a table would have too many rows. Costs the logarithm of how many databases and tables there are, and what
+/// the rows hold over many calls, with the logarithm of how many rows the table has for each that replaces another, or what the table holds that one
+/// operation touches.
 pub(crate) fn carry_out(
     databases: &mut Databases,
     alloc: Global,
@@ -30,7 +31,7 @@ pub(crate) fn carry_out(
     requires within { is_within_rows databases.old ≡ true }
     ensures { AreCarriedOut ops.now databases.old result databases.new }
 {
-    if append(databases, ops)? {
+    if put_rows(databases, alloc, ops)? {
         return Ok(true);
     }
     match ops {
@@ -39,9 +40,10 @@ pub(crate) fn carry_out(
     }
 }
 
-/// Puts rows behind the others of one table. Answers `false`, and leaves all as it was, where the operations are others, where the version of the table is
-/// shared, where the keys don't rise above those that it has, and where it would have too many rows.
-fn append(databases: &mut Databases, ops: &[RowOp]) -> Result<bool, NoMemory>
+/// Puts rows into one table, all behind its others or all in the places of those with their keys. Answers `false`, and leaves all as it was, where the
+/// operations are others, where the version of the table is shared, where the keys neither rise above all others nor stand there all, where a VARCHAR would
+/// change, and where the table would have too many rows.
+fn put_rows(databases: &mut Databases, alloc: Global, ops: &[RowOp]) -> Result<bool, NoMemory>
     requires fits { ops_fit ops.now databases.old ≡ true }
     requires within { is_within_rows databases.old ≡ true }
     ensures { AreCarriedOut ops.now databases.old result databases.new }
@@ -56,7 +58,7 @@ fn append(databases: &mut Databases, ops: &[RowOp]) -> Result<bool, NoMemory>
     let Some(version) = tables.get_mut(table.name.bytes()) else {
         unreachable!()
     };
-    version.append(&puts)
+    version.put_rows(alloc, &puts)
 }
 
 /// Carries out one operation. Answers `false`, and leaves all as it was, where a table would have too many rows. Costs the logarithm of how many databases
@@ -172,15 +174,11 @@ impl TableVersion {
     }
 
     /// Puts a copy of the row, in the place of the one that its key may have. Answers `false`, and leaves all as it was, where there would be too many rows.
-    /// Costs what the row holds, and the logarithm of how many rows there are, where it replaces one of the same texts and no other one shares the version;
-    /// else what all rows hold.
+    /// Linear in what the rows hold.
     fn put(&mut self, alloc: Global, row: &StoredRow) -> Result<bool, NoMemory>
         requires { row_fits self.old.columns row.now ≡ true }
         ensures { IsChanged (with_row row.now self.old) self.old result self.new }
     {
-        if self.replace(row) {
-            return Ok(true);
-        }
         let mut draft = DraftTable::of(alloc, self)?;
         draft.put(alloc, row)?;
         self.become_draft(alloc, &draft)

@@ -5,7 +5,7 @@ ghost use Rattle.std.specs.List.{list_all};
 ghost use Rattle.std.specs.Map.{keys_of};
 ghost use Rattle.std.specs.Vec.{vec_capacity, vec_len};
 ghost use Rattle.qc_sql.specs.declared.tables.Kind.TheVariants as kind;
-ghost use Rattle.qc_sql.specs.Database.{key_of, key_value, is_int, most_rows, with_row};
+ghost use Rattle.qc_sql.specs.Database.{key_of, key_value, is_int, most_rows};
 ghost use Rattle.qc_model.specs.Licence.{columns_fit, row_fits};
 ghost use Rattle.qc_model.specs.Sound.{IsSoundTable};
 ghost use Rattle.qc_table.specs.Changes as changes;
@@ -19,9 +19,10 @@ use crate::cells::Cells;
 use crate::keys::key_of_row;
 use crate::puts::Puts;
 use crate::row_ends::{push_rows, reserve_rows};
-use crate::row_places::{can_put_row, put_row};
-use qc_sql::tables::{Columns, StoredRow};
+use crate::row_places::{places_of, put_rows};
+use qc_sql::tables::Columns;
 use qc_types::NoMemory;
+use std::alloc::Global;
 use std::cmp::Ordering;
 use std::marker::Model;
 
@@ -138,9 +139,22 @@ impl TableRows {
         Cut { end, next: end }
     }
 
+    /// Puts copies of the rows where they stand, all behind the others or all in the places of those with their keys. Answers `false`, and leaves all as it
+    /// was, where neither is possible. Costs what the rows hold over many calls, and the logarithm of how many rows there are for each that it replaces.
+    pub(crate) fn put(&mut self, alloc: Global, puts: &Puts<'_>) -> Result<bool, NoMemory>
+        requires fits { list_all (row_fits self.old.columns) puts.now.rows ≡ true }
+        requires within { length self.old.rows ≤ most_rows }
+        ensures { IsChanged (with_rows puts.now.rows self.old) self.old result self.new }
+    {
+        if self.append(puts)? {
+            return Ok(true);
+        }
+        self.replace(alloc, puts)
+    }
+
     /// Puts copies of the rows behind the others, where they stand, for which all memory is taken before. Answers `false`, and leaves all as it was, where their
     /// keys don't rise above those of the others or there would be too many rows. Costs what the rows hold over many calls.
-    pub(crate) fn append(&mut self, puts: &Puts<'_>) -> Result<bool, NoMemory>
+    fn append(&mut self, puts: &Puts<'_>) -> Result<bool, NoMemory>
         requires fits { list_all (row_fits self.old.columns) puts.now.rows ≡ true }
         requires within { length self.old.rows ≤ most_rows }
         ensures { IsChanged (with_rows puts.now.rows self.old) self.old result self.new }
@@ -158,22 +172,18 @@ impl TableRows {
         Ok(true)
     }
 
-    /// Puts a copy of the row in the place of the one with its key, where it stands. Answers `false`, and leaves all as it was, where there is none, and where
-    /// a VARCHAR would change. Costs the logarithm of how many rows there are, and what the row holds.
-    pub(crate) fn replace(&mut self, row: &StoredRow) -> bool
-        requires fits { row_fits self.old.columns row.now ≡ true }
+    /// Puts copies of the rows in the places of those with their keys, where they stand, the first of them first. Answers `false`, and leaves all as it was,
+    /// where there is none for one of them, and where a VARCHAR would change. Costs the logarithm of how many rows there are for each, and what the rows hold.
+    fn replace(&mut self, alloc: Global, puts: &Puts<'_>) -> Result<bool, NoMemory>
+        requires fits { list_all (row_fits self.old.columns) puts.now.rows ≡ true }
         requires within { length self.old.rows ≤ most_rows }
-        ensures { IsChanged (with_row row.now self.old) self.old (Ok result) self.new }
+        ensures { IsChanged (with_rows puts.now.rows self.old) self.old result self.new }
     {
-        let key = key_of_row(&self.columns, row);
-        let Ok(at) = self.keys.binary_search(&key) else {
-            return false;
+        let Some(places) = places_of(alloc, &self.columns, &self.keys, &self.cells, puts)? else {
+            return Ok(false);
         };
-        if !can_put_row(&self.cells, at, row.items()) {
-            return false;
-        }
-        put_row(&mut self.cells, at, row.items());
-        true
+        put_rows(&mut self.cells, &places, puts);
+        Ok(true)
     }
 
     /// The number in a BIGINT column, `None` where it is NULL.

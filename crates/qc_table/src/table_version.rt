@@ -5,7 +5,6 @@ ghost use Rattle.std.specs.List.{list_all, slice_get};
 ghost use Rattle.std.specs.Ordering.{int_cmp};
 ghost use Rattle.std.specs.BTreeMap.{is_at};
 ghost use Rattle.std.specs.Map.{keys_of, lookup};
-ghost use Rattle.qc_sql.specs.Database.{with_row};
 ghost use Rattle.qc_sql.specs.Order.{RowsRise};
 ghost use Rattle.qc_model.specs.Licence.{row_fits};
 ghost use Rattle.qc_model.specs.Sound.{IsSoundTable};
@@ -17,7 +16,7 @@ ghost use Rattle.qc_table.specs.Views.{kind_at, column_values, row_values};
 use crate::puts::Puts;
 use crate::table_rows::TableRows;
 use crate::views::{ColumnView, RowView};
-use qc_sql::tables::{Columns, StoredRow};
+use qc_sql::tables::Columns;
 use qc_types::{NoMemory, Steps};
 use std::alloc::Global;
 use std::marker::Model;
@@ -82,27 +81,16 @@ impl TableVersion {
         })
     }
 
-    /// Puts copies of the rows behind the others, where they stand. Answers `false`, and leaves all as it was, where another one shares the version, where the
-    /// rows' keys don't rise above theirs, and where there would be too many rows. Costs what the rows hold over many calls.
-    pub(crate) fn append(&mut self, puts: &Puts<'_>) -> Result<bool, NoMemory>
+    /// Puts copies of the rows where they stand, all behind the others or all in the places of those with their keys. Answers `false`, and leaves all as it
+    /// was, where another one shares the version, where the keys neither rise above all others nor stand there all, where a VARCHAR would change, and where
+    /// there would be too many rows. Costs what the rows hold over many calls, and the logarithm of how many rows there are for each that it replaces.
+    pub(crate) fn put_rows(&mut self, alloc: Global, puts: &Puts<'_>) -> Result<bool, NoMemory>
         requires { list_all (row_fits self.old.columns) puts.now.rows ≡ true }
         ensures { IsChanged (with_rows puts.now.rows self.old) self.old result self.new }
     {
         match Arc::get_mut(&mut self.stored) {
-            Some(rows) => rows.append(puts),
+            Some(rows) => rows.put(alloc, puts),
             None => Ok(false),
-        }
-    }
-
-    /// Puts a copy of the row in the place of the one with its key, where it stands. Answers `false`, and leaves all as it was, where another one shares the
-    /// version, where there is none, and where a VARCHAR would change. Costs the logarithm of how many rows there are, and what the row holds.
-    pub(crate) fn replace(&mut self, row: &StoredRow) -> bool
-        requires { row_fits self.old.columns row.now ≡ true }
-        ensures { IsChanged (with_row row.now self.old) self.old (Ok result) self.new }
-    {
-        match Arc::get_mut(&mut self.stored) {
-            Some(rows) => rows.replace(row),
-            None => false,
         }
     }
 

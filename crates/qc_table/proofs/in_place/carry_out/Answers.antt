@@ -14,7 +14,7 @@ carry_out_one-requires-clause-fits c =
     let op = c.op-item.result in
     let one = alone op c.args.ops.now c.in-len1.len_below c.in-len1.len_at_least c.op-item.is in
     let fits = both (op_fits op d) (ops_fit [] (apply_one op d)) (subst (λ os. ops_fit os d ≡ true) one c.requires.fits) in
-    let same = left c.args.ops.now d c.append.new.databases c.append.result (c.in_ok-append.was ∙ ap Ok c.if-branch.false) c.append.ensures in
+    let same = left c.args.ops.now d c.put_rows.new.databases c.put_rows.result (c.in_ok-put_rows.was ∙ ap Ok c.if-branch.false) c.put_rows.ensures in
     subst (λ e. op_fits op e ≡ true) (sym same) fits.0
 
 pub returns-in-len1 : goal.returns-in-len1
@@ -22,6 +22,6 @@ returns-in-len1 c =
     let d = c.args.databases.now in
     let op = c.op-item.result in
     let one = alone op c.args.ops.now c.in-len1.len_below c.in-len1.len_at_least c.op-item.is in
-    let same = left c.args.ops.now d c.append.new.databases c.append.result (c.in_ok-append.was ∙ ap Ok c.if-branch.false) c.append.ensures in
+    let same = left c.args.ops.now d c.put_rows.new.databases c.put_rows.result (c.in_ok-put_rows.was ∙ ap Ok c.if-branch.false) c.put_rows.ensures in
     let carried = subst (λ e. AreCarriedOut (op ∷ []) e c.carry_out_one.result c.carry_out_one.new.databases) same c.carry_out_one.ensures in
     subst (λ os. AreCarriedOut os d c.carry_out_one.result c.carry_out_one.new.databases) (sym one) carried

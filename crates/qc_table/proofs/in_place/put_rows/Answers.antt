@@ -7,7 +7,7 @@ use Rattle.qc_model.specs.Licence.{row_fits, takes_row}
 use Rattle.qc_table.specs.Puts.{with_rows}
 use Rattle.qc_table.proofs.InPlace.{table_carried}
 use Rattle.qc_table.proofs.Putting.{first_taken, puts_fit, puts_make}
-use Rattle.qc_table.proofs.in_place.append.Goals as goal
+use Rattle.qc_table.proofs.in_place.put_rows.Goals as goal
 
 pub unreachable-requires : goal.unreachable-requires
 unreachable-requires c =
@@ -26,8 +26,8 @@ unreachable-requires-in_default-get_mut-2 c =
     let first = first_taken t c.args.ops.now c.args.databases.now put.0 put.2 c.requires.fits in
     absurd (cc (ap (λ v. takes_row v first.0) (none ∙ ap (option_and_then (at_name t.name)) tables), first.1))
 
-pub append-requires : goal.append-requires
-append-requires c =
+pub put_rows-requires : goal.put_rows-requires
+put_rows-requires c =
     let t = c.in-Some.puts.table in
     let put = c.in-Some.ensures in
     let tables = rw (c.bytes.ensures, c.table-table.ensures) at c.in-Some-get_mut.ensures.value in
@@ -43,8 +43,8 @@ returns c =
     let d = c.args.databases.now in
     let tables = rw (c.bytes.ensures, c.table-table.ensures) at c.in-Some-get_mut.ensures.value in
     let version = rw (c.bytes-2.ensures, c.table-table.ensures) at c.in-Some-get_mut-2.ensures.value in
-    let outer = rw (c.bytes.ensures, c.table-table.ensures) at (c.get_mut.follows.holds (c.get_mut-2.follows.lender c.append.new.self)) in
-    let inner = rw (c.bytes-2.ensures, c.table-table.ensures) at (c.get_mut-2.follows.holds c.append.new.self) in
+    let outer = rw (c.bytes.ensures, c.table-table.ensures) at (c.get_mut.follows.holds (c.get_mut-2.follows.lender c.put_rows.new.self)) in
+    let inner = rw (c.bytes-2.ensures, c.table-table.ensures) at (c.get_mut-2.follows.holds c.put_rows.new.self) in
     let make = with_rows c.in-Some.puts.rows in
     let is : apply ops d ≡ change_table t make d = subst (λ rows. apply ops d ≡ change_table t (with_rows rows) d) (sym put.1) (puts_make t ops d put.0) in
-    table_carried ops _ _ t make is _ _ outer tables _ _ inner version c.requires.within c.append.result c.append.ensures
+    table_carried ops _ _ t make is _ _ outer tables _ _ inner version c.requires.within c.put_rows.result c.put_rows.ensures
