@@ -340,3 +340,49 @@ moved next previous n x l h low high =
     let second = join (unlinked next previous x) (unlinked previous next x) n x l first.linked low (omega (arith, high, long)) (cut-here next previous x (omega (arith, low, h.few))) (cut-here previous next x (omega (arith, low, h.few, h.same)))
     (ap (standing x) first.are ∙ standing-without x (lists_of next n)) in
     subst (λ lists. IsKept (linked_next (unlinked next previous x) (unlinked previous next x) x (n + l)) (linked_previous (unlinked previous next x) x (n + l)) n (put_last x l lists)) first.are second
+
+-- four writes, the last two of which undo the first two
+undone : (a : List ℕ) (p x e : ℕ) → p < length a → x < length a → slice_index a p ≡ x → slice_index a x ≡ e → set (set (set (set a p e) x x) p x) x e ≡ a
+undone a p x e p_low x_low at_p at_x =
+    ext_get_or 0 (set (set (set (set a p e) x x) p x) x e) a (long3 ∙ (long2 ∙ (long1 ∙ long0)))
+    (λ y h. elim (cases_eq y x) [
+      | inl same ↦ ap (λ j. slice_index (set (set (set (set a p e) x x) p x) x e) j) same ∙ (get_or-set_same (set (set (set a p e) x x) p x) x e 0 (omega (arith, x_low, long0, long1, long2)) ∙ sym (ap (λ j. slice_index a j) same ∙ at_x))
+      | inr off ↦ get_or-set_other (set (set (set a p e) x x) p x) x y e 0 off ∙ elim (cases_eq y p) [
+        | inl at ↦ ap (λ j. slice_index (set (set (set a p e) x x) p x) j) at ∙ (get_or-set_same (set (set a p e) x x) p x 0 (omega (arith, p_low, long0, long1)) ∙ sym (ap (λ j. slice_index a j) at ∙ at_p))
+        | inr away ↦ get_or-set_other (set (set a p e) x x) p y x 0 away ∙ (get_or-set_other (set a p e) x y x 0 off ∙ get_or-set_other a p y e 0 away)
+      ]
+    ])
+  where
+    long0 : length (set a p e) ≡ length a
+    long0 = length-set a p e
+
+    long1 : length (set (set a p e) x x) ≡ length (set a p e)
+    long1 = length-set (set a p e) x x
+
+    long2 : length (set (set (set a p e) x x) p x) ≡ length (set (set a p e) x x)
+    long2 = length-set (set (set a p e) x x) p x
+
+    long3 : length (set (set (set (set a p e) x x) p x) x e) ≡ length (set (set (set a p e) x x) p x)
+    long3 = length-set (set (set (set a p e) x x) p x) x e
+
+-- a node that is the last of a list is where a move to the end of that list puts it
+pub last_stays : (next previous : List ℕ) (n x l : ℕ) → IsLinked next previous n → x < n → n + l < length next → slice_index previous (n + l) ≡ x → lists_of next n ≡ put_last x l (map (without x) (lists_of next n))
+last_stays next previous n x l h low high last =
+    subst (λ a. lists_of a n ≡ put_last x l (map (without x) (lists_of next n))) same (moved next previous n x l h low high).are
+  where
+    inside : x < length next
+    inside = omega (arith, low, h.few)
+
+    after : slice_index next x ≡ n + l
+    after = ap (slice_index next) (sym last) ∙ h.back.back (n + l) high
+
+    before : slice_index (unlinked previous next x) (n + l) ≡ slice_index previous x
+    before =
+        get_or-set_other (set previous (slice_index next x) (slice_index previous x)) x (n + l) x 0 (λ e. omega (arith, e, low))
+        ∙ (ap (λ j. slice_index (set previous j (slice_index previous x)) (n + l)) after ∙ get_or-set_same previous (n + l) (slice_index previous x) 0 (omega (arith, high, h.same)))
+
+    same : linked_next (unlinked next previous x) (unlinked previous next x) x (n + l) ≡ next
+    same =
+        ap (λ j. set (set (unlinked next previous x) j x) x (n + l)) before
+        ∙ (ap (λ j. set (set (set (set next (slice_index previous x) j) x x) (slice_index previous x) x) x (n + l)) after
+        ∙ undone next (slice_index previous x) x (n + l) (h.back.within x inside) inside (h.back.back x inside) after)

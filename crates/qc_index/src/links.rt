@@ -51,15 +51,19 @@ impl Lists {
         unlink(&mut self.next, &mut self.previous, node);
     }
 
-    /// Puts a node at the end of a list. Where it stood in one before, it leaves that.
+    /// Puts a node at the end of a list. Where it stood in one before, it leaves that. Where it is the last already, nothing is written.
     pub fn put_last(&mut self, node: u32, list: u32)
         requires node { node < self.old.nodes }
         requires list { list < length self.old.lists }
         ensures moved { self.new ≡ record { lists = moved_last node list self.old.lists; nodes = self.old.nodes } }
         ensures many { length self.new.lists ≡ length self.old.lists }
     {
+        let end = self.nodes + list;
+        if self.previous[end as usize] == node {
+            return;
+        }
         unlink(&mut self.next, &mut self.previous, node);
-        link(&mut self.next, &mut self.previous, node, self.nodes + list);
+        link(&mut self.next, &mut self.previous, node, end);
     }
 
     /// The first node of a list, if it has any.

@@ -1,10 +1,21 @@
 use Rattle.std.proofs.Common.{◌≡◌, ◌+◌, ◌<◌, ◌∙◌, sym, ap, subst, length, arith}
 use Rattle.std.specs.Vec.{with_items}
-use Rattle.std.proofs.lemmas.List.{with_items_is}
+use Rattle.std.specs.List.{slice_index}
+use Rattle.std.proofs.lemmas.List.{with_items_is, get_or_read}
 use Rattle.qc_index.specs.Linked.{Linked, moved_last, lists_of, IsLinked}
 use Rattle.qc_index.proofs.Counting.{length-moved}
-use Rattle.qc_index.proofs.Linking.{unlinked, linked_next, linked_previous, moved, linked, length-lists}
+use Rattle.qc_index.proofs.Linking.{unlinked, linked_next, linked_previous, moved, last_stays, linked, length-lists}
 use Rattle.qc_index.proofs.links.Lists.put_last.Goals as goal
+
+pub returns-then-index-node-clause-moved : goal.returns-then-index-node-clause-moved
+returns-then-index-node-clause-moved c =
+    let v = c.self.inside in
+    let x = c.args.node in
+    let low : x < v.nodes = omega (arith, c.requires.node, ap (λ (l : Linked). l.nodes) c.self.view_is) in
+    let high : v.nodes + c.args.list < length v.next.items = omega (arith, c.requires.list, ap (λ (l : Linked). length l.lists) c.self.view_is, length-lists v.next.items v.nodes, c.self.invariant.few) in
+    let last : slice_index v.previous.items (v.nodes + c.args.list) ≡ x = sym (get_or_read v.previous.items _ _ (omega (arith, high, c.self.invariant.same)) c.index.ensures 0) ∙ c.if-index-node.true in
+    sym c.self.view_is
+    ∙ (ap (λ ls. linked ls v.nodes) (last_stays v.next.items v.previous.items v.nodes x c.args.list c.self.invariant low high last) ∙ ap (λ (l : Linked). linked (moved_last x c.args.list l.lists) l.nodes) c.self.view_is)
 
 pub invariant_of-self : goal.invariant_of-self
 invariant_of-self c =
