@@ -1,5 +1,5 @@
 -- Each step keeps the rule of the turn.
-use Rattle.std.proofs.Common.{◌≡◌, ◌≢◌, ◌⊎◌, ℕ, zero, suc, ◌+◌, ◌-◌, ◌*◌, ◌<◌, ◌≤◌, eqb, eq-eqb, ne_eqb, Bool, true, false, Option, Some, None, List, [], ◌∷◌, ◌++◌, length, get_or, set, refl, sym, ap, ◌∙◌, subst, inl, inr, ⊎_elim, arith, true≢false, take, drop, length-drop, get_or-drop, replicate, append-nil, length-append, length-set, get_or-set_same, get_or-set_other, map}
+use Rattle.std.proofs.Common.{◌≡◌, ◌≢◌, ◌⊎◌, ℕ, zero, suc, ◌+◌, ◌-◌, ◌*◌, ◌<◌, ◌≤◌, eqb, eq-eqb, ne_eqb, Bool, true, false, not, Option, Some, None, List, [], ◌∷◌, ◌++◌, length, get_or, set, refl, sym, ap, ◌∙◌, subst, inl, inr, ⊎_elim, arith, true≢false, take, drop, length-drop, get_or-drop, replicate, append-nil, length-append, length-set, get_or-set_same, get_or-set_other, map}
 use mathlib.Core.Logic.{dite}
 use mathlib.Core.Option.{some, none, some-injective, some-ne-none}
 use native.Mathlib.Decide.{ℕ_discrete}
@@ -22,11 +22,11 @@ use Rattle.qc_turn.specs.declared.task.Task.TheVariants.{Rest, Stream, Fill}
 use Rattle.qc_turn.specs.Blocks.{IsDistinct, places, spelled, Misses}
 use Rattle.qc_turn.specs.Bytes.{bytes_of, filled}
 use Rattle.qc_turn.specs.Releases.{HeldFreeOfOthers, IsFresh, ClosesWith, SpellsReleased, ListsReleased, Follows}
-use Rattle.qc_turn.specs.Rules.{HoldingRule, ContentRule, TaskRule, SeatRule, MetRule, UnmadeRule, TurnRule}
+use Rattle.qc_turn.specs.Rules.{HoldingRule, ContentRule, TaskRule, SeatRule, TurnRule}
 use Rattle.qc_turn.specs.Steps.{Taken, TookTurn, LoadedWord, takes_turn, releases_turn, loads_word, loads_streamed, stores_filled, sets_task_word, clears_task_word, reads_task_word, stores_word}
 use Rattle.qc_turn.specs.Tasks.{is_stream, IsListed, IsEnded, FoundIdle, released_task, released_blocks, OutsideOtherFills, Agrees, fill_places, places_of, listed_for, own, task_in, blocks_in, HasBlocks}
 use Rattle.qc_turn.specs.Views.{base_of, words_of, HoldsTurn, written, Apart, AllMet, first_seat, with_holding, spent, after_split, next_seat, after_meet, met_seat, of_seat, content_of, after_release, with_content, with_word_set, with_found, found_word, idle_of, after_stream, IsSoundJournal}
-use Rattle.qc_turn.specs.Words.{task_words_of, bit, StartsWith, region, last_seat}
+use Rattle.qc_turn.specs.Words.{task_words_of, bit, StartsWith, line_words, extra_words, region_word, line_of, task_word, region, last_seat}
 use Rattle.qc_turn.proofs.Tasks.{starts_refl, starts_trans, longer_of, longer_one, region_at, region_set, region_set0, length-region, misses_front, spelled_missed, missed, is_in, spelled_agree, filled_front, region_high, zero_set, zero_stays, task_words_low, task_words_set, task_words_at, listed_live, keeps_fills, keeps_none, keeps_listed, ended_rests}
 
 module _ {V E : Type 0} where
@@ -74,15 +74,18 @@ single a zero zero v w p q = refl
 single a zero (suc j) v w p q = absurd (some-ne-none w (sym q))
 single a (suc i) j v w p q = absurd (some-ne-none v (sym p))
 
-front : (n : ℕ) → replicate {A = ℕ} (n + 66) 0 ≡ 0 ∷ replicate (n + 65) 0
-front n = let e : n + 66 ≡ suc (n + 65) = omega arith in ap (λ k. replicate {A = ℕ} k 0) e
-
-one_more : (n : ℕ) → suc (n + 65) ≡ n + 66
-one_more n = omega arith
-
 all_of : (n m : ℕ) → take {A = ℕ} n (replicate (n + m) 0) ≡ replicate n 0
 all_of zero m = refl
 all_of (suc n) m = let e : suc n + m ≡ suc (n + m) = omega arith in ap (λ k. take {A = ℕ} (suc n) (replicate k 0)) e ∙ ap (λ l. 0 ∷ l) (all_of n m)
+
+drop_zeros : (n m : ℕ) → drop {A = ℕ} n (replicate (n + m) 0) ≡ replicate m 0
+drop_zeros zero m = let e : 0 + m ≡ m = omega arith in ap (λ k. replicate {A = ℕ} k 0) e
+drop_zeros (suc n) m = let e : suc n + m ≡ suc (n + m) = omega arith in ap (λ k. drop {A = ℕ} (suc n) (replicate k 0)) e ∙ drop_zeros n m
+
+region_zeros : (size : ℕ) → region size (replicate (size + extra_words) 0) ≡ replicate size 0
+region_zeros size =
+    let e : size + extra_words ≡ line_words + (size + 528) = omega arith in
+    ap (λ k. region size (replicate k 0)) e ∙ (ap (take size) (drop_zeros line_words (size + 528)) ∙ all_of size 528)
 
 zero_at : (m i : ℕ) → get_or {A = ℕ} (replicate m 0) i 0 ≡ 0
 zero_at zero i = refl
@@ -206,7 +209,7 @@ module _ {V E : Type 0} (K : Ghosts V E) (size : ℕ) where
   }
 
   -- the same view under other task words
-  other_words : (word : ℕ) (ws ms ms' : List ℕ) (base : V) (registry : List (Option (MetSeat E))) (v : View V E) → SeatRule K size word ws ms base registry v → get_or ms' (v.number - 1) 0 ≡ bit v.word_set → ((k : ℕ) → k ≢ v.number → FoundIdle (idle_of v.found) k → (0 < k) × (get_or ms' (k - 1) 0 ≡ 0)) → SeatRule K size word ws ms' base registry v
+  other_words : (word : ℕ) (ws ms ms' : List ℕ) (base : V) (registry : List (Option (MetSeat E))) (v : View V E) → SeatRule K size word ws ms base registry v → get_or ms' (line_of v.number) 0 ≡ bit v.word_set → ((k : ℕ) → k ≢ v.number → FoundIdle (idle_of v.found) k → (0 < k) × (get_or ms' (line_of k) 0 ≡ 0)) → SeatRule K size word ws ms' base registry v
   other_words word ws ms ms' base registry v f task_word idle = record {
     sized = f.sized;
     numbered = f.numbered;
@@ -273,8 +276,8 @@ module _ {V E : Type 0} (K : Ghosts V E) (size : ℕ) where
           was_sound = r.was_sound;
           apart = apart_set s.views id v w at (λ _. refl) r.apart;
           each = subst (λ (t : ℕ × List ℕ × List ℕ). (j : ℕ) (u : View V E) → get_elem? (set s.views id w) j ≡ some u → u.number ≢ 0 → Q t.0 t.1 t.2 u) (λ i. (sym now i, sym here i, sym also i)) all;
-          met = λ k es e. let m = r.met k es e in record { events = m.events; seen = m.seen; listed = m.listed; task_word = ap (λ l. get_or l ((k + 2) - 1) 0) also ∙ m.task_word };
-          unmade = λ k more. let m = r.unmade k more in record { events = m.events; connected = m.connected; listed = m.listed; task_word = ap (λ l. get_or l (k - 1) 0) also ∙ m.task_word };
+          met = λ k es e. let m = r.met k es e in record { events = m.events; seen = m.seen; listed = m.listed; task_word = ap (λ l. get_or l (line_of (k + 2)) 0) also ∙ m.task_word };
+          unmade = λ k more. let m = r.unmade k more in record { events = m.events; connected = m.connected; listed = m.listed; task_word = ap (λ l. get_or l (line_of k) 0) also ∙ m.task_word };
           zero_number = r.zero_number;
         },
         ((λ _. (base, ws, record { width = length-region size s.words (omega arith) ∙ sym mine.sized; sound = in_slot.1; seen = mine.seen; fixed = mine.fixed; events = mine.events; connected = mine.connected; listed = mine.listed; word_set = mine.word_set idle; none_found = mine.none_found idle; was_sound = mine.was_sound; content = spells; zero_number = r.zero_number }, refl, refl)), (λ no. absurd (no free))),
@@ -347,7 +350,7 @@ module _ {V E : Type 0} (K : Ghosts V E) (size : ℕ) where
   spells_follow base x over ws us Free (Fill s) bs content p q j h = (h.0, K.fits_on over us base x s content p q j h.1)
 
   -- the value changes, and what a seat other than n has stays
-  followed : (n word : ℕ) (idle ws ms over : List ℕ) (base x : V) (registry : List (Option (MetSeat E))) (u : View V E) → Follows K n idle base x → ((k : ℕ) → k ≢ n → FoundIdle idle k → (0 < k) × (get_or ms (k - 1) 0 ≡ 0)) → K.sound over base → K.sound ws x → u.number ≢ n → word ≡ n → u.number ≢ 0 → SeatRule K size word ws ms base registry u → SeatRule K size 0 ws ms x registry u
+  followed : (n word : ℕ) (idle ws ms over : List ℕ) (base x : V) (registry : List (Option (MetSeat E))) (u : View V E) → Follows K n idle base x → ((k : ℕ) → k ≢ n → FoundIdle idle k → (0 < k) × (get_or ms (line_of k) 0 ≡ 0)) → K.sound over base → K.sound ws x → u.number ≢ n → word ≡ n → u.number ≢ 0 → SeatRule K size word ws ms base registry u → SeatRule K size 0 ws ms x registry u
   followed n word idle ws ms over base x registry u fol found old_sound new_sound other is live f = record {
     sized = f.sized;
     numbered = f.numbered;
@@ -445,7 +448,7 @@ module _ {V E : Type 0} (K : Ghosts V E) (size : ℕ) where
                 events = old.events ∙ sym (fol.others (k + 2) apart);
                 seen = starts_trans (K.journal x) (K.journal base) es.seen fol.journal old.seen;
                 listed = keeps_listed idle (k + 2) Rest [] (listed_for (k + 2) (K.tasks base)) (listed_for (k + 2) (K.tasks x)) (fol.tasks (k + 2) apart) old.listed (λ _. refl);
-                task_word = ap (λ l. get_or l ((k + 2) - 1) 0) also ∙ old.task_word;
+                task_word = ap (λ l. get_or l (line_of (k + 2)) 0) also ∙ old.task_word;
               };
           unmade = λ k more. let small = mine.numbered in
               let apart : k ≢ n = λ same. absurd (omega arith) in
@@ -453,7 +456,7 @@ module _ {V E : Type 0} (K : Ghosts V E) (size : ℕ) where
                 events = fol.others k apart ∙ old.events;
                 connected = fol.connected k apart ∙ old.connected;
                 listed = keeps_none idle k (listed_for k (K.tasks base)) (listed_for k (K.tasks x)) (fol.tasks k apart) old.listed;
-                task_word = ap (λ l. get_or l (k - 1) 0) also ∙ old.task_word;
+                task_word = ap (λ l. get_or l (line_of k) 0) also ∙ old.task_word;
               };
           zero_number =
               let apart : 0 ≢ n = λ same. absurd (omega arith) in
@@ -467,15 +470,15 @@ module _ {V E : Type 0} (K : Ghosts V E) (size : ℕ) where
   releases_back slots id me x b us n is live out holds stands follows ends_as spells =
       subst (λ (c : List (ℕ × Option V)). Allows Rule slots id (me.0, c) 0 (λ _. 0) (λ _. releases_turn K (step slots 0 0 0 none) (me.0, c) 0)) (sym out) (released slots id me.0 x b us n is live holds stands follows ends_as spells)
 
-  pub reads : (slots id : ℕ) (me : M) (k : ℕ) → 0 < me.0.number → k < size → Allows Rule slots id me (k + 1) (λ n. n) (loads_word K (step slots (k + 1) 0 0 none) me)
+  pub reads : (slots id : ℕ) (me : M) (k : ℕ) → 0 < me.0.number → k < size → Allows Rule slots id me (region_word k) (λ n. n) (loads_word K (step slots (region_word k) 0 0 none) me)
   reads slots id me k live inside s r _ at _ =
       let ws : List ℕ = region size s.words in
       let mine = r.each id me.0 at (λ z. absurd (omega arith)) in
-      let back : (k + 1) - 1 ≡ k = omega arith in (
+      let back : region_word k - line_words ≡ k = omega arith in (
         me.0,
         keeps,
         tt,
-        unmoved s r (k + 1) id me.1 me.0 at,
+        unmoved s r (region_word k) id me.1 me.0 at,
         (
           refl,
           λ b us holds out.
@@ -516,7 +519,7 @@ module _ {V E : Type 0} (K : Ghosts V E) (size : ℕ) where
   )
 
   pub writes : (slots id : ℕ) (me : M) (b : V) (us : List ℕ) (k x : ℕ) → 0 < me.0.number → me.0.holding ≡ Holds b us → k < size → ((n : ℕ) → n ≢ me.0.number → Misses k (places_of (listed_for n (K.tasks b))) ⊎ (FoundIdle (idle_of me.0.found) n × IsEnded n (listed_for n (K.tasks b))))
-      → Allows Rule slots id me (k + 1) (λ _. x) (λ _. stores_word K (step slots (k + 1) x 0 none) me x)
+      → Allows Rule slots id me (region_word k) (λ _. x) (λ _. stores_word K (step slots (region_word k) x 0 none) me x)
   writes slots id me b us k x live holds inside clear s r _ at _ =
       let v : View V E = me.0 in
       let base : V = r.base in
@@ -524,24 +527,23 @@ module _ {V E : Type 0} (K : Ghosts V E) (size : ℕ) where
       let mine : SeatRule K size (word s) ws (task_words s) base r.registry v = r.each id v at (λ z. absurd (omega arith)) in
       let g = holding_is (word s) ws us base b v.number v.holding holds mine.holding in
       let is : word s ≡ v.number = g.0 in
-      let w : View V E = with_holding v (written v.holding ((k + 1) - 1) x) in
+      let w : View V E = with_holding v (written v.holding (region_word k - line_words) x) in
       let width = r.width in
-      let now : get_or (set s.words (k + 1) x) 0 0 ≡ word s = get_or-set_other s.words (k + 1) 0 x 0 (λ e. absurd (omega arith)) in
-      let next : suc k ≡ k + 1 = omega arith in
-      let here : region size (set s.words (k + 1) x) ≡ set ws k x = subst (λ (i : ℕ). region size (set s.words i x) ≡ set ws k x) next (region_set size s.words k x) in
-      let back : (k + 1) - 1 ≡ k = omega arith in
-      let held : written v.holding ((k + 1) - 1) x ≡ Holds b (set us k x) = (λ i. written (holds i) (back i) x) in
+      let now : get_or (set s.words (region_word k) x) 0 0 ≡ word s = get_or-set_other s.words (region_word k) 0 x 0 (λ e. absurd (omega arith)) in
+      let here : region size (set s.words (region_word k) x) ≡ set ws k x = region_set size s.words k x in
+      let back : region_word k - line_words ≡ k = omega arith in
+      let held : written v.holding (region_word k - line_words) x ≡ Holds b (set us k x) = (λ i. written (holds i) (back i) x) in
       let long : length ws ≡ size = length-region size s.words (omega arith) in
-      let holding_now : HoldingRule K (word s) (set ws k x) base v.number (written v.holding ((k + 1) - 1) x) = subst (λ (y : Holding V). HoldingRule K (word s) (set ws k x) base v.number y) (sym held) (is, g.1, agrees_set v.number base us ws k x (omega arith) g.2) in
-      let spells : TaskRule K base (set ws k x) (written v.holding ((k + 1) - 1) x) v.task v.blocks v.content = subst (λ (y : Holding V). TaskRule K base (set ws k x) y v.task v.blocks v.content) (sym held) (subst (λ (y : Holding V). TaskRule K base ws y v.task v.blocks v.content) holds mine.content) in
+      let holding_now : HoldingRule K (word s) (set ws k x) base v.number (written v.holding (region_word k - line_words) x) = subst (λ (y : Holding V). HoldingRule K (word s) (set ws k x) base v.number y) (sym held) (is, g.1, agrees_set v.number base us ws k x (omega arith) g.2) in
+      let spells : TaskRule K base (set ws k x) (written v.holding (region_word k - line_words) x) v.task v.blocks v.content = subst (λ (y : Holding V). TaskRule K base (set ws k x) y v.task v.blocks v.content) (sym held) (subst (λ (y : Holding V). TaskRule K base ws y v.task v.blocks v.content) holds mine.content) in
       let Clear : V → Type 0 = λ y. (n : ℕ) → n ≢ v.number → Misses k (places_of (listed_for n (K.tasks y))) ⊎ (FoundIdle (idle_of v.found) n × IsEnded n (listed_for n (K.tasks y))) in
       let clear' : Clear base = subst Clear g.1 clear in
       let ms : List ℕ = task_words s in
-      let also : task_words_of size (set s.words (k + 1) x) ≡ ms = task_words_low size (k + 1) x s.words (omega arith) in
-      let held_not : written v.holding ((k + 1) - 1) x ≡ Free → ⊥ = λ e. holds_free b (set us k x) (sym held ∙ e) in
+      let also : task_words_of size (set s.words (region_word k) x) ≡ ms = task_words_low size (region_word k) x s.words (omega arith) in
+      let held_not : written v.holding (region_word k - line_words) x ≡ Free → ⊥ = λ e. holds_free b (set us k x) (sym held ∙ e) in
       let Q : ℕ → List ℕ → List ℕ → View V E → Type 0 = λ y l ns u. SeatRule K size y l ns base r.registry u in
       let all : (j : ℕ) (u : View V E) → get_elem? (set s.views id w) j ≡ some u → u.number ≢ 0 → Q (word s) (set ws k x) ms u =
-      each_set (Q (word s) (set ws k x) ms) s.views id w (λ _. with_new_holding (word s) (word s) ws (set ws k x) ms base r.registry v (written v.holding ((k + 1) - 1) x) mine holding_now spells (λ e. absurd (held_not e)) (λ e. absurd (held_not e)))
+      each_set (Q (word s) (set ws k x) ms) s.views id w (λ _. with_new_holding (word s) (word s) ws (set ws k x) ms base r.registry v (written v.holding (region_word k - line_words) x) mine holding_now spells (λ e. absurd (held_not e)) (λ e. absurd (held_not e)))
       (λ j u other e alive. let f = r.each j u e alive in
       let apart : u.number ≢ v.number = λ same. other (r.apart j id u v e at same alive) in
       with_new_holding (word s) (word s) ws (set ws k x) ms base r.registry u u.holding f
@@ -556,14 +558,14 @@ module _ {V E : Type 0} (K : Ghosts V E) (size : ℕ) where
           base = base;
           registry = r.registry;
           few = r.few;
-          width = length-set s.words (k + 1) x ∙ width;
+          width = length-set s.words (region_word k) x ∙ width;
           in_slot = λ z. absurd (some_word (sym now ∙ z));
           out_of_slot = λ _. (out_of_slot.0, (id, w, set_here s.views id w (there s.views id v at), sym is ∙ sym now));
           was_sound = r.was_sound;
           apart = apart_set s.views id v w at (λ _. refl) r.apart;
           each = subst (λ (p : ℕ × List ℕ × List ℕ). (j : ℕ) (u : View V E) → get_elem? (set s.views id w) j ≡ some u → u.number ≢ 0 → Q p.0 p.1 p.2 u) (λ i. (sym now i, sym here i, sym also i)) all;
-          met = λ k es e. let m = r.met k es e in record { events = m.events; seen = m.seen; listed = m.listed; task_word = ap (λ l. get_or l ((k + 2) - 1) 0) also ∙ m.task_word };
-          unmade = λ k more. let m = r.unmade k more in record { events = m.events; connected = m.connected; listed = m.listed; task_word = ap (λ l. get_or l (k - 1) 0) also ∙ m.task_word };
+          met = λ k es e. let m = r.met k es e in record { events = m.events; seen = m.seen; listed = m.listed; task_word = ap (λ l. get_or l (line_of (k + 2)) 0) also ∙ m.task_word };
+          unmade = λ k more. let m = r.unmade k more in record { events = m.events; connected = m.connected; listed = m.listed; task_word = ap (λ l. get_or l (line_of k) 0) also ∙ m.task_word };
           zero_number = r.zero_number;
         },
         refl,
@@ -746,7 +748,7 @@ module _ {V E : Type 0} (K : Ghosts V E) (size : ℕ) where
       let views1 = set s.views id both in
       let met_word : word s ≢ w.number = subst (λ (g : Holding V). HoldingRule K (word s) ws base w.number g) free theirs.holding in
       let none_listed : IsListed w.number Rest [] (listed_for w.number (K.tasks base)) = subst (λ (t : Task). IsListed w.number t w.blocks (listed_for w.number (K.tasks base))) rests theirs.listed in
-      let zero_word : get_or (task_words s) (w.number - 1) 0 ≡ 0 = theirs.task_word ∙ ap bit (theirs.word_set free ∙ ap is_stream rests) in
+      let zero_word : get_or (task_words s) (line_of w.number) 0 ≡ 0 = theirs.task_word ∙ ap bit (theirs.word_set free ∙ ap is_stream rests) in
       let number_is : w.number ≡ m + 2 = omega arith in record {
         base = base;
         registry = next;
@@ -778,7 +780,7 @@ module _ {V E : Type 0} (K : Ghosts V E) (size : ℕ) where
             (λ (t : (k ≡ m) × (Some (met_seat w) ≡ Some es)).
             let same : w.number ≡ k + 2 = omega arith in
             let es_is : es ≡ met_seat w = cc in
-            let back : (k + 2) - 1 ≡ w.number - 1 = omega arith in
+            let back : line_of (k + 2) ≡ line_of w.number = omega arith in
             record {
               events = ap (λ (x : MetSeat E). x.events) es_is ∙ (theirs.events ∙ ap (λ (n : ℕ). of_seat K n (K.journal base)) same);
               seen = subst (λ (x : MetSeat E). StartsWith (K.journal base) x.seen) (sym es_is) theirs.seen;
@@ -801,11 +803,11 @@ module _ {V E : Type 0} (K : Ghosts V E) (size : ℕ) where
       let more : 1 < h.1.number = let e = h.3 in omega arith in
       absurd (none_left v.registry (h.1.number - 2) all (subst (λ l. get_elem? l (h.1.number - 2) ≡ some None) (sym (mine.first one)) (f.unmet more))))
 
-  writes_at : (slots id : ℕ) (me : M) (g : Holding V) (k x : ℕ) → 0 < me.0.number → me.0.holding ≡ g → HeldFreeOfOthers K me.0.number (idle_of me.0.found) k g → k < size → Allows Rule slots id me (k + 1) (λ _. x) (λ _. stores_word K (step slots (k + 1) x 0 none) me x)
+  writes_at : (slots id : ℕ) (me : M) (g : Holding V) (k x : ℕ) → 0 < me.0.number → me.0.holding ≡ g → HeldFreeOfOthers K me.0.number (idle_of me.0.found) k g → k < size → Allows Rule slots id me (region_word k) (λ _. x) (λ _. stores_word K (step slots (region_word k) x 0 none) me x)
   writes_at slots id me Free k x live e h inside = absurd h
   writes_at slots id me (Holds b us) k x live e h inside = writes slots id me b us k x live e inside h
 
-  pub writes_held : (slots id : ℕ) (me : M) (k x : ℕ) → 0 < me.0.number → HeldFreeOfOthers K me.0.number (idle_of me.0.found) k me.0.holding → k < size → Allows Rule slots id me (k + 1) (λ _. x) (λ _. stores_word K (step slots (k + 1) x 0 none) me x)
+  pub writes_held : (slots id : ℕ) (me : M) (k x : ℕ) → 0 < me.0.number → HeldFreeOfOthers K me.0.number (idle_of me.0.found) k me.0.holding → k < size → Allows Rule slots id me (region_word k) (λ _. x) (λ _. stores_word K (step slots (region_word k) x 0 none) me x)
   writes_held slots id me k x live h inside = writes_at slots id me me.0.holding k x live refl h inside
 
   releases_at : (slots id : ℕ) (me : M) (g : Holding V) (x : V) → 0 < me.0.number → me.1 ≡ (0, Some x) ∷ [] → me.0.holding ≡ g → HoldsTurn g → K.sound (words_of g) x → Follows K me.0.number (idle_of me.0.found) (base_of x g) x → ListsReleased K me.0 x → SpellsReleased K me.0 x (words_of g)
@@ -818,24 +820,24 @@ module _ {V E : Type 0} (K : Ghosts V E) (size : ℕ) where
   releases_held slots id me x live out h stands follows lists spells = releases_at slots id me me.0.holding x live out refl h stands follows lists spells
 
   -- the table at the start
-  pub opens : (x : V) (words : List ℕ) → words ≡ replicate (size + 66) 0 → IsFresh K size x → Rule (opening words (Some x ∷ []) (first_seat size (K.fixed x)))
-  opens x words is fresh = subst (λ (ws : List ℕ). Rule (opening ws (Some x ∷ []) (first_seat size (K.fixed x)))) (sym (is ∙ front size)) record {
+  pub opens : (x : V) (words : List ℕ) → words ≡ replicate (size + extra_words) 0 → IsFresh K size x → Rule (opening words (Some x ∷ []) (first_seat size (K.fixed x)))
+  opens x words is fresh = subst (λ (ws : List ℕ). Rule (opening ws (Some x ∷ []) (first_seat size (K.fixed x)))) (sym is) record {
     base = x;
     registry = [];
     few = omega arith;
-    width = ap suc (length-replicate (size + 65) 0) ∙ one_more size;
-    in_slot = λ _. (refl, subst (λ (l : List ℕ). K.sound l x) (sym (all_of size 65)) fresh.sound);
-    out_of_slot = λ up. absurd (up refl);
+    width = length-replicate (size + extra_words) 0;
+    in_slot = λ _. (refl, subst (λ (l : List ℕ). K.sound l x) (sym (region_zeros size)) fresh.sound);
+    out_of_slot = λ up. absurd (up (zero_at (size + extra_words) 0));
     was_sound = (replicate size 0, length-replicate size 0, fresh.sound);
     apart = λ i j v w p q e live. single _ i j v w p q;
     each = each;
     met = λ k es e. absurd (some-ne-none (Some es) (sym e));
-    unmade = λ n more. record { events = ap (of_seat K n) fresh.journal; connected = fresh.connected n; listed = ap (listed_for n) fresh.tasks; task_word = zeros size (size + 65) (n - 1) };
+    unmade = λ n more. record { events = ap (of_seat K n) fresh.journal; connected = fresh.connected n; listed = ap (listed_for n) fresh.tasks; task_word = zeros (region_word size) (size + extra_words) (line_of n) };
     zero_number = (fresh.connected 0, ap (listed_for 0) fresh.tasks);
   }
     where
-      each : (j : ℕ) (v : View V E) → get_elem? (first_seat size (K.fixed x) ∷ []) j ≡ some v → v.number ≢ 0 → SeatRule K size 0 (region size (0 ∷ replicate (size + 65) 0)) (task_words_of size (0 ∷ replicate (size + 65) 0)) x [] v
-      each zero v e live = subst (SeatRule K size 0 (region size (0 ∷ replicate (size + 65) 0)) (task_words_of size (0 ∷ replicate (size + 65) 0)) x []) (some-injective _ _ e) record {
+      each : (j : ℕ) (v : View V E) → get_elem? (first_seat size (K.fixed x) ∷ []) j ≡ some v → v.number ≢ 0 → SeatRule K size (get_or (replicate {A = ℕ} (size + extra_words) 0) 0 0) (region size (replicate (size + extra_words) 0)) (task_words_of size (replicate (size + extra_words) 0)) x [] v
+      each zero v e live = subst (SeatRule K size (get_or (replicate {A = ℕ} (size + extra_words) 0) 0 0) (region size (replicate (size + extra_words) 0)) (task_words_of size (replicate (size + extra_words) 0)) x []) (some-injective _ _ e) record {
         sized = refl;
         numbered = omega arith;
         first = λ _. refl;
@@ -846,12 +848,12 @@ module _ {V E : Type 0} (K : Ghosts V E) (size : ℕ) where
         events = sym (ap (of_seat K 1) fresh.journal);
         connected = sym (fresh.connected 1);
         listed = inl (ap (listed_for 1) fresh.tasks);
-        task_word = zeros size (size + 65) 0;
+        task_word = zeros (region_word size) (size + extra_words) (line_of 1);
         word_set = λ _. refl;
         goes_on = λ e. absurd (true≢false (sym e));
         idle = λ k ne h. absurd (not_in_none k h);
         none_found = λ _. refl;
-        holding = (λ e. absurd (omega arith));
+        holding = (λ e. absurd (omega (arith, e, zero_at (size + extra_words) 0)));
         content = tt;
       }
       each (suc j) v e live = absurd (some-ne-none v (sym e))
@@ -874,16 +876,16 @@ module _ {V E : Type 0} (K : Ghosts V E) (size : ℕ) where
         },
       )
 
-  pub reads_streamed : (slots id : ℕ) (me : M) (serial k : ℕ) → 0 < me.0.number → me.0.holding ≡ Free → me.0.task ≡ Stream serial → k < size → Allows Rule slots id me (k + 1) (λ n. n) (loads_streamed K (step slots (k + 1) 0 0 none) me)
+  pub reads_streamed : (slots id : ℕ) (me : M) (serial k : ℕ) → 0 < me.0.number → me.0.holding ≡ Free → me.0.task ≡ Stream serial → k < size → Allows Rule slots id me (region_word k) (λ n. n) (loads_streamed K (step slots (region_word k) 0 0 none) me)
   reads_streamed slots id me serial k live free task inside s r _ at _ =
       let ws : List ℕ = region size s.words in
       let mine = r.each id me.0 at (λ z. absurd (omega arith)) in
       let spells : me.0.content ≡ spelled ws me.0.blocks = subst (λ (p : Holding V × Task). TaskRule K r.base ws p.0 p.1 me.0.blocks me.0.content) (λ i. (free i, task i)) mine.content in
-      let back : (k + 1) - 1 ≡ k = omega arith in (
+      let back : region_word k - line_words ≡ k = omega arith in (
         me.0,
         keeps,
         tt,
-        unmoved s r (k + 1) id me.1 me.0 at,
+        unmoved s r (region_word k) id me.1 me.0 at,
         (refl, (λ i small at_k. sym (region_at size s.words k inside) ∙ (sym (ap (λ j. get_or ws j 0) (at_k ∙ back)) ∙ (sym (get_or_map0 (λ j. get_or ws j 0) (places me.0.blocks) i small) ∙ ap (λ l. get_or l i 0) (sym spells))))),
       )
 
@@ -896,7 +898,7 @@ module _ {V E : Type 0} (K : Ghosts V E) (size : ℕ) where
 
   pub fills_step : (slots id : ℕ) (me : M) (serial i k x count : ℕ) → 0 < me.0.number → me.0.holding ≡ Free → me.0.task ≡ Fill serial → i < length (places me.0.blocks) → get_or (places me.0.blocks) i 0 ≡ k → k < size
       → 8 * i ≤ count → count ≤ 8 * i + 8 → 8 * i ≤ length me.0.content → K.fits me.0.seen serial (filled me.0.content i x count)
-      → Allows Rule slots id me (k + 1) (λ _. x) (λ _. stores_filled K i count (step slots (k + 1) x 0 none) me x)
+      → Allows Rule slots id me (region_word k) (λ _. x) (λ _. stores_filled K i count (step slots (region_word k) x 0 none) me x)
   fills_step slots id me serial i k x count live free task inside here_k small low high long may s r _ at _ =
       let v : View V E = me.0 in
       let base : V = r.base in
@@ -914,16 +916,15 @@ module _ {V E : Type 0} (K : Ghosts V E) (size : ℕ) where
       let region_long : length ws ≡ size = length-region size s.words (omega arith) in
       let bytes : List ℕ = filled v.content i x count in
       let w : View V E = with_content v bytes in
-      let now : get_or (set s.words (k + 1) x) 0 0 ≡ word s = get_or-set_other s.words (k + 1) 0 x 0 (λ e. absurd (omega arith)) in
-      let next : suc k ≡ k + 1 = omega arith in
-      let here : region size (set s.words (k + 1) x) ≡ ws' = subst (λ (j : ℕ). region size (set s.words j x) ≡ ws') next (region_set size s.words k x) in
+      let now : get_or (set s.words (region_word k) x) 0 0 ≡ word s = get_or-set_other s.words (region_word k) 0 x 0 (λ e. absurd (omega arith)) in
+      let here : region size (set s.words (region_word k) x) ≡ ws' = region_set size s.words k x in
       let old_text : (v.content ≡ take (length v.content) (bytes_of (spelled ws v.blocks))) × K.fits (K.journal base) serial v.content = subst (λ (p : Holding V × Task). TaskRule K base ws p.0 p.1 v.blocks v.content) (λ j. (free j, task j)) mine.content in
       let front : bytes ≡ take (length bytes) (bytes_of (spelled ws' v.blocks)) = filled_front ws v.blocks v.content i k x count once inside here_k (omega arith) low high old_text.0 long in
       let u = mine.was_sound in
       let fits : K.fits (K.journal base) serial bytes = K.fits_on u.words r.was_sound.0 u.value base serial bytes u.sound r.was_sound.2 (subst (λ l. StartsWith (K.journal base) l) (sym u.journal) mine.seen) (subst (λ l. K.fits l serial bytes) (sym u.journal) may) in
       let content : TaskRule K base ws' v.holding v.task v.blocks bytes = subst (λ (p : Holding V × Task). TaskRule K base ws' p.0 p.1 v.blocks bytes) (λ j. (sym free j, sym task j)) (front, fits) in
       let ms : List ℕ = task_words s in
-      let also : task_words_of size (set s.words (k + 1) x) ≡ ms = task_words_low size (k + 1) x s.words (omega arith) in
+      let also : task_words_of size (set s.words (region_word k) x) ≡ ms = task_words_low size (region_word k) x s.words (omega arith) in
       let Q : ℕ → List ℕ → List ℕ → View V E → Type 0 = λ y l ns z. SeatRule K size y l ns base r.registry z in
       let own_fits : Q (word s) ws' ms w = record {
         sized = mine.sized;
@@ -959,7 +960,7 @@ module _ {V E : Type 0} (K : Ghosts V E) (size : ℕ) where
           base = base;
           registry = r.registry;
           few = r.few;
-          width = length-set s.words (k + 1) x ∙ width;
+          width = length-set s.words (region_word k) x ∙ width;
           in_slot = λ z. let h = r.in_slot (sym now ∙ z) in (h.0, subst (λ (l : List ℕ). K.sound l base) (sym here) (K.fills_free ws ws' base h.1 (length-set ws k x) (λ j out. get_or-set_other ws k j x 0 (off j (out v.number)))));
           out_of_slot = λ up. let a = r.out_of_slot (λ z. up (now ∙ z)) in let h = a.1 in (
             a.0,
@@ -970,35 +971,35 @@ module _ {V E : Type 0} (K : Ghosts V E) (size : ℕ) where
           was_sound = r.was_sound;
           apart = apart_set s.views id v w at (λ _. refl) r.apart;
           each = subst (λ (p : ℕ × List ℕ × List ℕ). (j : ℕ) (z : View V E) → get_elem? (set s.views id w) j ≡ some z → z.number ≢ 0 → Q p.0 p.1 p.2 z) (λ j. (sym now j, sym here j, sym also j)) each';
-          met = λ k es e. let m = r.met k es e in record { events = m.events; seen = m.seen; listed = m.listed; task_word = ap (λ l. get_or l ((k + 2) - 1) 0) also ∙ m.task_word };
-          unmade = λ k more. let m = r.unmade k more in record { events = m.events; connected = m.connected; listed = m.listed; task_word = ap (λ l. get_or l (k - 1) 0) also ∙ m.task_word };
+          met = λ k es e. let m = r.met k es e in record { events = m.events; seen = m.seen; listed = m.listed; task_word = ap (λ l. get_or l (line_of (k + 2)) 0) also ∙ m.task_word };
+          unmade = λ k more. let m = r.unmade k more in record { events = m.events; connected = m.connected; listed = m.listed; task_word = ap (λ l. get_or l (line_of k) 0) also ∙ m.task_word };
           zero_number = r.zero_number;
         },
         refl,
       )
 
-  pub read_as : (g : Holding V) (n k r : ℕ) (v : View V E) → v.holding ≡ g → v.number ≡ n → ((b : V) (ws : List ℕ) → v.holding ≡ Holds b ws → OutsideOtherFills v.number (K.tasks b) ((k + 1) - 1) → r ≡ get_or ws ((k + 1) - 1) 0) → LoadedWord K n k r g
-  read_as Free n k r v e e' h = tt
-  read_as (Holds b ws) n k r v e e' h = λ out. let back : k ≡ (k + 1) - 1 = omega arith in
+  pub read_as : (g : Holding V) (n k at r : ℕ) (v : View V E) → at ≡ region_word k → v.holding ≡ g → v.number ≡ n → ((b : V) (ws : List ℕ) → v.holding ≡ Holds b ws → OutsideOtherFills v.number (K.tasks b) (at - line_words) → r ≡ get_or ws (at - line_words) 0) → LoadedWord K n k r g
+  read_as Free n k at r v here e e' h = tt
+  read_as (Holds b ws) n k at r v here e e' h = λ out. let back : k ≡ at - line_words = omega (arith, here) in
       h b ws e (subst (λ (p : ℕ × ℕ). OutsideOtherFills p.0 (K.tasks b) p.1) (λ i. (sym e' i, back i)) out) ∙ ap (λ i. get_or ws i 0) (sym back)
 
   -- the seat ends its stream
-  pub clears_step : (slots id : ℕ) (me : M) (serial : ℕ) → 0 < me.0.number → me.0.holding ≡ Free → me.0.task ≡ Stream serial → Allows Rule slots id me (size + me.0.number) (λ _. 0) (λ _. clears_task_word K (step slots (size + me.0.number) 0 0 none) me 0)
+  pub clears_step : (slots id : ℕ) (me : M) (serial : ℕ) → 0 < me.0.number → me.0.holding ≡ Free → me.0.task ≡ Stream serial → Allows Rule slots id me (task_word size me.0.number) (λ _. 0) (λ _. clears_task_word K (step slots (task_word size me.0.number) 0 0 none) me 0)
   clears_step slots id me serial live free task s r _ at _ =
       let v : View V E = me.0 in
       let base : V = r.base in
       let n : ℕ = v.number in
-      let i : ℕ = size + n in
+      let i : ℕ = task_word size n in
       let ws : List ℕ = region size s.words in
       let ms : List ℕ = task_words s in
-      let ms' : List ℕ = set ms (n - 1) 0 in
+      let ms' : List ℕ = set ms (line_of n) 0 in
       let mine : SeatRule K size (word s) ws ms base r.registry v = r.each id v at (λ z. absurd (omega arith)) in
       let w : View V E = after_stream v in
       let ts = listed_for n (K.tasks base) in
       let ts_is : ts ≡ own n (Stream serial) v.blocks = listed_live n (Stream serial) v.blocks ts (subst (λ (t : Task). IsListed n t v.blocks ts) task mine.listed) (rest_or serial).0 in
       let now : get_or (set s.words i 0) 0 0 ≡ word s = get_or-set_other s.words i 0 0 0 (λ e. absurd (omega arith)) in
       let here : region size (set s.words i 0) ≡ ws = region_high size i 0 s.words (omega arith) in
-      let also : task_words_of size (set s.words i 0) ≡ ms' = task_words_set size n 0 s.words live in
+      let also : task_words_of size (set s.words i 0) ≡ ms' = task_words_set size n 0 s.words in
       let Q : ℕ → List ℕ → List ℕ → View V E → Type 0 = λ y l ns z. SeatRule K size y l ns base r.registry z in
       let own_fits : Q (word s) ws ms' w = record {
         sized = mine.sized;
@@ -1011,10 +1012,10 @@ module _ {V E : Type 0} (K : Ghosts V E) (size : ℕ) where
         events = mine.events;
         connected = mine.connected;
         listed = inr (refl, (serial, v.blocks, ts_is));
-        task_word = zero_set ms (n - 1);
+        task_word = zero_set ms (line_of n);
         word_set = λ _. refl;
         goes_on = λ e. absurd (true≢false (sym e));
-        idle = λ k ne h. let q = mine.idle k ne h in (q.0, zero_stays ms (n - 1) (k - 1) q.1);
+        idle = λ k ne h. let q = mine.idle k ne h in (q.0, zero_stays ms (line_of n) (line_of k) q.1);
         none_found = mine.none_found;
         holding = mine.holding;
         content = subst (λ (g : Holding V). TaskRule K base ws g Rest [] []) (sym free) tt;
@@ -1023,8 +1024,8 @@ module _ {V E : Type 0} (K : Ghosts V E) (size : ℕ) where
       each_set (Q (word s) ws ms') s.views id w (λ _. own_fits)
       (λ j z other e alive. let f = r.each j z e alive in
       let apart : z.number ≢ n = λ same. other (r.apart j id z v e at same alive) in
-      let off : z.number - 1 ≢ n - 1 = λ same. apart (omega arith) in
-      other_words (word s) ws ms ms' base r.registry z f (get_or-set_other ms (n - 1) (z.number - 1) 0 0 off ∙ f.task_word) (λ k ne h. let q = f.idle k ne h in (q.0, zero_stays ms (n - 1) (k - 1) q.1))) in (
+      let off : line_of z.number ≢ line_of n = λ same. apart (omega arith) in
+      other_words (word s) ws ms ms' base r.registry z f (get_or-set_other ms (line_of n) (line_of z.number) 0 0 off ∙ f.task_word) (λ k ne h. let q = f.idle k ne h in (q.0, zero_stays ms (line_of n) (line_of k) q.1))) in (
         w,
         keeps,
         tt,
@@ -1038,23 +1039,23 @@ module _ {V E : Type 0} (K : Ghosts V E) (size : ℕ) where
           was_sound = r.was_sound;
           apart = apart_set s.views id v w at (λ _. refl) r.apart;
           each = subst (λ (p : ℕ × List ℕ × List ℕ). (j : ℕ) (z : View V E) → get_elem? (set s.views id w) j ≡ some z → z.number ≢ 0 → Q p.0 p.1 p.2 z) (λ j. (sym now j, sym here j, sym also j)) each';
-          met = λ k es e. let m = r.met k es e in record { events = m.events; seen = m.seen; listed = m.listed; task_word = ap (λ l. get_or l ((k + 2) - 1) 0) also ∙ zero_stays ms (n - 1) ((k + 2) - 1) m.task_word };
-          unmade = λ k more. let m = r.unmade k more in record { events = m.events; connected = m.connected; listed = m.listed; task_word = ap (λ l. get_or l (k - 1) 0) also ∙ zero_stays ms (n - 1) (k - 1) m.task_word };
+          met = λ k es e. let m = r.met k es e in record { events = m.events; seen = m.seen; listed = m.listed; task_word = ap (λ l. get_or l (line_of (k + 2)) 0) also ∙ zero_stays ms (line_of n) (line_of (k + 2)) m.task_word };
+          unmade = λ k more. let m = r.unmade k more in record { events = m.events; connected = m.connected; listed = m.listed; task_word = ap (λ l. get_or l (line_of k) 0) also ∙ zero_stays ms (line_of n) (line_of k) m.task_word };
           zero_number = r.zero_number;
         },
         refl,
       )
 
   -- the holder sets its own task word
-  pub sets_step : (slots id : ℕ) (me : M) (b : V) (us : List ℕ) → 0 < me.0.number → me.0.number ≤ 65 → me.0.holding ≡ Holds b us → Allows Rule slots id me (size + me.0.number) (λ _. 1) (λ _. sets_task_word K (step slots (size + me.0.number) 1 0 none) me 1)
+  pub sets_step : (slots id : ℕ) (me : M) (b : V) (us : List ℕ) → 0 < me.0.number → me.0.number ≤ 65 → me.0.holding ≡ Holds b us → Allows Rule slots id me (task_word size me.0.number) (λ _. 1) (λ _. sets_task_word K (step slots (task_word size me.0.number) 1 0 none) me 1)
   sets_step slots id me b us live few holds s r _ at _ =
       let v : View V E = me.0 in
       let base : V = r.base in
       let n : ℕ = v.number in
-      let i : ℕ = size + n in
+      let i : ℕ = task_word size n in
       let ws : List ℕ = region size s.words in
       let ms : List ℕ = task_words s in
-      let ms' : List ℕ = set ms (n - 1) 1 in
+      let ms' : List ℕ = set ms (line_of n) 1 in
       let mine : SeatRule K size (word s) ws ms base r.registry v = r.each id v at (λ z. absurd (omega arith)) in
       let g = holding_is (word s) ws us base b n v.holding holds mine.holding in
       let width = r.width in
@@ -1062,8 +1063,8 @@ module _ {V E : Type 0} (K : Ghosts V E) (size : ℕ) where
       let not_free : v.holding ≡ Free → ⊥ = λ e. holds_free b us (sym holds ∙ e) in
       let now : get_or (set s.words i 1) 0 0 ≡ word s = get_or-set_other s.words i 0 1 0 (λ e. absurd (omega arith)) in
       let here : region size (set s.words i 1) ≡ ws = region_high size i 1 s.words (omega arith) in
-      let also : task_words_of size (set s.words i 1) ≡ ms' = task_words_set size n 1 s.words live in
-      let long : length ms ≡ length s.words - suc size = length-drop (suc size) s.words in
+      let also : task_words_of size (set s.words i 1) ≡ ms' = task_words_set size n 1 s.words in
+      let long : length ms ≡ length s.words - region_word size = length-drop (region_word size) s.words in
       let Q : ℕ → List ℕ → List ℕ → View V E → Type 0 = λ y l ns z. SeatRule K size y l ns base r.registry z in
       let own_fits : Q (word s) ws ms' w = record {
         sized = mine.sized;
@@ -1076,10 +1077,10 @@ module _ {V E : Type 0} (K : Ghosts V E) (size : ℕ) where
         events = mine.events;
         connected = mine.connected;
         listed = mine.listed;
-        task_word = get_or-set_same ms (n - 1) 1 0 (omega arith);
+        task_word = get_or-set_same ms (line_of n) 1 0 (omega arith);
         word_set = λ e. absurd (not_free e);
         goes_on = λ _. refl;
-        idle = λ k ne h. let q = mine.idle k ne h in let up : 0 < k = q.0 in let off : k - 1 ≢ n - 1 = λ same. ne (omega arith) in (up, get_or-set_other ms (n - 1) (k - 1) 1 0 off ∙ q.1);
+        idle = λ k ne h. let q = mine.idle k ne h in let up : 0 < k = q.0 in let off : line_of k ≢ line_of n = λ same. ne (omega arith) in (up, get_or-set_other ms (line_of n) (line_of k) 1 0 off ∙ q.1);
         none_found = λ e. absurd (not_free e);
         holding = mine.holding;
         content = mine.content;
@@ -1088,9 +1089,9 @@ module _ {V E : Type 0} (K : Ghosts V E) (size : ℕ) where
       each_set (Q (word s) ws ms') s.views id w (λ _. own_fits)
       (λ j z other e alive. let f = r.each j z e alive in
       let apart : z.number ≢ n = λ same. other (r.apart j id z v e at same alive) in
-      let off : z.number - 1 ≢ n - 1 = λ same. apart (omega arith) in
+      let off : line_of z.number ≢ line_of n = λ same. apart (omega arith) in
       let no_idle : z.found ≡ [] = f.none_found (idle_else (word s) z.number ws base z.holding (λ e. apart (e ∙ g.0)) f.holding) in
-      other_words (word s) ws ms ms' base r.registry z f (get_or-set_other ms (n - 1) (z.number - 1) 1 0 off ∙ f.task_word) (λ k ne h. absurd (not_in_none k (subst (λ q. FoundIdle (idle_of q) k) no_idle h)))) in (
+      other_words (word s) ws ms ms' base r.registry z f (get_or-set_other ms (line_of n) (line_of z.number) 1 0 off ∙ f.task_word) (λ k ne h. absurd (not_in_none k (subst (λ q. FoundIdle (idle_of q) k) no_idle h)))) in (
         w,
         keeps,
         tt,
@@ -1107,11 +1108,11 @@ module _ {V E : Type 0} (K : Ghosts V E) (size : ℕ) where
           met = λ k es e. let m = r.met k es e in
               let apart : k + 2 ≢ n = λ same. let front : 1 < n = omega arith in let back : n - 2 ≡ k = omega arith in
               let none_there : get_elem? r.registry k ≡ some None = subst (λ (i : ℕ). get_elem? r.registry i ≡ some None) back (mine.unmet front) in absurd (cc) in
-              let off : (k + 2) - 1 ≢ n - 1 = λ same. apart (omega arith) in
-              record { events = m.events; seen = m.seen; listed = m.listed; task_word = ap (λ l. get_or l ((k + 2) - 1) 0) also ∙ (get_or-set_other ms (n - 1) ((k + 2) - 1) 1 0 off ∙ m.task_word) };
+              let off : line_of (k + 2) ≢ line_of n = λ same. apart (omega arith) in
+              record { events = m.events; seen = m.seen; listed = m.listed; task_word = ap (λ l. get_or l (line_of (k + 2)) 0) also ∙ (get_or-set_other ms (line_of n) (line_of (k + 2)) 1 0 off ∙ m.task_word) };
           unmade = λ k more. let m = r.unmade k more in let small = mine.numbered in
-              let off : k - 1 ≢ n - 1 = λ same. absurd (omega arith) in
-              record { events = m.events; connected = m.connected; listed = m.listed; task_word = ap (λ l. get_or l (k - 1) 0) also ∙ (get_or-set_other ms (n - 1) (k - 1) 1 0 off ∙ m.task_word) };
+              let off : line_of k ≢ line_of n = λ same. absurd (omega arith) in
+              record { events = m.events; connected = m.connected; listed = m.listed; task_word = ap (λ l. get_or l (line_of k) 0) also ∙ (get_or-set_other ms (line_of n) (line_of k) 1 0 off ∙ m.task_word) };
           zero_number = r.zero_number;
         },
         refl,
@@ -1119,7 +1120,7 @@ module _ {V E : Type 0} (K : Ghosts V E) (size : ℕ) where
 
   -- the rule after the holder read a task word, which says what it found of the seats that it read so far
   found_on : (s : St) (r : Rule s) (i id : ℕ) (cs : List (ℕ × Option V)) (v : View V E) (f : FoundWord) → get_elem? s.views id ≡ some v → 0 < v.number → (v.holding ≡ Free → ⊥)
-      → ((k : ℕ) → k ≢ v.number → FoundIdle (idle_of (f ∷ v.found)) k → (0 < k) × (get_or (task_words s) (k - 1) 0 ≡ 0)) → Rule (stepped s i (get_or s.words i 0) id cs (with_found v (f ∷ v.found)) keeps)
+      → ((k : ℕ) → k ≢ v.number → FoundIdle (idle_of (f ∷ v.found)) k → (0 < k) × (get_or (task_words s) (line_of k) 0 ≡ 0)) → Rule (stepped s i (get_or s.words i 0) id cs (with_found v (f ∷ v.found)) keeps)
   found_on s r i id cs v f at live not_free idle =
       let mine = r.each id v at (λ z. absurd (omega arith)) in
       let w : View V E = with_found v (f ∷ v.found) in
@@ -1159,41 +1160,47 @@ module _ {V E : Type 0} (K : Ghosts V E) (size : ℕ) where
       }
 
   -- the holder reads a task word
-  pub reads_word_step : (slots id : ℕ) (me : M) (b : V) (us : List ℕ) (m : ℕ) → 0 < me.0.number → 0 < m → me.0.holding ≡ Holds b us → Allows Rule slots id me (size + m) (λ x. x) (reads_task_word K (step slots (size + m) 0 0 none) me)
+  pub reads_word_step : (slots id : ℕ) (me : M) (b : V) (us : List ℕ) (m : ℕ) → 0 < me.0.number → 0 < m → me.0.holding ≡ Holds b us → Allows Rule slots id me (task_word size m) (λ x. x) (reads_task_word K (step slots (task_word size m) 0 0 none) me)
   reads_word_step slots id me b us m live some_seat holds s r _ at _ =
       let v : View V E = me.0 in
       let ms : List ℕ = task_words s in
-      let x : ℕ = get_or s.words (size + m) 0 in
+      let x : ℕ = get_or s.words (task_word size m) 0 in
       let mine : SeatRule K size (word s) (region size s.words) ms r.base r.registry v = r.each id v at (λ z. absurd (omega arith)) in
       let not_free : v.holding ≡ Free → ⊥ = λ e. holds_free b us (sym holds ∙ e) in
       let sized = mine.sized in
-      let n : ℕ = (size + m) - v.size in
-      let seat : n ≡ m = omega arith in
+      let same : (n : ℕ) → task_word size m ≡ task_word v.size n → m ≡ n = λ n e. omega arith in
+      let after : ℕ → Bool → M = λ n on. (with_found v (found_word n on ∷ v.found), me.1) in
       dite (ℕ_discrete x 0)
       (λ zero_there.
-      let f : FoundWord = found_word n false in (
+      let f : FoundWord = found_word m false in (
         with_found v (f ∷ v.found),
         keeps,
         tt,
-        found_on s r (size + m) id me.1 v f at live not_free (λ k other h. dite (ℕ_discrete k n)
-            (λ e. let is : k ≡ m = e ∙ seat in let up : 0 < k = omega arith in (up, ap (λ y. get_or ms (y - 1) 0) is ∙ (task_words_at size m s.words some_seat ∙ zero_there)))
+        found_on s r (task_word size m) id me.1 v f at live not_free (λ k other h. dite (ℕ_discrete k m)
+            (λ is. let up : 0 < k = omega arith in (up, ap (λ y. get_or ms (line_of y) 0) is ∙ (task_words_at size m s.words ∙ zero_there)))
             (λ ne. mine.idle k other (λ miss. h (ne, miss)))),
-        ((λ _. refl), (λ not. absurd (not zero_there))),
+        λ n e. ((λ _. ap (λ (k : ℕ). after k false) (same n e)), (λ not. absurd (not zero_there))),
       ))
       (λ not.
-      let f : FoundWord = found_word n true in
-      (with_found v (f ∷ v.found), keeps, tt, found_on s r (size + m) id me.1 v f at live not_free mine.idle, ((λ z. absurd (not z)), (λ _. refl))))
+      let f : FoundWord = found_word m true in
+      (with_found v (f ∷ v.found), keeps, tt, found_on s r (task_word size m) id me.1 v f at live not_free mine.idle, λ n e. ((λ z. absurd (not z)), (λ _. ap (λ (k : ℕ). after k true) (same n e)))))
 
-  sets_at : (slots id : ℕ) (me : M) (g : Holding V) → 0 < me.0.number → me.0.number ≤ 65 → me.0.holding ≡ g → HoldsTurn g → Allows Rule slots id me (size + me.0.number) (λ _. 1) (λ _. sets_task_word K (step slots (size + me.0.number) 1 0 none) me 1)
+  -- what the holder knows after it read the task word of the seat n
+  pub found_after : (r n : ℕ) (m m' : M) → (r ≡ 0 → m' ≡ (with_found m.0 (found_word n false ∷ m.0.found), m.1)) × (r ≢ 0 → m' ≡ (with_found m.0 (found_word n true ∷ m.0.found), m.1)) → m' ≡ (with_found m.0 (found_word n (not (eqb r 0)) ∷ m.0.found), m.1)
+  found_after r n m m' h = dite (ℕ_discrete r 0)
+      (λ e. subst (λ (b : Bool). m' ≡ (with_found m.0 (found_word n (not b) ∷ m.0.found), m.1)) (sym (eq-eqb r 0 e)) (h.0 e))
+      (λ ne. subst (λ (b : Bool). m' ≡ (with_found m.0 (found_word n (not b) ∷ m.0.found), m.1)) (sym (ne_eqb r 0 ne)) (h.1 ne))
+
+  sets_at : (slots id : ℕ) (me : M) (g : Holding V) → 0 < me.0.number → me.0.number ≤ 65 → me.0.holding ≡ g → HoldsTurn g → Allows Rule slots id me (task_word size me.0.number) (λ _. 1) (λ _. sets_task_word K (step slots (task_word size me.0.number) 1 0 none) me 1)
   sets_at slots id me Free live few e h = absurd h
   sets_at slots id me (Holds b us) live few e h = sets_step slots id me b us live few e
 
-  pub sets_held : (slots id : ℕ) (me : M) → 0 < me.0.number → me.0.number ≤ 65 → HoldsTurn me.0.holding → Allows Rule slots id me (size + me.0.number) (λ _. 1) (λ _. sets_task_word K (step slots (size + me.0.number) 1 0 none) me 1)
+  pub sets_held : (slots id : ℕ) (me : M) → 0 < me.0.number → me.0.number ≤ 65 → HoldsTurn me.0.holding → Allows Rule slots id me (task_word size me.0.number) (λ _. 1) (λ _. sets_task_word K (step slots (task_word size me.0.number) 1 0 none) me 1)
   sets_held slots id me live few h = sets_at slots id me me.0.holding live few refl h
 
-  reads_word_at : (slots id : ℕ) (me : M) (g : Holding V) (m : ℕ) → 0 < me.0.number → 0 < m → me.0.holding ≡ g → HoldsTurn g → Allows Rule slots id me (size + m) (λ x. x) (reads_task_word K (step slots (size + m) 0 0 none) me)
+  reads_word_at : (slots id : ℕ) (me : M) (g : Holding V) (m : ℕ) → 0 < me.0.number → 0 < m → me.0.holding ≡ g → HoldsTurn g → Allows Rule slots id me (task_word size m) (λ x. x) (reads_task_word K (step slots (task_word size m) 0 0 none) me)
   reads_word_at slots id me Free m live up e h = absurd h
   reads_word_at slots id me (Holds b us) m live up e h = reads_word_step slots id me b us m live up e
 
-  pub reads_word_held : (slots id : ℕ) (me : M) (m : ℕ) → 0 < me.0.number → 0 < m → HoldsTurn me.0.holding → Allows Rule slots id me (size + m) (λ x. x) (reads_task_word K (step slots (size + m) 0 0 none) me)
+  pub reads_word_held : (slots id : ℕ) (me : M) (m : ℕ) → 0 < me.0.number → 0 < m → HoldsTurn me.0.holding → Allows Rule slots id me (task_word size m) (λ x. x) (reads_task_word K (step slots (task_word size m) 0 0 none) me)
   reads_word_held slots id me m live up h = reads_word_at slots id me me.0.holding m live up refl h

@@ -1,7 +1,7 @@
 -- Lists of words, of blocks and of events.
-use Rattle.std.proofs.Common.{◌≡◌, ◌≢◌, ◌⊎◌, inl, inr, ⊎_elim, true≢false, ℕ, zero, suc, ◌+◌, ◌-◌, ◌*◌, ◌/◌, ◌<◌, ◌≤◌, ltb, ltb-true, ltb-false, Bool, true, false, cond, List, [], ◌∷◌, ◌++◌, map, length, get_or, take, set, refl, sym, ap, ◌∙◌, subst, arith, append_assoc, append-nil, length-append, get_or-set_same, get_or-set_other, get_or-drop}
+use Rattle.std.proofs.Common.{◌≡◌, ◌≢◌, ◌⊎◌, inl, inr, ⊎_elim, true≢false, ℕ, zero, suc, ◌+◌, ◌-◌, ◌*◌, ◌/◌, ◌<◌, ◌≤◌, ltb, ltb-true, ltb-false, Bool, true, false, cond, List, [], ◌∷◌, ◌++◌, map, length, get_or, take, drop, set, refl, sym, ap, ◌∙◌, subst, arith, append_assoc, append-nil, length-append, get_or-set_same, get_or-set_other, get_or-drop}
 use Rattle.std.proofs.lemmas.Grind.{common_steps}
-use Rattle.std.proofs.lemmas.List.{drop-set-lt, drop-set-add}
+use Rattle.std.proofs.lemmas.List.{drop-set-lt, drop-set-add, get_or-take}
 use mathlib.Core.Logic.{dite}
 use Rattle.std.proofs.lemmas.Bool.{cases_lt}
 use Rattle.qc_chain.specs.Words.{words_of, word_at}
@@ -10,7 +10,7 @@ use native.Mathlib.Decide.{ℕ_discrete}
 use Rattle.qc_turn.specs.Blocks.{counted, places, spelled, Misses, IsDistinct}
 use Rattle.qc_turn.specs.Bytes.{low_bytes, bytes_of, filled}
 use Rattle.qc_turn.specs.Tasks.{places_of, own, words_in, task_in, blocks_in, HasBlocks, released_task, released_blocks, is_stream, IsEnded, IsListed, FoundIdle, KeepsListed, fill_places}
-use Rattle.qc_turn.specs.Words.{StartsWith, longer, region, task_words_of}
+use Rattle.qc_turn.specs.Words.{StartsWith, longer, line_words, region_word, line_of, task_word, region, task_words_of}
 use Rattle.qc_tiles.specs.declared.blocks.Block.{Block}
 use Rattle.qc_turn.specs.declared.task.ListedTask.{ListedTask}
 use Rattle.qc_turn.specs.declared.task.Task.{Task}
@@ -44,8 +44,8 @@ module _ {E : Type 0} where
   pub longer_one : (P : List E → Type 0) (xs ys : List E) → P xs → P ys → P (longer xs ys)
   longer_one P xs ys p q = elim (ltb (length xs) (length ys)) as (λ b. P (cond b ys xs)) [ true ↦ q | false ↦ p ]
 
-pub region_at : (size : ℕ) (words : List ℕ) (k : ℕ) → k < size → get_or (region size words) k 0 ≡ get_or words (k + 1) 0
-region_at size words k h = grind (arith, common_steps)
+pub region_at : (size : ℕ) (words : List ℕ) (k : ℕ) → k < size → get_or (region size words) k 0 ≡ get_or words (region_word k) 0
+region_at size words k h = let e : line_words + k ≡ region_word k = omega arith in get_or-take size (drop line_words words) k 0 h ∙ (get_or-drop line_words words k 0 ∙ ap (λ i. get_or words i 0) e)
 
 take_set : (n : ℕ) (ws : List ℕ) (k x : ℕ) → take n (set ws k x) ≡ set (take n ws) k x
 take_set zero ws k x = refl
@@ -53,15 +53,13 @@ take_set (suc n) [] k x = refl
 take_set (suc n) (w ∷ ws) zero x = refl
 take_set (suc n) (w ∷ ws) (suc k) x = ap (λ l. w ∷ l) (take_set n ws k x)
 
-pub region_set : (size : ℕ) (words : List ℕ) (k x : ℕ) → region size (set words (suc k) x) ≡ set (region size words) k x
-region_set size [] k x = take_set size [] k x
-region_set size (w ∷ ws) k x = take_set size ws k x
+pub region_set : (size : ℕ) (words : List ℕ) (k x : ℕ) → region size (set words (region_word k) x) ≡ set (region size words) k x
+region_set size words k x = let e : region_word k ≡ line_words + k = omega arith in ap (λ i. region size (set words i x)) e ∙ (ap (take size) (drop-set-add line_words words k x) ∙ take_set size (drop line_words words) k x)
 
 pub region_set0 : (size : ℕ) (words : List ℕ) (x : ℕ) → region size (set words 0 x) ≡ region size words
-region_set0 size [] x = refl
-region_set0 size (w ∷ ws) x = refl
+region_set0 size words x = ap (take size) (drop-set-lt line_words words 0 x (omega arith))
 
-pub length-region : (size : ℕ) (words : List ℕ) → size < length words → length (region size words) ≡ size
+pub length-region : (size : ℕ) (words : List ℕ) → region_word size ≤ length words → length (region size words) ≡ size
 length-region size words h = grind (arith, common_steps)
 
 pub misses_front : (k : ℕ) (xs ys : List ℕ) → Misses k (xs ++ ys) → Misses k xs
@@ -212,14 +210,14 @@ filled_front ws bs content i k x count d h at inside low high is long =
     let front : take (8 * i) content ≡ take (8 * i) old = ap (take (8 * i)) is ∙ take_less (8 * i) (length content) old long in
     is_front count (filled content i x count) (bytes_of (spelled (set ws k x) bs)) (ap (λ l. l ++ take (count - 8 * i) (low_bytes 8 x)) front ∙ sym (stored_bytes ws (places bs) i k x count d h at inside low high))
 
-pub task_words_low : (size i x : ℕ) (words : List ℕ) → i ≤ size → task_words_of size (set words i x) ≡ task_words_of size words
-task_words_low size i x words h = drop-set-lt (suc size) words i x (omega arith)
+pub task_words_low : (size i x : ℕ) (words : List ℕ) → i < region_word size → task_words_of size (set words i x) ≡ task_words_of size words
+task_words_low size i x words h = drop-set-lt (region_word size) words i x h
 
-pub task_words_set : (size n x : ℕ) (words : List ℕ) → 0 < n → task_words_of size (set words (size + n) x) ≡ set (task_words_of size words) (n - 1) x
-task_words_set size n x words h = let e : size + n ≡ suc size + (n - 1) = omega arith in ap (λ i. task_words_of size (set words i x)) e ∙ drop-set-add (suc size) words (n - 1) x
+pub task_words_set : (size n x : ℕ) (words : List ℕ) → task_words_of size (set words (task_word size n) x) ≡ set (task_words_of size words) (line_of n) x
+task_words_set size n x words = drop-set-add (region_word size) words (line_of n) x
 
-pub task_words_at : (size n : ℕ) (words : List ℕ) → 0 < n → get_or (task_words_of size words) (n - 1) 0 ≡ get_or words (size + n) 0
-task_words_at size n words h = let e : suc size + (n - 1) ≡ size + n = omega arith in get_or-drop (suc size) words (n - 1) 0 ∙ ap (λ i. get_or words i 0) e
+pub task_words_at : (size n : ℕ) (words : List ℕ) → get_or (task_words_of size words) (line_of n) 0 ≡ get_or words (task_word size n) 0
+task_words_at size n words = get_or-drop (region_word size) words (line_of n) 0
 
 pub listed_live : (n : ℕ) (t : Task) (bs : List Block) (ts : List ListedTask) → IsListed n t bs ts → (t ≡ Rest → ⊥) → ts ≡ own n t bs
 listed_live n t bs ts l live = ⊎_elim (λ e. e) (λ (r : (t ≡ Rest) × IsEnded n ts). absurd (live r.0)) l
@@ -256,10 +254,10 @@ take_high (suc n) [] j x h = refl
 take_high (suc n) (y ∷ l) zero x h = absurd (omega arith)
 take_high (suc n) (y ∷ l) (suc j) x h = ap (λ t. y ∷ t) (take_high n l j x (omega arith))
 
-pub region_high : (size i x : ℕ) (words : List ℕ) → size < i → region size (set words i x) ≡ region size words
-region_high size zero x words h = absurd (omega arith)
-region_high size (suc i) x [] h = refl
-region_high size (suc i) x (w ∷ ws) h = take_high size ws i x (omega arith)
+pub region_high : (size i x : ℕ) (words : List ℕ) → region_word size ≤ i → region size (set words i x) ≡ region size words
+region_high size i x words h =
+    let e : i ≡ line_words + (i - line_words) = omega arith in
+    ap (λ j. region size (set words j x)) e ∙ (ap (take size) (drop-set-add line_words words (i - line_words) x) ∙ take_high size (drop line_words words) (i - line_words) x (omega arith))
 
 pub zero_set : (l : List ℕ) (i : ℕ) → get_or (set l i 0) i 0 ≡ 0
 zero_set [] i = refl

@@ -15,7 +15,7 @@ use Rattle.qc_turn.specs.Blocks.{spelled}
 use Rattle.qc_turn.specs.Bytes.{bytes_of}
 use Rattle.qc_turn.specs.Tasks.{listed_for, is_stream, IsListed, FoundIdle, Agrees}
 use Rattle.qc_turn.specs.Views.{Apart, of_seat, idle_of, IsSoundJournal}
-use Rattle.qc_turn.specs.Words.{StartsWith, region, task_words_of, bit, extra_words, last_seat}
+use Rattle.qc_turn.specs.Words.{StartsWith, region, task_words_of, line_of, bit, extra_words, last_seat}
 
 module _ {V E : Type 0} (K : Ghosts V E) where
   -- Who holds the turn has its number in the turn word, and knows the value as it was taken and the words but those of the others' fills.
@@ -46,11 +46,11 @@ module _ {V E : Type 0} (K : Ghosts V E) where
     pub events : v.events ≡ of_seat K v.number (K.journal base)
     pub connected : v.connected ≡ K.connected base v.number
     pub listed : IsListed v.number v.task v.blocks (listed_for v.number (K.tasks base))
-    pub task_word : slice_index task_words (v.number - 1) ≡ bit v.word_set
+    pub task_word : slice_index task_words (line_of v.number) ≡ bit v.word_set
     pub word_set : v.holding ≡ Free → v.word_set ≡ is_stream v.task
     -- the stream of a seat that holds the turn goes on
     pub goes_on : is_stream v.task ≡ true → v.word_set ≡ true
-    pub idle : (k : ℕ) → k ≢ v.number → FoundIdle (idle_of v.found) k → (0 < k) × (slice_index task_words (k - 1) ≡ 0)
+    pub idle : (k : ℕ) → k ≢ v.number → FoundIdle (idle_of v.found) k → (0 < k) × (slice_index task_words (line_of k) ≡ 0)
     pub none_found : v.holding ≡ Free → v.found ≡ []
     pub holding : HoldingRule turn_word words base v.number v.holding
     pub content : TaskRule base words v.holding v.task v.blocks v.content
@@ -60,14 +60,14 @@ module _ {V E : Type 0} (K : Ghosts V E) where
     pub events : kept.events ≡ of_seat K n (K.journal base)
     pub seen : StartsWith (K.journal base) kept.seen
     pub listed : IsListed n Rest [] (listed_for n (K.tasks base))
-    pub task_word : slice_index task_words (n - 1) ≡ 0
+    pub task_word : slice_index task_words (line_of n) ≡ 0
 
   -- A seat that wasn't made has done nothing.
   pub record UnmadeRule (task_words : List ℕ) (base : V) (n : ℕ) : Type 0 where
     pub events : of_seat K n (K.journal base) ≡ []
     pub connected : K.connected base n ≡ false
     pub listed : listed_for n (K.tasks base) ≡ []
-    pub task_word : slice_index task_words (n - 1) ≡ 0
+    pub task_word : slice_index task_words (line_of n) ≡ 0
 
   -- The rule of the turn.
   pub record TurnRule (size : ℕ) (s : State (Option V) (View V E)) : Type 0 where

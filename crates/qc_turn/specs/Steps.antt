@@ -11,7 +11,7 @@ use Rattle.qc_turn.specs.Bytes.{filled}
 use Rattle.qc_turn.specs.Rules.{ContentRule}
 use Rattle.qc_turn.specs.Tasks.{listed_for, is_stream, IsListed, OutsideOtherFills}
 use Rattle.qc_turn.specs.Views.{of_seat, IsSoundJournal, words_of, written, with_holding, with_content, with_word_set, with_found, found_word, after_stream, after_release}
-use Rattle.qc_turn.specs.Words.{StartsWith, last_seat}
+use Rattle.qc_turn.specs.Words.{StartsWith, line_words, task_word, last_seat}
 
 module _ {V E : Type 0} (K : Ghosts V E) where
   abbrev Known : Type 0
@@ -44,15 +44,15 @@ module _ {V E : Type 0} (K : Ghosts V E) where
 
   -- a load under the turn
   abbrev pub loads_word : Step (Option V) → Known → ℕ → Known → Type 0
-  loads_word st m r m' = (m' ≡ m) × ((b : V) (ws : List ℕ) → m.0.holding ≡ Holds b ws → OutsideOtherFills m.0.number (K.tasks b) (st.word - 1) → r ≡ slice_index ws (st.word - 1))
+  loads_word st m r m' = (m' ≡ m) × ((b : V) (ws : List ℕ) → m.0.holding ≡ Holds b ws → OutsideOtherFills m.0.number (K.tasks b) (st.word - line_words) → r ≡ slice_index ws (st.word - line_words))
 
   -- a store under the turn
   abbrev pub stores_word : Step (Option V) → Known → ℕ → Known → Type 0
-  stores_word st m r m' = m' ≡ (with_holding m.0 (written m.0.holding (st.word - 1) r), m.1)
+  stores_word st m r m' = m' ≡ (with_holding m.0 (written m.0.holding (st.word - line_words) r), m.1)
 
   -- a load by a seat that streams
   abbrev pub loads_streamed : Step (Option V) → Known → ℕ → Known → Type 0
-  loads_streamed st m r m' = (m' ≡ m) × ((i : ℕ) → i < length (places m.0.blocks) → slice_index (places m.0.blocks) i ≡ st.word - 1 → r ≡ slice_index m.0.content i)
+  loads_streamed st m r m' = (m' ≡ m) × ((i : ℕ) → i < length (places m.0.blocks) → slice_index (places m.0.blocks) i ≡ st.word - line_words → r ≡ slice_index m.0.content i)
 
   -- a store by a seat that fills, at the index i of its fill, which then has count bytes
   abbrev pub stores_filled : ℕ → ℕ → Step (Option V) → Known → ℕ → Known → Type 0
@@ -66,9 +66,9 @@ module _ {V E : Type 0} (K : Ghosts V E) where
   abbrev pub clears_task_word : Step (Option V) → Known → ℕ → Known → Type 0
   clears_task_word st m r m' = m' ≡ (after_stream m.0, m.1)
 
-  -- the holder reads a task word
+  -- the holder reads the task word of the seat n
   abbrev pub reads_task_word : Step (Option V) → Known → ℕ → Known → Type 0
-  reads_task_word st m r m' = (r ≡ 0 → m' ≡ (with_found m.0 (found_word (st.word - m.0.size) false ∷ m.0.found), m.1)) × (r ≢ 0 → m' ≡ (with_found m.0 (found_word (st.word - m.0.size) true ∷ m.0.found), m.1))
+  reads_task_word st m r m' = (n : ℕ) → st.word ≡ task_word m.0.size n → (r ≡ 0 → m' ≡ (with_found m.0 (found_word n false ∷ m.0.found), m.1)) × (r ≢ 0 → m' ≡ (with_found m.0 (found_word n true ∷ m.0.found), m.1))
 
   -- The seat p has become q, which holds the turn, and the value came out of the slot.
   pub record TookTurn (p q : Seat (Option V) (View V E)) (x : V) : Type 0 where

@@ -4,6 +4,7 @@
 
 mod held;
 mod kept;
+mod lines;
 mod outside;
 mod rule;
 mod seat;

@@ -4,6 +4,7 @@ ghost use Rattle.std.specs.Prelude.{◌≡◌, ℕ, ◌+◌, ◌*◌, ◌<◌, �
 ghost use Rattle.qc_turn.specs.Blocks.{places};
 
 use crate::kept::Kept;
+use crate::lines::{region_index, task_index};
 use crate::seat::Seat;
 use crate::steps::{ClearsTaskWord, Filling, LoadsStreamed, StoresFilled};
 use crate::task::Task;
@@ -77,7 +78,7 @@ impl<V: Kept> Seat<V> {
     {
         turn.table
             .shared
-            .load::<LoadsStreamed>(&mut self.pass, place as usize + 1)
+            .load::<LoadsStreamed>(&mut self.pass, region_index(place))
     }
 
     /// Ends the stream: one store of 0 into the seat's own task word. The seat then rests.
@@ -88,10 +89,10 @@ impl<V: Kept> Seat<V> {
         ensures view { view self.new ≡ after_stream (view self.old) }
         ensures ranges { self.new.ranges ≡ self.old.ranges }
     {
-        let word = turn.words + self.number;
+        let word = task_index(turn.words, self.number);
         turn.table
             .shared
-            .store::<ClearsTaskWord>(&mut self.pass, word as usize, 0);
+            .store::<ClearsTaskWord>(&mut self.pass, word, 0);
         self.task = Task::Rest;
         self.word_set = false;
     }
@@ -151,6 +152,6 @@ impl<V: Kept> Seat<V> {
     {
         turn.table
             .shared
-            .store::<StoresFilled<N>>(&mut self.pass, place as usize + 1, value);
+            .store::<StoresFilled<N>>(&mut self.pass, region_index(place), value);
     }
 }

@@ -6,6 +6,7 @@ ghost use Rattle.qc_turn.specs.Words.{most_words, extra_words, word_seats, last_
 
 use crate::held::Held;
 use crate::kept::Kept;
+use crate::lines::{region_index, task_index};
 use crate::rule::{Rule, Start};
 use crate::seat::Seat;
 use crate::steps::{LoadsWord, ReadsTaskWord, ReleasesTurn, SetsTaskWord, StoresWord, TakesTurn};
@@ -21,8 +22,9 @@ use std::sync::Wait;
 use std::time::Duration;
 use std::{hint, thread};
 
-/// The words of a table beside its region: the turn word, and a task word for each of the first 65 seats.
-const EXTRA_WORDS: u32 = 66;
+/// The words of a table beside its region: the turn word, and a task word for each of the first 65 seats, each of them with a line of the processor's cache
+/// to itself.
+const EXTRA_WORDS: u32 = 536;
 
 /// The turn word.
 const TURN_WORD: usize = 0;
@@ -247,7 +249,7 @@ impl<V: Kept> Turn<V> {
     {
         self.table
             .shared
-            .load::<LoadsWord>(&mut seat.pass, (word + 1) as usize)
+            .load::<LoadsWord>(&mut seat.pass, region_index(word))
     }
 
     /// The holder stores a word of the region.
@@ -260,7 +262,7 @@ impl<V: Kept> Turn<V> {
     {
         self.table
             .shared
-            .store::<StoresWord>(&mut seat.pass, (word + 1) as usize, value);
+            .store::<StoresWord>(&mut seat.pass, region_index(word), value);
     }
 
     /// The value goes into the slot, and the turn word becomes 0, which gives the slot back.
@@ -294,10 +296,10 @@ impl<V: Kept> Turn<V> {
         ensures same { (seat.new.pass.me.1 ≡ seat.old.pass.me.1) × (seat.new.pass.table_id ≡ seat.old.pass.table_id) }
         ensures view { view seat.new ≡ with_word_set (view seat.old) true }
     {
-        let word = self.words + seat.number;
+        let word = task_index(self.words, seat.number);
         self.table
             .shared
-            .store::<SetsTaskWord>(&mut seat.pass, word as usize, 1);
+            .store::<SetsTaskWord>(&mut seat.pass, word, 1);
         seat.word_set = true;
     }
 
@@ -308,11 +310,11 @@ impl<V: Kept> Turn<V> {
         ensures same { (seat.new.pass.me.1 ≡ seat.old.pass.me.1) × (seat.new.pass.table_id ≡ seat.old.pass.table_id) }
         ensures view { view seat.new ≡ with_found (view seat.old) (found_word number result ∷ (view seat.old).found) }
     {
-        let word = self.words + number;
+        let word = task_index(self.words, number);
         let found = self
             .table
             .shared
-            .load::<ReadsTaskWord>(&mut seat.pass, word as usize);
+            .load::<ReadsTaskWord>(&mut seat.pass, word);
         found != 0
     }
 }

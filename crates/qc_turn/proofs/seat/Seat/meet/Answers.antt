@@ -3,7 +3,7 @@ use Rattle.qc_turn.proofs.RuleKept.{joins}
 use Rattle.qc_turn.proofs.Tasks.{longer_one}
 use Rattle.qc_turn.specs.Seats.{view}
 use Rattle.qc_turn.specs.Tasks.{HasBlocks}
-use Rattle.qc_turn.specs.Views.{IsSoundJournal, after_meet}
+use Rattle.qc_turn.specs.Views.{IsSoundJournal}
 use Rattle.qc_turn.proofs.seat.Seat.meet.Goals as goal
 
 pub join_seat-requires : goal.join_seat-requires

@@ -1,7 +1,6 @@
-use Rattle.std.proofs.Common.{◌^◌, ◌≡◌, ◌<◌, ◌+◌, ◌*◌, min, slice_index, sym, ap, subst, ◌∙◌, arith, List}
+use Rattle.std.proofs.Common.{◌^◌, ◌≡◌, ◌<◌, ◌+◌, ◌*◌, min, sym, ap, subst, ◌∙◌, arith, List}
 use Rattle.qc_chain.specs.Words.{words_of, word_at}
 use Rattle.qc_turn.proofs.Tasks.{length_words, place_word}
-use Rattle.qc_turn.specs.Blocks.{places}
 use Rattle.qc_turn.specs.Bytes.{filled}
 use Rattle.qc_turn.specs.Releases.{MayFill}
 use Rattle.qc_turn.specs.Seats.{view}

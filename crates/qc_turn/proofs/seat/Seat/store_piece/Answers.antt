@@ -1,6 +1,6 @@
 use Rattle.std.proofs.Common.{◌^◌, ◌≡◌, ◌<◌, ◌≤◌, ◌+◌, ◌*◌, ℕ, length, get_or, min, sym, ap, subst, ◌∙◌, arith, List}
 use Rattle.qc_chain.specs.Words.{words_of}
-use Rattle.qc_turn.proofs.Pieces.{after, after_long, after_fills, after_next, after_all}
+use Rattle.qc_turn.proofs.Pieces.{after_long, after_fills, after_next, after_all}
 use Rattle.qc_turn.proofs.Tasks.{length_words}
 use Rattle.qc_turn.specs.Blocks.{places}
 use Rattle.qc_turn.specs.Bytes.{filled}

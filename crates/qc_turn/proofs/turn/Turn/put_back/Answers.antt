@@ -7,6 +7,7 @@ use Rattle.qc_turn.specs.Rules.{TurnRule}
 use Rattle.qc_turn.specs.Steps.{releases_turn}
 use Rattle.qc_turn.specs.Tasks.{listed_for, places_of, blocks_in, task_in, is_stream, released_task, released_blocks, HasBlocks}
 use Rattle.qc_turn.specs.Views.{after_release, words_of}
+use Rattle.qc_turn.specs.Words.{extra_words}
 use Rattle.atomic_table.specs.Seated.{TableId}
 use Rattle.qc_turn.proofs.RuleKept.{releases_held}
 use Rattle.qc_turn.specs.declared.task.Task.{Task}
@@ -58,7 +59,7 @@ invariant_of-seat g c =
     record {
       numbered = (old.numbered.0 ∙ sym (ap (λ m. m.0.number) t), old.numbered.1);
       counted = old.counted ∙ sym (ap (λ m. length m.0.registry + 1) t);
-      sized = ap (λ m. m.0.size + 66) t ∙ (old.sized ∙ sym (ap (λ (z : TableId). z.words) place));
+      sized = ap (λ m. m.0.size + extra_words) t ∙ (old.sized ∙ sym (ap (λ (z : TableId). z.words) place));
       tasked = (sym (ap (λ m. m.0.task) t ∙ same), old.tasked.1 ∙ sym (ap (λ m. m.0.word_set) t));
       few = (λ e. old.tasked.1 ∙ (c.requires.task.1 ∙ (sym (ap is_stream (ap (λ m. m.0.task) t ∙ same)) ∙ e)), old.few.1);
       within = subst (λ (w : View g.row.V.Denot g.row.V-Event.Denot). (k : ℕ) → k < length (places w.blocks) → slice_index (places w.blocks) k < w.size) (sym (ap (λ m. m.0) t)) law;
