@@ -1,8 +1,9 @@
 -- Task words are read, and the streams struck off that have ended.
-use Rattle.std.proofs.Common.{◌≡◌, ◌≢◌, ℕ, ◌+◌, ◌-◌, ◌<◌, eqb, eq-eqb, eqb-true, ne_eqb, Bool, true, false, cond, List, [], ◌∷◌, ◌++◌, map, refl, sym, ap, subst, ◌∙◌, arith, true≢false, inl, inr, ⊎_elim, append_assoc, append-nil}
-use Rattle.std.specs.Prelude.{not, ◌||◌, ◌==◌, Option, Some, None, find}
+use Rattle.std.proofs.Common.{◌≡◌, ◌≢◌, ℕ, zero, suc, ◌+◌, ◌-◌, ◌<◌, ◌≤◌, eqb, eq-eqb, eqb-true, ne_eqb, Bool, true, false, cond, List, [], ◌∷◌, ◌++◌, length, take, drop, map, refl, sym, ap, subst, ◌∙◌, arith, true≢false, inl, inr, ⊎_elim, append_assoc, append-nil}
+use Rattle.std.specs.Prelude.{not, ◌||◌, ◌==◌, slice_get, Option, Some, None, find}
 use Rattle.std.specs.List.{list_any, AllByRecursion}
 use Rattle.std.proofs.lemmas.Option.{none-some, same_Some}
+use Rattle.std.proofs.lemmas.List.{take_all}
 use Rattle.std.proofs.lemmas.List.Folds.{list_any-append}
 use Rattle.qc_key.specs.Hash.{hash}
 use Rattle.qc_types.specs.declared.options.Options.{Options}
@@ -39,11 +40,11 @@ use Rattle.qc_model.specs.Cache.{cache}
 use Rattle.qc_sound.specs.parts.Journal.{reserved}
 use Rattle.qc_core.specs.Reserved.{Reserved}
 use Rattle.qc_core.specs.Calls.{IsNext, HasSpare}
-use Rattle.qc_core.specs.Sweeps.{has_stream, streams, swept, ReadsStreams, ReadsBelow, ReadsOne, Finds, IsSwept}
-use Rattle.qc_core.proofs.Seating.{distinct_parts}
+use Rattle.qc_core.specs.Sweeps.{has_stream, stream_seat, streams, swept, ReadsStreams, ReadsOne, ReadsAt, ReadsBehind, Finds, IsSwept}
+use Rattle.qc_core.proofs.Seating.{distinct_parts, is_among}
 use Rattle.qc_core.proofs.Standing.{value_stands}
 use Rattle.qc_core.proofs.Struck.{IsRested, go_on, struck_is, once_each}
-use Rattle.qc_core.proofs.Resting.{HasTask, may_strike, rested_sound}
+use Rattle.qc_core.proofs.Resting.{HasTask, at_found, may_strike, rested_sound}
 
 -- ---- a word is read
 
@@ -286,51 +287,55 @@ has_ended h k seat x st ne is r rests valid =
       );
     }
 
--- ---- all seats
+-- ---- the task at one place
 
--- one seat more
-pub reads_more : (own i : ℕ) (s t : Parts) (f g : List FoundWord) → IsSwept own s t f → ReadsBelow own s i f → ReadsOne own i t g → ReadsBelow own s (i + 1) (g ++ f)
-reads_more own i s t f g sw b o = record {
-  each = both_all (λ f. (f.seat ≢ own) × (streams f.seat s ≡ true)) g f (all_g g o.each) b.each;
-  below = both_all (λ f. f.seat < i + 1) g f (all_at g o.each) (all_less f b.below);
-  all = λ n low high ne is. elim (eqb n i) as (λ b. eqb n i ≡ b → list_any (λ x. x.seat == n) (g ++ f) ≡ true) [
-    | true ↦ λ e. let z = eqb-true n i e in subst (λ k. list_any (λ x. x.seat == k) (g ++ f) ≡ true) (sym z) (any_append (λ x. x.seat == i) g f (o.all (subst (λ k. k ≢ own) z ne) (same_i ∙ subst (λ k. streams k s ≡ true) z is)))
-    | false ↦ λ e.
-        let other : n ≢ i = λ z. true≢false (sym (eq-eqb n i z) ∙ e) in
-        let less : n < i = omega (arith, high, other) in
-        list_any-append (λ (x : FoundWord). x.seat == n) g f ∙ or_right (list_any (λ (x : FoundWord). x.seat == n) g) (list_any (λ (x : FoundWord). x.seat == n) f) (b.all n low less ne is)
-  ] refl;
-}
-  where
-    not_f : (fs : List FoundWord) → AllByRecursion (λ f. f.seat < i) fs → list_any (λ f. f.seat == i) fs ≡ false
-    not_f [] h = refl
-    not_f (x ∷ fs) h = ap (λ b. b || list_any (λ f. f.seat == i) fs) (ne_eqb x.seat i (λ e. absurd (omega (arith, e, h.0)))) ∙ not_f fs h.1
+abbrev seat_of : RunningTask → ℕ
+seat_of w = w.seat
 
-    or_right : (a b : Bool) → b ≡ true → (a || b) ≡ true
-    or_right true b h = refl
-    or_right false b h = h
+-- where it is taken out, those in front of it stay
+take_others : (n i : ℕ) (ws : List RunningTask) (w : RunningTask) → are_distinct (map seat_of ws) ≡ true → slice_get ws i ≡ Some w → w.seat ≡ n → take i (others n ws) ≡ take i ws
+take_others n i [] w d h e = absurd (none-some w h)
+take_others n zero (x ∷ xs) w d h e = refl
+take_others n (suc i) (x ∷ xs) w d h e =
+    let parts = distinct_parts x.seat (map seat_of xs) d in
+    let ne : x.seat ≢ n = λ z. true≢false (sym (is_among seat_of n i xs w h e) ∙ subst (λ k. list_any (λ m. m == k) (map seat_of xs) ≡ false) z parts.0) in
+    ap (λ b. take (suc i) (cond (not b) (x ∷ others n xs) (others n xs))) (ne_eqb x.seat n ne) ∙ ap (λ l. x ∷ l) (take_others n i xs w parts.1 h e)
 
-    same_i : streams i t ≡ streams i s
-    same_i = ap has_stream (sw.stays i (not_f f b.below))
+front_rested : (n i : ℕ) (s : Parts) (w : RunningTask) → MayStrike n s → are_distinct (map seat_of s.tasks.items) ≡ true → slice_get s.tasks.items i ≡ Some w → w.seat ≡ n → take i (rested n s).tasks.items ≡ take i s.tasks.items
+front_rested n i s w u d h e = ap (λ (x : Parts). take i x.tasks.items) (struck_is n s u) ∙ (ap (λ t. take i t.items) (go_tasks _ _ u.work.chain.number u.chain.held (with_user_less u.serial (without_task_of n s))) ∙ take_others n i s.tasks.items w d h e)
 
-    both_all : (P : FoundWord → Type 0) (xs ys : List FoundWord) → AllByRecursion P xs → AllByRecursion P ys → AllByRecursion P (xs ++ ys)
-    both_all P [] ys h k = k
-    both_all P (x ∷ xs) ys h k = (h.0, both_all P xs ys h.1 k)
+some_at : (i : ℕ) (ws : List RunningTask) → i < length ws → (w : RunningTask) × (slice_get ws i ≡ Some w)
+some_at i [] lt = absurd (omega (arith, lt))
+some_at zero (w ∷ ws) lt = (w, refl)
+some_at (suc i) (w ∷ ws) lt = some_at i ws (omega (arith, lt))
 
-    all_g : (xs : List FoundWord) → AllByRecursion (λ f. (f.seat ≡ i) × (f.seat ≢ own) × (streams f.seat t ≡ true)) xs → AllByRecursion (λ f. (f.seat ≢ own) × (streams f.seat s ≡ true)) xs
-    all_g [] h = tt
-    all_g (x ∷ xs) h = ((h.0.1, subst (λ k. streams k s ≡ true) (sym h.0.0) (sym same_i ∙ subst (λ k. streams k t ≡ true) h.0.0 h.0.2)), all_g xs h.1)
+stream_of : (o : Option RunningTask) (seat : ℕ) → stream_seat o ≡ Some seat → (w : RunningTask) × (o ≡ Some w) × (is_stream w.task ≡ true) × (w.seat ≡ seat)
+stream_of None seat h = absurd (none-some seat h)
+stream_of (Some w) seat h = elim (is_stream w.task) as (λ b. is_stream w.task ≡ b → cond b (Some w.seat) None ≡ Some seat → (x : RunningTask) × (◌≡◌ {A = Option RunningTask} (Some w) (Some x)) × (is_stream x.task ≡ true) × (x.seat ≡ seat)) [
+  | true ↦ λ e f. (w, refl, e, same_Some w.seat seat f)
+  | false ↦ λ e f. absurd (none-some seat f)
+] refl h
 
-    all_at : (xs : List FoundWord) → AllByRecursion (λ f. (f.seat ≡ i) × (f.seat ≢ own) × (streams f.seat t ≡ true)) xs → AllByRecursion (λ f. f.seat < i + 1) xs
-    all_at [] h = tt
-    all_at (x ∷ xs) h = (omega (arith, h.0.0), all_at xs h.1)
+no_stream : (w : RunningTask) → stream_seat (Some w) ≡ None → is_stream w.task ≡ false
+no_stream w h = elim (is_stream w.task) as (λ b. cond b (Some w.seat) None ≡ None → b ≡ false) [
+  | true ↦ λ f. absurd (none-some w.seat (sym f))
+  | false ↦ λ f. refl
+] h
 
-    all_less : (xs : List FoundWord) → AllByRecursion (λ f. f.seat < i) xs → AllByRecursion (λ f. f.seat < i + 1) xs
-    all_less [] h = tt
-    all_less (x ∷ xs) h = (omega (arith, h.0), all_less xs h.1)
+pub once_in : (h : Held Parts Event ghosts) → MayRelease h → are_distinct (map seat_of h.value.tasks.items) ≡ true
+once_in h st = let sound = st.sound in once_each (at_rest hash) sound.0 (words h) h.value sound.1
 
-pub reads_none : (own : ℕ) (s : Parts) → ReadsBelow own s 1 []
-reads_none own s = record { each = tt; below = tt; all = λ n low high ne is. absurd (omega (arith, low, high)) }
+-- a stream stands there
+pub record HasStreamAt (index seat : ℕ) (s : Parts) : Type 0 where
+  pub work : RunningTask
+  pub at : slice_get s.tasks.items index ≡ Some work
+  pub named : work.seat ≡ seat
+  pub is : streams seat s ≡ true
+
+pub stream_there : (h : Held Parts Event ghosts) (index seat : ℕ) → MayRelease h → stream_seat (slice_get h.value.tasks.items index) ≡ Some seat → HasStreamAt index seat h.value
+stream_there h index seat st is =
+    let t = stream_of (slice_get h.value.tasks.items index) seat is in
+    record { work = t.0; at = t.1; named = t.3; is = ap has_stream (at_found seat_of seat index h.value.tasks.items t.0 (once_in h st) t.1 t.3) ∙ t.2 }
 
 seat_in : (j : Journal) (cs : List EntryChain) (n : ℕ) (ws : List RunningTask) (w : RunningTask) → AllByRecursion (SeatTaskIsSound j cs) (map work_in ws) → find (is_of n) ws ≡ Some w → IsSeat n
 seat_in j cs n [] w all h = absurd (none-some w h)
@@ -339,14 +344,120 @@ seat_in j cs n (x ∷ ws) w all h = elim (eqb x.seat n) as (λ b. eqb x.seat n �
   | false ↦ λ e f. seat_in j cs n ws w all.1 f
 ] refl h
 
-pub reads_all : (m : Moment) (names : List Named) (words : List ℕ) (own i : ℕ) (s : Parts) (found : List FoundWord) → IsWhole m names words s → word_seats < i → ReadsBelow own s i found → ReadsStreams own s found
-reads_all m names words own i s found h past b = record {
-  each = b.each;
-  all = λ n ne is.
-      let t = stream_in (find (is_of n) s.tasks.items) is in
-      let seat = seat_in s.journal.events (plain names s).chains n s.tasks.items t.0 h.sound.tasks.each t.2 in
-      b.all n seat.low (omega (arith, seat.high, past)) ne is;
+pub few_there : (h : Held Parts Event ghosts) (seat : ℕ) → MayRelease h → streams seat h.value ≡ true → (0 < seat) × (seat ≤ word_seats)
+few_there h seat st is =
+    let sound = st.sound in
+    let w = stream_in (find (is_of seat) h.value.tasks.items) is in
+    let seated = seat_in h.value.journal.events (plain sound.0 h.value).chains seat h.value.tasks.items w.0 sound.1.sound.tasks.each w.2 in
+    (omega (arith, seated.low), omega (arith, seated.high))
+
+pub record SweptAt (h k : Held Parts Event ghosts) (index : ℕ) : Type 0 where
+  pub stands : MayRelease k
+  pub swept : (found : List FoundWord) × Finds h k found × IsSwept (holder h).number h.value k.value found × ReadsAt (holder h).number index h.value k.value found
+
+swept_there : (h k : Held Parts Event ghosts) (index : ℕ) (w : RunningTask) → slice_get h.value.tasks.items index ≡ Some w → Swept h k w.seat → take index k.value.tasks.items ≡ take index h.value.tasks.items → SweptAt h k index
+swept_there h k index w at s front = record { stands = s.stands; swept = (s.swept.0, s.swept.1, s.swept.2, record { work = w; at = at; reads = s.swept.3; front = front }) }
+
+front_same : (index : ℕ) (x y : Parts) → x ≡ y → take index x.tasks.items ≡ take index y.tasks.items
+front_same index x y same = ap (λ (z : Parts). take index z.tasks.items) same
+
+pub none_at : (h : Held Parts Event ghosts) (x : Parts) (index : ℕ) → MayRelease h → x ≡ h.value → index < length h.value.tasks.items → stream_seat (slice_get h.value.tasks.items index) ≡ None → SweptAt h (with_value h x) index
+none_at h x index st same within none =
+    let t = some_at index h.value.tasks.items within in
+    let w = t.0 in
+    let still : is_stream w.task ≡ false = no_stream w (ap stream_seat (sym t.1) ∙ none) in
+    let found = at_found seat_of w.seat index h.value.tasks.items w (once_in h st) t.1 refl in
+    swept_there h (with_value h x) index w t.1 (not_read h x w.seat st same (λ ne is. true≢false (sym is ∙ (ap has_stream found ∙ still)))) (front_same index x h.value same)
+
+pub own_at : (h : Held Parts Event ghosts) (x : Parts) (index seat : ℕ) → MayRelease h → x ≡ h.value → stream_seat (slice_get h.value.tasks.items index) ≡ Some seat → seat ≡ (holder h).number → SweptAt h (with_value h x) index
+own_at h x index seat st same is own =
+    let t = stream_there h index seat st is in
+    swept_there h (with_value h x) index t.work t.at (not_read h x t.work.seat st same (λ ne _. absurd (ne (t.named ∙ own)))) (front_same index x h.value same)
+
+pub goes_on_at : (h k : Held Parts Event ghosts) (index seat : ℕ) → MayRelease h → seat ≢ (holder h).number → stream_seat (slice_get h.value.tasks.items index) ≡ Some seat → Reads h k seat true → SweptAt h k index
+goes_on_at h k index seat st ne is r =
+    let t = stream_there h index seat st is in
+    swept_there h k index t.work t.at (subst (Swept h k) (sym t.named) (goes_on h k seat st ne t.is r)) (front_same index k.value h.value r.value)
+
+pub ended_at : (h k : Held Parts Event ghosts) (index seat : ℕ) (x : Parts) → MayRelease h → seat ≢ (holder h).number → stream_seat (slice_get h.value.tasks.items index) ≡ Some seat → Reads h k seat false → x ≡ rested seat k.value → IsDirectory x.dir → SweptAt h (with_value k x) index
+ended_at h k index seat x st ne is r rests valid =
+    let t = stream_there h index seat st is in
+    let sound = st.sound in
+    let u = may_sweep (at_rest hash) sound.0 (words h) h.value seat sound.1 t.is in
+    let front : take index x.tasks.items ≡ take index h.value.tasks.items =
+    front_same index x (rested seat h.value) (rests ∙ ap (rested seat) r.value) ∙ front_rested seat index h.value t.work u (once_in h st) t.at t.named in
+    swept_there h (with_value k x) index t.work t.at (subst (Swept h (with_value k x)) (sym t.named) (has_ended h k seat x st ne t.is r rests valid)) front
+
+-- ---- the whole list
+
+got : (i : ℕ) (xs : List RunningTask) → slice_get (take (suc i) xs) i ≡ slice_get xs i
+got i [] = refl
+got zero (x ∷ xs) = refl
+got (suc i) (x ∷ xs) = got i xs
+
+took : (i : ℕ) (xs : List RunningTask) → take i (take (suc i) xs) ≡ take i xs
+took zero xs = refl
+took (suc i) [] = refl
+took (suc i) (x ∷ xs) = ap (λ l. x ∷ l) (took i xs)
+
+front_within : (i : ℕ) (xs ys : List RunningTask) → take i xs ≡ take i ys → i ≤ length ys → i ≤ length xs
+front_within zero xs ys same le = omega arith
+front_within (suc i) [] [] same le = le
+front_within (suc i) [] (y ∷ ys) same le = absurd cc
+front_within (suc i) (x ∷ xs) [] same le = absurd (omega (arith, le))
+front_within (suc i) (x ∷ xs) (y ∷ ys) same le = omega (arith, front_within i xs ys (ap (drop 1) same) (omega (arith, le)))
+
+find_more : (n i : ℕ) (xs : List RunningTask) (w : RunningTask) → slice_get xs i ≡ Some w → eqb w.seat n ≡ false → find (is_of n) (take i xs) ≡ None → find (is_of n) (take (suc i) xs) ≡ None
+find_more n i [] w h ne none = absurd (none-some w h)
+find_more n zero (x ∷ xs) w h ne none = ap (λ b. cond b (Some x) None) (ap (λ (y : RunningTask). eqb y.seat n) (same_Some x w h) ∙ ne)
+find_more n (suc i) (x ∷ xs) w h ne none = elim (eqb x.seat n) as (λ b. cond b (Some x) (find (is_of n) (take i xs)) ≡ None → cond b (Some x) (find (is_of n) (take (suc i) xs)) ≡ None) [
+  | true ↦ λ f. f
+  | false ↦ λ f. find_more n i xs w h ne f
+] none
+
+pub reads_start : (own index : ℕ) (s t : Parts) → index ≡ length t.tasks.items → t ≡ s → ReadsBehind own index s t []
+reads_start own index s t long same = record {
+  within = omega (arith, long);
+  front = front_same index t s same;
+  each = tt;
+  all = λ n ne is none.
+      let all_of : take index s.tasks.items ≡ s.tasks.items = take_all index s.tasks.items (omega (arith, long, ap (λ (x : Parts). length x.tasks.items) same)) in
+      absurd (true≢false (sym is ∙ ap has_stream (ap (find (is_of n)) (sym all_of) ∙ none)));
 }
+
+-- one place more
+pub reads_next : (own i j : ℕ) (s t m : Parts) (f g : List FoundWord) → j ≡ suc i → are_distinct (map seat_of s.tasks.items) ≡ true → are_distinct (map seat_of t.tasks.items) ≡ true → ReadsBehind own j s t f → ReadsAt own i t m g → ReadsBehind own i s m (g ++ f)
+reads_next own i j s t m f g next once_s once_t b o =
+    let w = o.work in
+    let front : take (suc i) t.tasks.items ≡ take (suc i) s.tasks.items = subst (λ k. take k t.tasks.items ≡ take k s.tasks.items) next b.front in
+    let front_i : take i t.tasks.items ≡ take i s.tasks.items = sym (took i t.tasks.items) ∙ (ap (take i) front ∙ took i s.tasks.items) in
+    let there : slice_get s.tasks.items i ≡ Some w = sym (sym (got i t.tasks.items) ∙ (ap (λ l. slice_get l i) front ∙ got i s.tasks.items)) ∙ o.at in
+    let same : streams w.seat t ≡ streams w.seat s = ap has_stream (at_found seat_of w.seat i t.tasks.items w once_t o.at refl ∙ sym (at_found seat_of w.seat i s.tasks.items w once_s there refl)) in
+    record {
+      within = front_within i m.tasks.items t.tasks.items o.front (omega (arith, b.within, next));
+      front = o.front ∙ front_i;
+      each = both_all (λ f. (f.seat ≢ own) × (streams f.seat s ≡ true)) g f (each_of w same g o.reads.each) b.each;
+      all = λ n ne is none. elim (eqb w.seat n) as (λ b. eqb w.seat n ≡ b → list_any (λ x. x.seat == n) (g ++ f) ≡ true) [
+        | true ↦ λ e. let z : w.seat ≡ n = eqb-true w.seat n e in subst (λ k. list_any (λ x. x.seat == k) (g ++ f) ≡ true) z (any_append (λ x. x.seat == w.seat) g f (o.reads.all (subst (λ k. k ≢ own) (sym z) ne) (same ∙ subst (λ k. streams k s ≡ true) (sym z) is)))
+        | false ↦ λ e. list_any-append (λ (x : FoundWord). x.seat == n) g f
+            ∙ or_right (list_any (λ (x : FoundWord). x.seat == n) g) (list_any (λ (x : FoundWord). x.seat == n) f) (b.all n ne is (subst (λ k. find (is_of n) (take k s.tasks.items) ≡ None) (sym next) (find_more n i s.tasks.items w there e none)))
+      ] refl;
+    }
+  where
+    or_right : (a b : Bool) → b ≡ true → (a || b) ≡ true
+    or_right true b h = refl
+    or_right false b h = h
+
+    both_all : (P : FoundWord → Type 0) (xs ys : List FoundWord) → AllByRecursion P xs → AllByRecursion P ys → AllByRecursion P (xs ++ ys)
+    both_all P [] ys h k = k
+    both_all P (x ∷ xs) ys h k = (h.0, both_all P xs ys h.1 k)
+
+    each_of : (w : RunningTask) → streams w.seat t ≡ streams w.seat s → (xs : List FoundWord) → AllByRecursion (λ f. (f.seat ≡ w.seat) × (f.seat ≢ own) × (streams f.seat t ≡ true)) xs → AllByRecursion (λ f. (f.seat ≢ own) × (streams f.seat s ≡ true)) xs
+    each_of w same [] h = tt
+    each_of w same (x ∷ xs) h = ((h.0.1, subst (λ k. streams k s ≡ true) (sym h.0.0) (sym same ∙ subst (λ k. streams k t ≡ true) h.0.0 h.0.2)), each_of w same xs h.1)
+
+pub reads_end : (own i : ℕ) (s t : Parts) (found : List FoundWord) → i ≡ 0 → ReadsBehind own i s t found → ReadsStreams own s found
+reads_end own i s t found none b = record { each = b.each; all = λ n ne is. b.all n ne is (ap (λ k. find (is_of n) (take k s.tasks.items)) none) }
 
 -- ---- what a call asked before, it still has
 

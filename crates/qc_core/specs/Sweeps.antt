@@ -1,5 +1,5 @@
 -- The streams are struck off that other seats have ended.
-use Rattle.std.specs.Prelude.{◌≡◌, ◌≢◌, ℕ, ◌<◌, Bool, true, false, List, [], ◌∷◌, ◌++◌, Option, Some, None, ◌==◌, if◌then◌else◌}
+use Rattle.std.specs.Prelude.{◌≡◌, ◌≢◌, ℕ, ◌≤◌, Bool, true, false, List, [], ◌∷◌, ◌++◌, length, take, slice_get, Option, Some, None, ◌==◌, if◌then◌else◌}
 use Rattle.std.specs.List.{list_any, find, AllByRecursion}
 use Rattle.qc_turn.specs.declared.kept.Kept.{Ghosts}
 use Rattle.qc_turn.specs.declared.view.FoundWord.{FoundWord}
@@ -16,6 +16,11 @@ abbrev pub has_stream : Option RunningTask → Bool
 has_stream None = false
 has_stream (Some w) = is_stream w.task
 
+-- the seat of a stream
+abbrev pub stream_seat : Option RunningTask → Option ℕ
+stream_seat None = None
+stream_seat (Some w) = if is_stream w.task then Some w.seat else None
+
 -- a stream is listed for the seat
 abbrev pub streams : ℕ → Parts → Bool
 streams seat s = has_stream (find (is_of seat) s.tasks.items)
@@ -30,16 +35,24 @@ pub record ReadsStreams (own : ℕ) (s : Parts) (found : List FoundWord) : Type 
   pub each : AllByRecursion (λ f. (f.seat ≢ own) × (streams f.seat s ≡ true)) found
   pub all : (n : ℕ) → n ≢ own → streams n s ≡ true → list_any (λ f. f.seat == n) found ≡ true
 
--- with the seats below a number read
-pub record ReadsBelow (own : ℕ) (s : Parts) (end : ℕ) (found : List FoundWord) : Type 0 where
-  pub each : AllByRecursion (λ f. (f.seat ≢ own) × (streams f.seat s ≡ true)) found
-  pub below : AllByRecursion (λ f. f.seat < end) found
-  pub all : (n : ℕ) → 0 < n → n < end → n ≢ own → streams n s ≡ true → list_any (λ f. f.seat == n) found ≡ true
-
 -- with one seat read
 pub record ReadsOne (own seat : ℕ) (s : Parts) (found : List FoundWord) : Type 0 where
   pub each : AllByRecursion (λ f. (f.seat ≡ seat) × (f.seat ≢ own) × (streams f.seat s ≡ true)) found
   pub all : seat ≢ own → streams seat s ≡ true → list_any (λ f. f.seat == seat) found ≡ true
+
+-- with the task at one place of the list read; those in front of it stay
+pub record ReadsAt (own index : ℕ) (old new : Parts) (found : List FoundWord) : Type 0 where
+  pub work : RunningTask
+  pub at : slice_get old.tasks.items index ≡ Some work
+  pub reads : ReadsOne own work.seat old found
+  pub front : take index new.tasks.items ≡ take index old.tasks.items
+
+-- with the tasks behind the first few read
+pub record ReadsBehind (own index : ℕ) (old new : Parts) (found : List FoundWord) : Type 0 where
+  pub within : index ≤ length new.tasks.items
+  pub front : take index new.tasks.items ≡ take index old.tasks.items
+  pub each : AllByRecursion (λ f. (f.seat ≢ own) × (streams f.seat old ≡ true)) found
+  pub all : (n : ℕ) → n ≢ own → streams n old ≡ true → find (is_of n) (take index old.tasks.items) ≡ None → list_any (λ f. f.seat == n) found ≡ true
 
 module _ {V E : Type 0} {K : Ghosts V E} where
   -- the same holding, in which these words were read

@@ -19,6 +19,7 @@ ghost use Rattle.qc_core.specs.Commits.{is_named_by, tables_dropped, EntriesHave
 use crate::parts::Parts;
 use crate::server::Server;
 use qc_model::events::{Event, Who};
+use qc_model::shared_ops::SharedOps;
 use qc_sql::tables::{Ops, RowOp};
 use qc_table::{Database, TableFull};
 use qc_turn::Held;
@@ -82,7 +83,8 @@ impl Parts {
         ensures kept { OnErr result (self.new ≡ self.old) }
     {
         let dropped = dropped_tables(alloc, &self.database, ops.items())?;
-        self.database.change(alloc, &ops)?;
+        let ops = SharedOps::of(alloc, ops)?;
+        self.database.change(alloc, ops.list())?;
         self.drop_on_tables(dropped.items());
         self.drop_named(ops.items());
         Ok(self.push(Event::Commit { who, ops }))

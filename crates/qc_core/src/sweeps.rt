@@ -1,63 +1,61 @@
 //! The streams are struck off that other seats have ended.
 
-ghost use Rattle.std.specs.Prelude.{◌≡◌, ◌<◌, ◌≤◌, List, find};
-ghost use Rattle.qc_dir.specs.Directory.{IsDirectory};
-ghost use Rattle.qc_turn.specs.Words.{word_seats};
+ghost use Rattle.std.specs.Prelude.{◌≡◌, ◌<◌, List, length, slice_get};
 ghost use Rattle.qc_turn.specs.declared.view.FoundWord.{FoundWord};
 ghost use Rattle.qc_turn.specs.Seats.{MayRelease, holder, words};
-ghost use Rattle.qc_core.specs.Strikes.{is_of};
-ghost use Rattle.qc_core.specs.Sweeps.{has_stream, streams, ReadsStreams, ReadsOne, Finds, IsSwept};
+ghost use Rattle.qc_core.specs.Sweeps.{ReadsStreams, ReadsAt, Finds, IsSwept, stream_seat};
 
-use crate::parts::RunningTask;
-use crate::seats::LAST_SEAT;
 use crate::server::Server;
 use qc_turn::{Held, Task};
 
 impl Server {
-    /// Whether a stream is listed for a seat.
-    fn lists_stream(&self, seat: u32) -> bool
-        ensures { result ≡ streams seat self.now }
+    /// How many tasks are listed.
+    fn count_tasks(&self) -> usize
+        ensures { result ≡ length self.now.tasks.items }
     {
-        lists_stream(self.parts.tasks.items(), seat)
+        self.parts.tasks.items().len()
     }
-}
 
-/// Whether the task of a seat is a stream.
-fn lists_stream(tasks: &[RunningTask], seat: u32) -> bool
-    ensures { result ≡ has_stream (find (is_of seat) tasks.now) }
-{
-    for running in tasks {
-        if running.seat == seat {
-            return matches!(running.task, Task::Stream(_));
+    /// The seat whose task stands at a place of the list, where that is a stream.
+    fn stream_at(&self, index: usize) -> Option<u32>
+        requires { index < length self.now.tasks.items }
+        ensures { result ≡ stream_seat (slice_get self.now.tasks.items index) }
+    {
+        let running = &self.parts.tasks.items()[index];
+        match running.task {
+            Task::Stream(_) => Some(running.seat),
+            Task::Rest | Task::Fill(_) => None,
         }
     }
-    false
 }
 
-/// Reads the task words of the other seats whose streams are listed, and strikes those streams off that have ended. Costs the tasks for each seat.
+/// Reads the task words of the other seats whose streams are listed, and strikes those streams off that have ended. It walks the list of tasks once, from
+/// its end, so that a task that is taken out moves none that is still to be looked at.
 pub(crate) fn strike_ended(held: &mut Held<'_, Server>)
     requires stands { MayRelease held.old }
     ensures stands { MayRelease held.new }
     ensures words { words held.new ≡ words held.old }
     ensures swept { (found : List FoundWord) × Finds held.old held.new found × IsSwept (holder held.old).number held.old.value held.new.value found × ReadsStreams (holder held.old).number held.old.value found }
 {
-    for seat in 1..=LAST_SEAT {
-        check_seat(held, seat);
+    let mut index = held.value().count_tasks();
+    while index > 0 {
+        index -= 1;
+        check_task(held, index);
     }
 }
 
-/// The same of one seat.
-fn check_seat(held: &mut Held<'_, Server>, seat: u32)
+/// The same of the task at one place of the list.
+fn check_task(held: &mut Held<'_, Server>, index: usize)
     requires stands { MayRelease held.old }
-    requires few { (0 < seat) × (seat ≤ word_seats) }
+    requires within { index < length held.old.value.tasks.items }
     ensures stands { MayRelease held.new }
     ensures words { words held.new ≡ words held.old }
-    ensures swept { (found : List FoundWord) × Finds held.old held.new found × IsSwept (holder held.old).number held.old.value held.new.value found × ReadsOne (holder held.old).number seat held.old.value found }
+    ensures swept { (found : List FoundWord) × Finds held.old held.new found × IsSwept (holder held.old).number held.old.value held.new.value found × ReadsAt (holder held.old).number index held.old.value held.new.value found }
 {
-    if seat == held.number() {
+    let Some(seat) = held.value().stream_at(index) else {
         return;
-    }
-    if !held.value().lists_stream(seat) {
+    };
+    if seat == held.number() {
         return;
     }
     if held.streams(seat) {
