@@ -1,5 +1,5 @@
 -- A query is answered by a hit: what it means, what goes out, and where its session then stands.
-use Rattle.std.proofs.Common.{◌≡◌, ℕ, ◌+◌, ◌*◌, ◌≤◌, eq-eqb, true, false, cond, List, [], ◌∷◌, ◌++◌, length, take, refl, sym, ap, ◌∙◌, subst, arith, inr, append-nil, length-append, Option, Some, None, Result, Ok, Err}
+use Rattle.std.proofs.Common.{◌≡◌, ℕ, ◌+◌, ◌*◌, ◌≤◌, eq-eqb, Bool, true, false, true≢false, cond, List, [], ◌∷◌, ◌++◌, length, take, refl, sym, ap, ◌∙◌, subst, arith, inr, append-nil, length-append, Option, Some, None, Result, Ok, Err}
 use Rattle.std.specs.Prelude.{◌==◌, ◌&&◌, not, find, option_map, nat_lt, MatchOption, OnOk, OnErr}
 use Rattle.std.specs.List.{list_all}
 use Rattle.std.proofs.lemmas.Bool.Decides.{nat_tests}
@@ -12,7 +12,8 @@ use Rattle.qc_sql.specs.declared.replies.Reply.{Reply}
 use Rattle.qc_sql.specs.declared.statements.Select.{Select}
 use Rattle.qc_sql.specs.declared.statements.Statement.{Statement}
 use Rattle.qc_sql.specs.declared.statements.Statement.TheVariants as statement
-use Rattle.qc_sql.specs.Database.{Name}
+use Rattle.qc_sql.specs.declared.tables.RowOp.{RowOp}
+use Rattle.qc_sql.specs.Database.{Name, Database}
 use Rattle.qc_sql.specs.Grammar.{ParseFault}
 use Rattle.qc_sql.specs.Rows.{rows}
 use Rattle.qc_sql.specs.Rules.{first_of_calls, first_of_tables, is_system, is_uncached, select_calls, select_tables, why_not}
@@ -35,7 +36,7 @@ use Rattle.qc_laws.proofs.history.Events.{present_push}
 use Rattle.qc_laws.proofs.history.Serials.{both_true, serials_apart}
 use Rattle.qc_laws.proofs.runs.Steps.{before_it, one_more}
 use Rattle.qc_laws.proofs.runs.Whole.{own_count}
-use Rattle.qc_trx.specs.SnapshotStates.{SnapshotState, after_arrival, after_sight}
+use Rattle.qc_trx.specs.SnapshotStates.{SnapshotState, after_arrival}
 use Rattle.qc_turn.specs.declared.seat.Seat.{Seat}
 use Rattle.qc_turn.specs.declared.task.Task.TheVariants as task
 use Rattle.qc_turn.specs.declared.turn.Turn.{Turn}
@@ -53,10 +54,11 @@ use Rattle.qc_steps.proofs.States.{fit_arrived, fit_more}
 use Rattle.qc_serve.specs.declared.looks.Found.{Found}
 use Rattle.qc_serve.specs.declared.session.Session.{Session}
 use Rattle.qc_serve.specs.declared.sinks.Piece.{Piece}
+use Rattle.qc_serve.specs.Asking.{takes_snapshot}
 use Rattle.qc_serve.specs.Executed.{HasEventLine, IsReplied, MustEnd}
 use Rattle.qc_serve.specs.Going.{DoesOne, IsAtRest, as_fixed, next_who, number_of, position_of, seen_by}
 use Rattle.qc_serve.specs.Logs.{logged}
-use Rattle.qc_serve.specs.Querying.{EndsStream, HasFound}
+use Rattle.qc_serve.specs.Querying.{EndsStream, HasFound, seen_with}
 use Rattle.qc_serve.specs.Seats.{SeatRests}
 use Rattle.qc_serve.specs.Sent.{Sends, SendsFrontOf}
 use Rattle.qc_serve.specs.SentAt.{SendsAt}
@@ -99,6 +101,32 @@ past_behind J e x fit = let state = x.state in in_transaction state.transaction 
     in_transaction None f = tt
     in_transaction (Some t) f = past_at J e x.origin t.snapshot t.operations f
 
+-- ---- a state that takes no snapshot sees no other database
+
+by_snapshot : (place : ℕ) (d : Database) (s : State) (p : Option ℕ) (ops : List RowOp) (origin : Option Database)
+    → takes_snapshot (record s { transaction = Some (record { snapshot = p; operations = ops }) }) ≡ false
+    → arrived_snapshot_state place d (record { state = record s { transaction = Some (record { snapshot = p; operations = ops }) }; origin = origin })
+    ≡ after_arrival (record { state = record s { transaction = Some (record { snapshot = p; operations = ops }) }; origin = origin })
+by_snapshot place d s None ops origin none = absurd (true≢false none)
+by_snapshot place d s (Some k) ops origin none = refl
+
+by_transaction : (place : ℕ) (d : Database) (autocommit : Bool) (s : State) (t : Option Transaction) (origin : Option Database) → takes_snapshot (record s { autocommit = autocommit; transaction = t }) ≡ false
+    → arrived_snapshot_state place d (record { state = record s { autocommit = autocommit; transaction = t }; origin = origin }) ≡ after_arrival (record { state = record s { autocommit = autocommit; transaction = t }; origin = origin })
+by_transaction place d autocommit s (Some t) origin none = by_snapshot place d (record s { autocommit = autocommit }) t.snapshot t.operations origin none
+by_transaction place d true s None origin none = refl
+by_transaction place d false s None origin none = absurd (true≢false none)
+
+seen_session : (place : ℕ) (given : Option Database) (x : SnapshotState) → (seen_with place given x).state.session ≡ x.state.session
+seen_session place None x = refl
+seen_session place (Some d) x = refl
+
+-- so what it is given is enough
+seen_share : (place : ℕ) (d : Database) (given : Option Database) (x : SnapshotState) → given ≡ cond (takes_snapshot x.state) (Some d) None → seen_with place given (after_arrival x) ≡ arrived_snapshot_state place d x
+seen_share place d given x share = elim (takes_snapshot x.state) as (λ b. takes_snapshot x.state ≡ b → given ≡ cond b (Some d) None → seen_with place given (after_arrival x) ≡ arrived_snapshot_state place d x) [
+  | true ↦ λ e f. ap (λ (o : Option Database). seen_with place o (after_arrival x)) f
+  | false ↦ λ e f. ap (λ (o : Option Database). seen_with place o (after_arrival x)) f ∙ sym (by_transaction place d x.state.autocommit x.state x.state.transaction x.origin e)
+] refl share
+
 same_bytes : (o : Option (List ℕ)) (a b : List ℕ) → o ≡ Some a → o ≡ Some b → a ≡ b
 same_bytes o a b h g = let both : Some a ≡ Some b = sym h ∙ g in cc
 
@@ -121,6 +149,10 @@ module _ (t : Turn Parts Event) (text : List ℕ) (old held : Session) (found : 
   abbrev at : State
   at = arrived_at (length J + 1) state
 
+  -- the database that the journal makes before its event
+  abbrev database : Database
+  database = f.streams.decides.is_so.1.database
+
   events : seen_by held ≡ J ++ e ∷ []
   events = let d = f.streams.decides in d.events ∙ ap (λ (x : Event). J ++ x ∷ []) d.is_so.0
 
@@ -140,14 +172,14 @@ module _ (t : Turn Parts Event) (text : List ℕ) (old held : Session) (found : 
   was = from_map (answering at J key) n answers
 
   own_test : (was.0.complete && has_key key was.0 && is_visible at J was.0) ≡ true
-  own_test = let m = f.streams.decides.is_so.1 in (own_serial (λ y. y.complete && has_key key y && is_visible at J y) (cache J) was.0 (serials_apart m.0 J m.1.lawful) was.1).1
+  own_test = let m = f.streams.decides.is_so.1.makes in (own_serial (λ y. y.complete && has_key key y && is_visible at J y) (cache J) was.0 (serials_apart m.0 J m.1.lawful) was.1).1
 
   key_was : was.0.key ≡ key
   key_was = (bytes_eq-Decides was.0.key key).0 (both_true was.0.complete (has_key key was.0) (both_true (was.0.complete && has_key key was.0) (is_visible at J was.0) own_test).0).1
 
   answers_text : AnswersText at J text was.0
   answers_text =
-      let m = f.streams.decides.is_so.1 in
+      let m = f.streams.decides.is_so.1.makes in
       hits_answer m.0 J at text was.0 (λ y. y.complete && has_key key y && is_visible at J y) m.1.lawful (f.keyed (length J + 1)) (place_at J old.state fit) was.1 key_was (both_true (was.0.complete && has_key key was.0) (is_visible at J was.0) own_test).1
 
   abbrev select : Select
@@ -195,7 +227,7 @@ module _ (t : Turn Parts Event) (text : List ℕ) (old held : Session) (found : 
     pub fixed : (view new.seat).fixed ≡ (view held.seat).fixed
     pub registry : (view new.seat).registry ≡ (view held.seat).registry
     pub room : new.seat.ranges.room ≡ held.seat.ranges.room
-    pub state : new.state ≡ arrived_snapshot_state found.hit.place found.database old.state
+    pub state : new.state ≡ arrived_snapshot_state found.hit.place database old.state
     pub place : new.place ≡ found.hit.place
     pub lines : new.log.lines ≡ old.log.lines ++ logged found.hit.place word.Hit ∷ []
     pub options : new.options ≡ old.options
@@ -205,11 +237,11 @@ module _ (t : Turn Parts Event) (text : List ℕ) (old held : Session) (found : 
     seen_now : seen_by new ≡ J ++ e ∷ []
     seen_now = s.seen ∙ events
 
-    state_now : new.state ≡ arrived_snapshot_state (length J + 1) found.database old.state
-    state_now = s.state ∙ ap (λ (p : ℕ). arrived_snapshot_state p found.database old.state) (place_is ∙ omega arith)
+    state_now : new.state ≡ arrived_snapshot_state (length J + 1) database old.state
+    state_now = s.state ∙ ap (λ (p : ℕ). arrived_snapshot_state p database old.state) (place_is ∙ omega arith)
 
     fit_now : IsFitState J new.state
-    fit_now = let m = f.streams.decides.is_so.1 in subst (IsFitState J) (sym state_now) (fit_arrived {o = m.0} J found.database old.state m.1 fit)
+    fit_now = let m = f.streams.decides.is_so.1.makes in subst (IsFitState J) (sym state_now) (fit_arrived {o = m.0} J database old.state m.1 fit)
 
     rest_now : IsAtRest t new
     rest_now =
@@ -293,29 +325,28 @@ module _ (t : Turn Parts Event) (text : List ℕ) (old held : Session) (found : 
 
 -- ---- the session's calls
 
--- the state has arrived, and has seen the database at its place; then the line was put
+-- the state has arrived, and has seen what it was given; then the line was put
 abbrev pub HasPut : Session → Session → Found → Type 0
-HasPut held mid found = mid ≡ record held { state = after_sight found.hit.place found.database (after_arrival held.state); place = found.hit.place; log = mid.log }
+HasPut held mid found = mid ≡ record held { state = seen_with found.hit.place found.database (after_arrival held.state); place = found.hit.place; log = mid.log }
 
-pub has_put : (held mid : Session) (found : Found) (opened seen : SnapshotState) → opened ≡ after_arrival held.state → seen ≡ after_sight found.hit.place found.database opened → mid ≡ record held { state = seen; place = found.hit.place; log = mid.log } → HasPut held mid found
-has_put held mid found opened seen arrives sees is =
-    let state : seen ≡ after_sight found.hit.place found.database (after_arrival held.state) = sees ∙ ap (after_sight found.hit.place found.database) arrives in
-    is ∙ (λ i. record held { state = state i; place = found.hit.place; log = mid.log })
+pub has_put : (held seen mid : Session) (found : Found) → seen ≡ record held { state = seen_with found.hit.place found.database (after_arrival held.state) } → mid ≡ record seen { place = found.hit.place; log = mid.log } → HasPut held mid found
+has_put held seen mid found sees is = is ∙ (λ i. record (sees i) { place = found.hit.place; log = mid.log })
 
 -- mid: the line was_held put; new: the stream has ended
 pub streamed : (t : Turn Parts Event) (text : List ℕ) (old held mid new : Session) (found : Found) (rest : IsAtRest t old) (f : HasFound t text old held found)
     → HasPut held mid found → mid.log.lines ≡ held.log.lines ++ logged found.hit.place word.Hit ∷ []
     → EndsStream t (number_of mid) mid.seat new.seat → new ≡ record mid { seat = new.seat } → Streamed t text old held found rest f new
 streamed t text old held mid new found rest f is lines ends same =
-    let session : number_of mid ≡ number_of old = ap (λ (x : Session). x.state.state.session) is ∙ ap (λ (x : Session). x.state.state.session) f.same in
+    let session : number_of mid ≡ number_of old = ap (λ (x : Session). x.state.state.session) is ∙ (seen_session found.hit.place found.database (after_arrival held.state) ∙ ap (λ (x : Session). x.state.state.session) f.same) in
     let seat : mid.seat ≡ held.seat = ap (λ (x : Session). x.seat) is in
+    let shares = f.streams.decides.is_so.1 in
     record {
       rests = subst (λ (k : ℕ). SeatRests t k new.seat) session ends.rests;
       seen = ends.seen ∙ ap (λ (x : Seat Parts Event ghosts). (view x).seen) seat;
       fixed = ends.fixed ∙ ap (λ (x : Seat Parts Event ghosts). (view x).fixed) seat;
       registry = ends.registry ∙ ap (λ (x : Seat Parts Event ghosts). (view x).registry) seat;
       room = ends.room ∙ ap (λ (x : Seat Parts Event ghosts). x.ranges.room) seat;
-      state = ap (λ (x : Session). x.state) same ∙ (ap (λ (x : Session). x.state) is ∙ ap (λ (x : Session). arrived_snapshot_state found.hit.place found.database x.state) f.same);
+      state = ap (λ (x : Session). x.state) same ∙ (ap (λ (x : Session). x.state) is ∙ (ap (λ (x : Session). seen_with found.hit.place found.database (after_arrival x.state)) f.same ∙ seen_share found.hit.place shares.database found.database old.state shares.share));
       place = ap (λ (x : Session). x.place) same ∙ ap (λ (x : Session). x.place) is;
       lines = ap (λ (x : Session). x.log.lines) same ∙ (lines ∙ ap (λ (x : Session). x.log.lines ++ logged found.hit.place word.Hit ∷ []) f.same);
       options = ap (λ (x : Session). x.options) same ∙ (ap (λ (x : Session). x.options) is ∙ ap (λ (x : Session). x.options) f.same);

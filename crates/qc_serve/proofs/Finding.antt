@@ -20,9 +20,8 @@ use Rattle.qc_core.specs.declared.parts.Parts.{Parts}
 use Rattle.qc_core.specs.Hits.{IsChainOf, entry_chain, hit_entry, hit_server}
 use Rattle.qc_core.specs.Whole.{tasks_of}
 use Rattle.qc_flow.proofs.Hits.{hits_answer}
-use Rattle.qc_serve.specs.Asking.{FindsHit}
+use Rattle.qc_serve.specs.Asking.{FindsHit, Shares}
 use Rattle.qc_serve.specs.declared.looks.Found.{Found}
-use Rattle.qc_serve.specs.Ends.{Makes}
 use Rattle.qc_serve.specs.Seats.{IsReady, IsSameSeat}
 use Rattle.qc_serve.proofs.Deciding.{ready_goes_on, ready_who}
 
@@ -49,11 +48,11 @@ hit_events who n seat s t r is chain = by_entry who n seat s t r (entry_at n s.d
 -- ---- the look
 
 -- h: as the turn was taken; g: ready for the event; k: once the hit was found
-pub finds_hit : (key : List ℕ) (state : State) (who : Who) (h g k : Held Parts Event ghosts) (found : Found) → who.session ≡ state.session → IsReady who g → IsSameSeat h g → Makes g.value.journal.events found.database → MayRelease k → SameHolder g k
+pub finds_hit : (key : List ℕ) (state : State) (who : Who) (h g k : Held Parts Event ghosts) (found : Found) → who.session ≡ state.session → IsReady who g → IsSameSeat h g → Shares g.value.journal.events state found.database → MayRelease k → SameHolder g k
     → option_map (λ y. y.serial) (answering state g.value.journal.events key) ≡ Some found.hit.serial → k.value ≡ hit_server who found.hit.serial (holder g).number g.value
     → found.hit.place ≡ length k.value.journal.events → found.hit.bytes ≡ k.ranges.bytes → IsChainOf found.hit.serial k.value k.ranges → found.hit.bytes ≤ 8 * words_of k.ranges.blocks
     → listed_for (holder g).number (tasks_of k.value) ≡ own (holder g).number (task.Stream found.hit.serial) k.ranges.blocks → FindsHit key state h k found
-finds_hit key state who h g k found named ready same makes stands holder_same answers server place bytes chain within listed =
+finds_hit key state who h g k found named ready same shares stands holder_same answers server place bytes chain within listed =
     let n = found.hit.serial in
     let J : Journal = g.value.journal.events in
     record {
@@ -64,7 +63,7 @@ finds_hit key state who h g k found named ready same makes stands holder_same an
         journal = J;
         goes_on = ready_goes_on state.session who h g same named ready;
         event = event.Run who (how.Hit n);
-        is_so = (ap (λ (w : Who). event.Run w (how.Hit n)) (ready_who state.session who h g same named ready), makes, answers);
+        is_so = (ap (λ (w : Who). event.Run w (how.Hit n)) (ready_who state.session who h g same named ready), shares, answers);
         events = hit_events who n (holder g).number g.value k.value k.ranges server chain;
       };
     }

@@ -1,5 +1,5 @@
 -- A session asks the cache, and decides a SELECT.
-use Rattle.std.specs.Prelude.{◌≡◌, ℕ, ◌+◌, ◌*◌, ◌<◌, ◌≤◌, ◌^◌, true, false, List, [], ◌∷◌, ◌++◌, length, take, Option, Some, None, Result, Ok, Err, option_map, slice_index}
+use Rattle.std.specs.Prelude.{◌≡◌, ℕ, ◌+◌, ◌*◌, ◌<◌, ◌≤◌, ◌^◌, ◌&&◌, ◌||◌, Bool, not, is_none, is_some, if◌then◌else◌, true, false, List, [], ◌∷◌, ◌++◌, length, take, Option, Some, None, Result, Ok, Err, option_map, slice_index}
 use Rattle.std.specs.List.{list_all}
 use Rattle.qc_types.specs.declared.options.Options.{Options}
 use Rattle.qc_sql.specs.declared.statements.Select.{Select}
@@ -125,10 +125,20 @@ task_found (Ok (Some found)) = task.Stream found.hit.serial
 task_found (Ok None) = task.Rest
 task_found (Err e) = task.Rest
 
--- the event is a hit of the entry that answers the key, by the journal before it, which makes the database
+-- whether a reading of rows takes a snapshot: a transaction is open, or opens by itself, and has none
+abbrev pub takes_snapshot : State → Bool
+takes_snapshot state = (is_some state.transaction || not state.autocommit) && is_none (snapshot_of state)
+
+-- what is given is the database that the journal makes where a snapshot is taken of it, and nothing else
+pub record Shares (journal : Journal) (state : State) (given : Option Database) : Type 0 where
+  pub database : Database
+  pub makes : Makes journal database
+  pub share : given ≡ (if takes_snapshot state then Some database else None)
+
+-- the event is a hit of the entry that answers the key, by the journal before it, of which the session is given what it takes a snapshot of
 abbrev pub HitsBy : ℕ → Journal → List ℕ → State → Found → Journal → Event → Type 0
 HitsBy session seen key state found journal e =
-    (e ≡ event.Run (next_of session seen) (how.Hit found.hit.serial)) × Makes journal found.database × (option_map (λ entry. entry.serial) (answering state journal key) ≡ Some found.hit.serial)
+    (e ≡ event.Run (next_of session seen) (how.Hit found.hit.serial)) × Shares journal state found.database × (option_map (λ entry. entry.serial) (answering state journal key) ≡ Some found.hit.serial)
 
 -- the holding as the turn was taken, and the one then
 pub record FindsHit (key : List ℕ) (state : State) (h k : Held Parts Event ghosts) (found : Found) : Type 0 where

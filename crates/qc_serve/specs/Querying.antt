@@ -47,6 +47,11 @@ pub record LooksAgain (t : Turn Parts Event) (old new : Session) : Type 0 where
   pub seat : LooksOn t (number_of old) old.seat new.seat
   pub same : new ≡ record old { seat = new.seat }
 
+-- the state that has seen what it was given a share of
+abbrev pub seen_with : ℕ → Option Database → SnapshotState → SnapshotState
+seen_with place None x = x
+seen_with place (Some d) x = after_sight place d x
+
 -- The cache is asked for the text, and has an entry under its key, in the state in which a select that names a table arrives at any place.
 pub record HasFound (t : Turn Parts Event) (text : List ℕ) (old new : Session) (found : Found) : Type 0 where
   pub asked : is_asked_for old.options old.state.state text ≡ true

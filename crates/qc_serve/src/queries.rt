@@ -17,6 +17,7 @@ use qc_parse::{ParseRefusal, parse};
 use qc_replies::fault_error;
 use qc_sql::statements::Statement;
 use qc_steps::{asks_cache, key};
+use qc_table::Database;
 use qc_turn::Turn;
 use qc_types::{NoMemory, Or, Steps, Text};
 use std::alloc::Global;
@@ -31,8 +32,9 @@ impl Session {
     ghost use Rattle.qc_model.specs.Machine as machine;
     ghost use Rattle.qc_parse.specs.Refusals.{as_meant};
     ghost use Rattle.qc_replies.specs.Told.{IsTold};
+    ghost use Rattle.qc_trx.specs.SnapshotStates.{after_arrival};
     ghost use Rattle.qc_serve.specs.Going.{DoesStatement, MayAnswer, Stops, TellsOut};
-    ghost use Rattle.qc_serve.specs.Querying.{HasFound, LooksAgain};
+    ghost use Rattle.qc_serve.specs.Querying.{HasFound, LooksAgain, seen_with};
     ghost use Rattle.qc_serve.specs.Stage.{is_select};
 
     /// Answers a query, and sends its reply. Where the cache is asked, a hit is looked for before the text is parsed.
@@ -96,10 +98,19 @@ impl Session {
         ensures later { K.faults sink.old ≤ K.faults sink.new }
     {
         let Found { hit, database } = found;
-        self.state.arrive();
-        self.state.see(hit.place, database);
+        self.arrive_at(hit.place, database);
         self.put_line(hit.place, Word::Hit);
         self.stream_hit(turn, hit, number, sink, gate)
+    }
+
+    /// A hit's SELECT arrives. Where its transaction has no snapshot, it takes one of the share that was made for it.
+    fn arrive_at(&mut self, place: u64, share: Option<Database>)
+        ensures { self.new ≡ record self.old { state = seen_with place share (after_arrival self.old.state) } }
+    {
+        self.state.arrive();
+        if let Some(database) = share {
+            self.state.see(place, database);
+        }
     }
 
     /// Answers a text that no hit was found for.
