@@ -1,6 +1,10 @@
-use Rattle.qc_script.proofs.ReadBack.{report_read}
+use Rattle.std.proofs.Common.{ap, subst, ◌∙◌}
+use Rattle.std.specs.Prelude.{List, ℕ}
+use Rattle.qc_types.specs.Answers.{Gives}
+use Rattle.qc_script.specs.Told.{report_told}
+use Rattle.qc_script.proofs.Whole.{at, report_again}
 use Rattle.qc_script.proofs.reading.read_report.Goals as goal
 
-pub returns-clause-found : goal.returns-clause-found
-returns-clause-found c =
-    report_read _ c.args.bytes.now _ _ _ _ _ _ c.in_ok-lines.ensures c.in_ok-options.ensures c.in_ok-sessions.ensures c.in_ok-journal.ensures.text c.in_ok-counters.ensures c.in_ok-lines-2.ensures c.in_ok-nothing_left.ensures
+pub returns-clause-only : goal.returns-clause-only
+returns-clause-only c = λ r tellable e.
+    subst (λ meant. Gives (λ report. report) (λ n. n) c.report.result meant) (ap (λ (t : List ℕ). report_told (at 1 t)) e ∙ report_again r tellable) c.report.ensures.told
