@@ -7,6 +7,7 @@ use crate::told::{must, same};
 use crate::words::table_name;
 use qc_journal::Journal;
 use qc_model::events::{Counters, Event, GoneWhy, How, Reason, Who};
+use qc_model::shared_ops::SharedOps;
 use qc_sql::tables::{Column, Kind, Ops, RowOp};
 use qc_types::{NoMemory, OwnedList, Text, Totals, Value, Why};
 use std::alloc::Global;
@@ -58,7 +59,10 @@ fn commit(alloc: Global, changes: &[Change]) -> Result<Event, NoMemory> {
     for change in changes {
         ops.push(op_of(alloc, *change)?)?;
     }
-    Ok(Event::Commit { who: WHO, ops })
+    Ok(Event::Commit {
+        who: WHO,
+        ops: SharedOps::of(alloc, ops)?,
+    })
 }
 
 /// Calls `reserve` for one event where it is told to.

@@ -1,5 +1,6 @@
 //! Each table of texts, asked of a database.
 
+mod changed;
 mod large;
 mod show;
 mod table;

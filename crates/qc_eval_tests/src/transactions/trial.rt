@@ -6,6 +6,7 @@ use crate::told::must;
 use crate::words::table_name;
 use qc_journal::Journal;
 use qc_model::events::{Event, How, Who};
+use qc_model::shared_ops::SharedOps;
 use qc_sql::tables::{Kind, Ops, RowOp, StoredRow};
 use qc_table::Database;
 use qc_trx::{Conflict, SessionState};
@@ -121,6 +122,7 @@ impl Trial {
             panic!(rt; "a table is full, or memory lacks");
         };
         must(rt, self.journal.reserve(1));
+        let ops = must(rt, SharedOps::of(self.alloc, ops));
         self.journal.push(Event::Commit { who: OTHER, ops });
         self.database = next;
     }

@@ -9,6 +9,7 @@ use qc_model::events::{Counters, Event, Events, GoneWhy, How, Reason, Who};
 use qc_model::reports::{
     Ending, Report, ReportLine, ReportLines, SessionReport, SessionReports, Word,
 };
+use qc_model::shared_ops::SharedOps;
 use qc_script::report_text;
 use qc_sql::tables::{Column, Columns, Kind, Ops, RowOp};
 use qc_types::{NoMemory, Options, OwnedList, TableName, Text, Totals, Value, Why};
@@ -171,7 +172,7 @@ fn tells_of_a_session(rt: HostRuntime) -> Result<(), Fail> {
         ending: Ending::Input,
     })?;
     let mut journal = OwnedList::new(alloc);
-    let ops = first_operations(alloc)?;
+    let ops = SharedOps::of(alloc, first_operations(alloc)?)?;
     add(&mut journal, Event::Commit { who: WHO, ops })?;
     run(&mut journal, How::Other)?;
     plain(&mut journal, Reason::Off)?;
@@ -387,7 +388,7 @@ fn tells_of_every_event(rt: HostRuntime) -> Result<(), Fail> {
     add_reasons(alloc, &mut journal)?;
     add_rules(alloc, &mut journal)?;
     add_others(&mut journal)?;
-    let ops = last_operations(alloc)?;
+    let ops = SharedOps::of(alloc, last_operations(alloc)?)?;
     add(&mut journal, Event::Commit { who: WHO, ops })?;
     let report = Report {
         options: OPTIONS,

@@ -1,0 +1,385 @@
+//! What is seen of a database that lists of rows changed, which are put behind those of their table, in the places of some, or into a copy of it, worked out
+//! by hand.
+//!
+//! At first there are these tables:
+//!
+//! ```text
+//! d.t (id BIGINT PRIMARY KEY, v BIGINT, name VARCHAR(10))
+//!     1, 10, 'a'
+//!     5, NULL, NULL
+//! d.u (id BIGINT PRIMARY KEY)
+//!     2
+//! d.e (id BIGINT PRIMARY KEY)
+//! d.n (a VARCHAR(5) NOT NULL, k BIGINT PRIMARY KEY, b BIGINT NOT NULL, c BIGINT)
+//!     'x', 7, 0, NULL
+//!     'y', 8, 1, 1
+//!     'x', 9, 2, 2
+//! ```
+
+ghost use Rattle.std.specs.Prelude.{◌≡◌, true, IfOk};
+ghost use Rattle.qc_model.specs.Licence.{ops_fit};
+
+use super::{PLAIN, differences_on};
+use crate::database::{Filled, Holds, ID, database_of};
+use crate::fits::fits;
+use crate::told::{is_empty, must};
+use crate::words::{table_name, values};
+use qc_sql::tables::{Kind, Ops, RowOp};
+use qc_table::Database;
+use qc_types::{Duplicate, NoMemory};
+use std::alloc::Global;
+use std::process::Abort;
+
+const TABLES: &[Filled<'static>] = &[
+    Filled {
+        db: "d",
+        name: "t",
+        columns: &[
+            ("id", Kind::Int, Holds::Key),
+            ("v", Kind::Int, Holds::Nulls),
+            ("name", Kind::Str(10), Holds::Nulls),
+        ],
+        rows: &["1,10,'a'", "5,NULL,NULL"],
+    },
+    Filled {
+        db: "d",
+        name: "u",
+        columns: ID,
+        rows: &["2"],
+    },
+    Filled {
+        db: "d",
+        name: "e",
+        columns: ID,
+        rows: &[],
+    },
+    Filled {
+        db: "d",
+        name: "n",
+        columns: &[
+            ("a", Kind::Str(5), Holds::NotNull),
+            ("k", Kind::Int, Holds::Key),
+            ("b", Kind::Int, Holds::NotNull),
+            ("c", Kind::Int, Holds::Nulls),
+        ],
+        rows: &["'x',7,0,NULL", "'y',8,1,1", "'x',9,2,2"],
+    },
+];
+
+/// What is seen at first.
+const AT_FIRST: &str = r#"
+SELECT * FROM t
+    id, v, name: 1, 10, 'a' | 5, NULL, NULL
+SELECT * FROM u
+    id: 2
+SELECT * FROM e
+    id:
+SELECT * FROM n
+    a, k, b, c: 'x', 7, 0, NULL | 'y', 8, 1, 1 | 'x', 9, 2, 2
+"#;
+
+/// A table of `d`, and a row that is put into it.
+type Row<'a> = (&'a str, &'a str);
+
+/// Lists of rows, each of which changes the database at once, and what is seen then.
+const CHANGES: &[(&[&[Row<'static>]], &str)] = &[
+    // Keys that rise above the last.
+    (
+        &[&[("t", "6,1,'c'"), ("t", "7,NULL,NULL"), ("t", "9,3,''")]],
+        "SELECT * FROM t\n    id, v, name: 1, 10, 'a' | 5, NULL, NULL | 6, 1, 'c' | 7, NULL, NULL | 9, 3, ''\n",
+    ),
+    // One such row, and two such lists.
+    (
+        &[
+            &[("t", "6,NULL,'c'")],
+            &[("t", "7,2,'d'"), ("t", "8,3,'e'")],
+            &[("t", "9,4,'f'"), ("t", "10,5,NULL")],
+        ],
+        "SELECT * FROM t\n    id, v, name: 1, 10, 'a' | 5, NULL, NULL | 6, NULL, 'c' | 7, 2, 'd' | 8, 3, 'e' | 9, 4, 'f' | 10, 5, NULL\n",
+    ),
+    // Into a table without rows, and below 0.
+    (
+        &[
+            &[("e", "-3"), ("e", "0"), ("e", "4")],
+            &[("e", "5"), ("e", "9223372036854775807")],
+        ],
+        "SELECT * FROM e\n    id: -3 | 0 | 4 | 5 | 9223372036854775807\n",
+    ),
+    // Keys that don't rise.
+    (
+        &[&[("t", "7,1,'c'"), ("t", "6,2,'d'")]],
+        "SELECT * FROM t\n    id, v, name: 1, 10, 'a' | 5, NULL, NULL | 6, 2, 'd' | 7, 1, 'c'\n",
+    ),
+    (
+        &[&[("t", "6,1,'c'"), ("t", "9,2,'d'"), ("t", "8,3,'e'")]],
+        "SELECT * FROM t\n    id, v, name: 1, 10, 'a' | 5, NULL, NULL | 6, 1, 'c' | 8, 3, 'e' | 9, 2, 'd'\n",
+    ),
+    // A key twice: the last row stays.
+    (
+        &[&[("t", "6,1,'c'"), ("t", "6,2,'d'")]],
+        "SELECT * FROM t\n    id, v, name: 1, 10, 'a' | 5, NULL, NULL | 6, 2, 'd'\n",
+    ),
+    // The first of them below the last key of the table, and at it.
+    (
+        &[&[("t", "3,1,'c'"), ("t", "8,2,'d'")]],
+        "SELECT * FROM t\n    id, v, name: 1, 10, 'a' | 3, 1, 'c' | 5, NULL, NULL | 8, 2, 'd'\n",
+    ),
+    (
+        &[&[("t", "5,4,'z'"), ("t", "6,5,'y'")]],
+        "SELECT * FROM t\n    id, v, name: 1, 10, 'a' | 5, 4, 'z' | 6, 5, 'y'\n",
+    ),
+    // Two tables in one list.
+    (
+        &[
+            &[("t", "6,1,'c'"), ("u", "3"), ("t", "7,2,'d'")],
+            &[("u", "4"), ("u", "6")],
+        ],
+        "SELECT * FROM t\n    id, v, name: 1, 10, 'a' | 5, NULL, NULL | 6, 1, 'c' | 7, 2, 'd'\nSELECT * FROM u\n    id: 2 | 3 | 4 | 6\n",
+    ),
+    // A list behind the last key after one that isn't.
+    (
+        &[
+            &[("t", "4,1,'c'"), ("t", "6,2,'d'")],
+            &[("t", "7,3,'e'"), ("t", "8,NULL,'f'")],
+            &[("t", "8,9,'f'")],
+        ],
+        "SELECT * FROM t\n    id, v, name: 1, 10, 'a' | 4, 1, 'c' | 5, NULL, NULL | 6, 2, 'd' | 7, 3, 'e' | 8, 9, 'f'\n",
+    ),
+    // Other numbers in rows that are there, NULL for a number, and a number for NULL.
+    (
+        &[&[("t", "1,11,'a'"), ("t", "5,51,NULL")]],
+        "SELECT * FROM t\n    id, v, name: 1, 11, 'a' | 5, 51, NULL\n",
+    ),
+    (
+        &[&[("t", "1,NULL,'a'"), ("t", "5,-9223372036854775808,NULL")]],
+        "SELECT * FROM t\n    id, v, name: 1, NULL, 'a' | 5, -9223372036854775808, NULL\n",
+    ),
+    (
+        &[&[
+            ("n", "'x',7,10,3"),
+            ("n", "'y',8,11,NULL"),
+            ("n", "'x',9,12,NULL"),
+        ]],
+        "SELECT * FROM n\n    a, k, b, c: 'x', 7, 10, 3 | 'y', 8, 11, NULL | 'x', 9, 12, NULL\n",
+    ),
+    // The first and the last of three, and by falling keys.
+    (
+        &[&[("n", "'x',7,10,3"), ("n", "'x',9,12,4")]],
+        "SELECT * FROM n\n    a, k, b, c: 'x', 7, 10, 3 | 'y', 8, 1, 1 | 'x', 9, 12, 4\n",
+    ),
+    (
+        &[&[
+            ("n", "'x',9,12,4"),
+            ("n", "'y',8,11,5"),
+            ("n", "'x',7,10,6"),
+        ]],
+        "SELECT * FROM n\n    a, k, b, c: 'x', 7, 10, 6 | 'y', 8, 11, 5 | 'x', 9, 12, 4\n",
+    ),
+    // A key twice: the last row stays.
+    (
+        &[&[("t", "5,2,NULL"), ("t", "1,3,'a'"), ("t", "5,4,NULL")]],
+        "SELECT * FROM t\n    id, v, name: 1, 3, 'a' | 5, 4, NULL\n",
+    ),
+    // A text changes in the last of them, in the first, to NULL, and back.
+    (
+        &[&[("t", "1,11,'a'"), ("t", "5,51,'e'")]],
+        "SELECT * FROM t\n    id, v, name: 1, 11, 'a' | 5, 51, 'e'\n",
+    ),
+    (
+        &[&[("t", "1,11,'b'"), ("t", "5,51,NULL")]],
+        "SELECT * FROM t\n    id, v, name: 1, 11, 'b' | 5, 51, NULL\n",
+    ),
+    (
+        &[&[("t", "1,11,NULL"), ("t", "5,51,NULL")]],
+        "SELECT * FROM t\n    id, v, name: 1, 11, NULL | 5, 51, NULL\n",
+    ),
+    (
+        &[
+            &[("n", "'z',7,10,3"), ("n", "'y',8,11,4")],
+            &[("n", "'z',7,20,5"), ("n", "'y',8,21,6")],
+            &[("n", "'x',7,30,7"), ("n", "'y',8,31,8")],
+        ],
+        "SELECT * FROM n\n    a, k, b, c: 'x', 7, 30, 7 | 'y', 8, 31, 8 | 'x', 9, 2, 2\n",
+    ),
+    // Rows that are there beside one that isn't: between them, and behind them.
+    (
+        &[&[("n", "'x',7,10,3"), ("n", "'z',6,1,1"), ("n", "'x',9,12,4")]],
+        "SELECT * FROM n\n    a, k, b, c: 'z', 6, 1, 1 | 'x', 7, 10, 3 | 'y', 8, 1, 1 | 'x', 9, 12, 4\n",
+    ),
+    (
+        &[&[("n", "'x',7,10,3"), ("n", "'z',10,1,1")]],
+        "SELECT * FROM n\n    a, k, b, c: 'x', 7, 10, 3 | 'y', 8, 1, 1 | 'x', 9, 2, 2 | 'z', 10, 1, 1\n",
+    ),
+];
+
+/// The operations that put rows.
+fn puts(rt: &impl Abort, alloc: Global, rows: &[Row<'_>]) -> Ops {
+    let mut ops = Ops::new(alloc);
+    for (table, row) in rows {
+        let name = must(rt, table_name(alloc, b"d", table.as_bytes()));
+        let row = must(rt, values(alloc, *row));
+        must(rt, ops.push(RowOp::Put(name, row)));
+    }
+    ops
+}
+
+/// An operation that puts a row, once more.
+fn copy_of(alloc: Global, op: &RowOp) -> Result<RowOp, NoMemory>
+    ensures { IfOk result (λ copy. copy ≡ op.now) }
+{
+    match op {
+        RowOp::Put(table, row) => Ok(RowOp::Put(table.duplicate(alloc)?, row.copy(alloc)?)),
+        _ => Err(NoMemory),
+    }
+}
+
+/// Whether operations that put rows fit a database, each of them what those before it made.
+fn all_fit(rt: &impl Abort, alloc: Global, ops: &Ops, database: &Database) -> bool
+    ensures { result ≡ true → ops_fit ops.now database.now ≡ true }
+{
+    let mut draft = must(rt, database.share());
+    for op in ops.items() {
+        if !fits(op, &draft) {
+            return false;
+        }
+        let mut one = Ops::new(alloc);
+        must(rt, one.push(must(rt, copy_of(alloc, op))));
+        draft = must(rt, draft.apply(alloc, &one));
+    }
+    true
+}
+
+/// Changes a database by rows that are put at once.
+fn change(rt: &impl Abort, alloc: Global, database: &mut Database, rows: &[Row<'_>]) {
+    let ops = puts(rt, alloc, rows);
+    if !all_fit(rt, alloc, &ops, database) {
+        panic!(rt; "a row doesn't fit the database");
+    }
+    must(rt, database.change(alloc, &ops));
+}
+
+fn at_first(rt: &impl Abort, alloc: Global) -> Database {
+    database_of(rt, alloc, &["d"], TABLES)
+}
+
+#[test]
+fn rows_that_are_put_at_once(rt: HostRuntime) {
+    let alloc = rt.alloc();
+    for (lists, wanted) in CHANGES {
+        let mut database = at_first(&rt, alloc);
+        for rows in *lists {
+            change(&rt, alloc, &mut database, *rows);
+        }
+        is_empty(&rt, &differences_on(&rt, alloc, &database, PLAIN, *wanted));
+    }
+}
+
+#[test]
+fn a_snapshot_stays_where_rows_are_put(rt: HostRuntime) {
+    let alloc = rt.alloc();
+    for (lists, wanted) in CHANGES {
+        let mut database = at_first(&rt, alloc);
+        let shared = must(&rt, database.share());
+        for rows in *lists {
+            change(&rt, alloc, &mut database, *rows);
+        }
+        is_empty(&rt, &differences_on(&rt, alloc, &shared, PLAIN, AT_FIRST));
+        is_empty(&rt, &differences_on(&rt, alloc, &database, PLAIN, *wanted));
+    }
+}
+
+#[test]
+fn a_version_stays_where_rows_are_put(rt: HostRuntime) {
+    let alloc = rt.alloc();
+    let name = must(&rt, table_name(alloc, b"d", b"t"));
+    for (lists, wanted) in CHANGES {
+        let mut database = at_first(&rt, alloc);
+        let Some(table) = database.table(&name) else {
+            panic!(rt; "no table");
+        };
+        let version = must(&rt, table.share());
+        for rows in *lists {
+            change(&rt, alloc, &mut database, *rows);
+        }
+        assert_eq!(rt; version.count(), 2);
+        is_empty(&rt, &differences_on(&rt, alloc, &database, PLAIN, *wanted));
+    }
+}
+
+/// What is seen when 50 lists have put the rows of the keys from 6 to 155, three at once: the first of each list has NULL for its number, and the third for its
+/// name, and each other number is the key.
+const MANY: &str = r#"
+; 6 + 7 + .. + 155 is 12075, of which 6 + 9 + .. + 153, which is 3975, is missing, and 10 is the number of the first row
+SELECT COUNT(*), COUNT(v), SUM(v), COUNT(name), MAX(id) FROM t
+    COUNT(*), COUNT(v), SUM(v), COUNT(name), MAX(id): 152, 101, 8110, 101, 155
+; the rows on both sides of the 64th
+SELECT id FROM t WHERE v IS NULL LIMIT 20, 3
+    id: 63 | 66 | 69
+SELECT id FROM t WHERE name IS NULL LIMIT 20, 3
+    id: 65 | 68 | 71
+SELECT id, v, name FROM t WHERE id > 152
+    id, v, name: 153, NULL, 'n153' | 154, 154, 'n154' | 155, 155, NULL
+"#;
+
+/// Changes a database by 50 lists, which put the rows of the keys from 6 to 155, three at once.
+fn put_many(rt: &impl Abort, alloc: Global, database: &mut Database) {
+    for list in 0u32..50 {
+        let (first, second, third) = (3 * list + 6, 3 * list + 7, 3 * list + 8);
+        let rows = [
+            must(rt, format!(in alloc; "{first},NULL,'n{first}'")),
+            must(rt, format!(in alloc; "{second},{second},'n{second}'")),
+            must(rt, format!(in alloc; "{third},{third},NULL")),
+        ];
+        let rows = [
+            ("t", rows[0].as_str()),
+            ("t", rows[1].as_str()),
+            ("t", rows[2].as_str()),
+        ];
+        change(rt, alloc, database, &rows);
+    }
+}
+
+#[test]
+fn many_rows_are_put(rt: HostRuntime) {
+    let alloc = rt.alloc();
+    let mut database = at_first(&rt, alloc);
+    put_many(&rt, alloc, &mut database);
+    is_empty(&rt, &differences_on(&rt, alloc, &database, PLAIN, MANY));
+}
+
+/// What is seen when 50 lists more have replaced those rows: the first of each list has its key for its number, the second has NULL, and the third twice its key.
+const REPLACED: &str = r#"
+; 6 + 9 + .. + 153 is 3975, twice 8 + 11 + .. + 155 is 8150, and 10 is the number of the first row
+SELECT COUNT(*), COUNT(v), SUM(v), COUNT(name), MAX(id) FROM t
+    COUNT(*), COUNT(v), SUM(v), COUNT(name), MAX(id): 152, 101, 12135, 101, 155
+; the rows on both sides of the 64th
+SELECT id FROM t WHERE v IS NULL LIMIT 20, 3
+    id: 64 | 67 | 70
+SELECT id FROM t WHERE name IS NULL LIMIT 20, 3
+    id: 65 | 68 | 71
+SELECT id, v, name FROM t WHERE id > 152
+    id, v, name: 153, 153, 'n153' | 154, NULL, 'n154' | 155, 310, NULL
+"#;
+
+#[test]
+fn many_rows_are_replaced(rt: HostRuntime) {
+    let alloc = rt.alloc();
+    let mut database = at_first(&rt, alloc);
+    put_many(&rt, alloc, &mut database);
+    for list in 0u32..50 {
+        let (first, second, third) = (3 * list + 6, 3 * list + 7, 3 * list + 8);
+        let twice = 2 * third;
+        let rows = [
+            must(&rt, format!(in alloc; "{first},{first},'n{first}'")),
+            must(&rt, format!(in alloc; "{second},NULL,'n{second}'")),
+            must(&rt, format!(in alloc; "{third},{twice},NULL")),
+        ];
+        let rows = [
+            ("t", rows[0].as_str()),
+            ("t", rows[1].as_str()),
+            ("t", rows[2].as_str()),
+        ];
+        change(&rt, alloc, &mut database, &rows);
+    }
+    is_empty(&rt, &differences_on(&rt, alloc, &database, PLAIN, REPLACED));
+}
