@@ -1,20 +1,23 @@
-/* Preloaded beside a program: refuses the allocation with the number FAIL_AT, from 1, and writes into the file COUNT_TO how many there were. */
+/* Preloaded beside a program: refuses the allocation with the number FAIL_AT, from 1, of all its threads, and writes into the file COUNT_TO how many there were. */
 #define _GNU_SOURCE
 #include <dlfcn.h>
 #include <errno.h>
 #include <stdio.h>
 #include <stdlib.h>
+#include <sys/syscall.h>
+#include <unistd.h>
 
 static long count = 0;
-static long refused = -1;
+static long refused = 0;
+
+__attribute__((constructor)) static void prepare(void) {
+    const char *number = getenv("FAIL_AT");
+    refused = number ? atol(number) : 0;
+    count = 0;
+}
 
 static int is_refused(void) {
-    if (count == 0) {
-        const char *number = getenv("FAIL_AT");
-        refused = number ? atol(number) : 0;
-    }
-    count++;
-    return count == refused;
+    return __atomic_add_fetch(&count, 1, __ATOMIC_RELAXED) == refused;
 }
 
 void *malloc(size_t size) {
@@ -37,7 +40,7 @@ void *realloc(void *block, size_t size) {
     return real(block, size);
 }
 
-__attribute__((destructor)) static void tell(void) {
+static void tell(void) {
     const char *name = getenv("COUNT_TO");
     long counted = count;
     FILE *file = name ? fopen(name, "w") : NULL;
@@ -45,4 +48,14 @@ __attribute__((destructor)) static void tell(void) {
         fprintf(file, "%ld\n", counted);
         fclose(file);
     }
+}
+
+/* The program ends by this call, which runs no destructor. */
+void _exit(int status) {
+    tell();
+    for (;;) syscall(SYS_exit_group, status);
+}
+
+__attribute__((destructor)) static void end(void) {
+    tell();
 }
