@@ -85,9 +85,10 @@ text_put (Some (ask.Run options)) report = text_of_report report
 text_put (Some (ask.Workload number)) report = summary number
 text_put None report = []
 
--- what a run has left beside its report: the server is sound and has the report's journal, and each session has its receipt
+-- what a run has left beside its report: the server is sound, under the report's options and with its journal, and each session has its receipt
 pub record IsBacked (server : Parts) (receipts : List Receipt) (report : Report) : Type 0 where
   pub sound : IsSomewhereSound server
+  pub options : server.options ≡ report.options
   pub journal : server.journal.events ≡ report.journal
   pub each : HaveReceipts report.sessions receipts
 

@@ -240,6 +240,7 @@ module _ (t : Turn Parts Event) (o : Options) (inputs : List (List ℕ)) (outcom
       let own : events_of 0 J ≡ events_of 0 before.seen = own_stays events (none ∙ sym (ap (events_of 0) saw)) in
       record {
         sound = whole;
+        options = same;
         first = before.seen;
         ended = sessions_ended;
         closed = is_closed same (reports_in outcomes) (others (own ∙ ap (events_of 0) saw)) own;
@@ -271,6 +272,7 @@ module _ (t : Turn Parts Event) (o : Options) (inputs : List (List ℕ)) (outcom
       let first : outcome.report.session ≡ 0 = one.0 in
       record {
         sound = whole;
+        options = same;
         first = before.seen;
         ended = (one.0, one.1, sessions_ended);
         closed = is_closed same (outcome.report ∷ reports_in outcomes) (others outcome.report first) own;

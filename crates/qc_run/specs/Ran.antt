@@ -71,6 +71,7 @@ behind_setup (Some outcome) outcomes = outcome ∷ outcomes
 -- what is known of the server that the last seat left, once the setup part and all inputs were served
 pub record HaveRun (o : Options) (setup : Option (List ℕ)) (inputs : List (List ℕ)) (outcomes : List Outcome) (server : Parts) : Type 0 where
   pub sound : IsSomewhereSound server
+  pub options : server.options ≡ o
   pub first : Journal
   pub ended : HaveEnded whole_machine o first server.journal.events (inputs_of (record { setup = setup; sessions = inputs })) (reports_in outcomes)
   pub closed : IsClosed o first server.journal.events (numbers (reports_in outcomes))

@@ -45,6 +45,7 @@ pub fn run_script<R: Threads + Wait + Sync, G: Gate + Sync>(
     ensures agrees { IfOk result (λ ran. IsReportOf script options ran.report) }
     ensures names { IfOk result (λ ran. HasShortNames ran.report) }
     ensures server { IfOk result (λ ran. IsSomewhereSound ran.server × (ran.server.journal.events ≡ ran.report.journal)) }
+    ensures options { IfOk result (λ ran. ran.server.options ≡ ran.report.options) }
     ensures receipts { IfOk result (λ ran. HaveReceipts ran.report.sessions ran.receipts) }
 {
     let Script { setup, sessions } = script;

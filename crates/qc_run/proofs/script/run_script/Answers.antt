@@ -22,3 +22,6 @@ pub returns-clause-names : goal.returns-clause-names
 returns-clause-names g c =
     let ran = c.in_ok-server.ensures in
     subst HasShortNames (sym c.in_ok-report.ensures) (names_are_short c.args.options c.in_ok-reports.reports.items c.in_ok-server.server ran.sound)
+
+pub returns-clause-options : goal.returns-clause-options
+returns-clause-options g c = c.in_ok-server.ensures.options ∙ sym (ap (λ (r : Report). r.options) c.in_ok-report.ensures)
