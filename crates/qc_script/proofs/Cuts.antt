@@ -1,10 +1,10 @@
 -- A text that is cut at the first of a byte.
-use Rattle.std.proofs.Common.{◌≡◌, ℕ, suc, ◌+◌, ◌-◌, ◌/◌, ◌%◌, ◌^◌, ◌<◌, ◌≤◌, Bool, true, false, cond, List, [], ◌∷◌, ◌++◌, length, length-append, take, drop, refl, sym, ap, ◌∙◌, arith, inl, inr}
+use Rattle.std.proofs.Common.{◌≡◌, ℕ, zero, suc, ◌+◌, ◌-◌, ◌/◌, ◌%◌, ◌^◌, ◌<◌, ◌≤◌, Bool, true, false, cond, List, [], ◌∷◌, ◌++◌, length, length-append, take, drop, refl, sym, ap, ◌∙◌, arith, inl, inr}
 use Rattle.std.proofs.lemmas.Bool.{cases_lt, lt-ltb, le-ltb, eq-eqb, ne_eqb, and_parts, ltb-true, not-true}
 use Rattle.std.proofs.lemmas.List.{take_all, drop_all, take_rest, take_at}
 use Rattle.std.proofs.lemmas.Fmt.{decimal_by_steps}
 use Rattle.std.specs.Prelude.{Option, Some, None, ◌==◌, ◌&&◌, not, nat_lt, ℤ, pos, negsuc, decimal}
-use Rattle.std.specs.Fmt.{signed_decimal, digit_glyph}
+use Rattle.std.specs.Fmt.{signed_decimal, digit_glyph, digits, digits_onto}
 use Rattle.std.specs.List.{position, position_or_len, AllByRecursion, join_with_byte}
 use lib.Signed.{mag}
 use Rattle.qc_model.specs.ReportText.{hex, hex_digits}
@@ -166,6 +166,25 @@ plain_decimal n lt = decimal_by_steps (λ n ds. ArePlain ds)
     (λ n small. (plain_from (48 + n) (omega arith) (λ e. omega (arith, e)), tt))
     (λ n ds large before. plain_both ds ((48 + n % 10) ∷ []) before (plain_from (48 + n % 10) (omega arith) (λ e. omega (arith, e)), tt))
     n lt
+
+-- ---- digits of any number
+
+glyph_plain : (d : ℕ) → d < 10 → IsPlain (digit_glyph false d)
+glyph_plain d lt = rw (lt-ltb d 10 lt) (plain_from (48 + d) (omega arith) (λ e. omega (arith, e)))
+
+onto_plain : (k n : ℕ) (acc : List ℕ) → ArePlain acc → ArePlain (digits_onto k 10 false n acc)
+onto_plain zero n acc all = all
+onto_plain (suc k) n acc all =
+    let more : ArePlain (digit_glyph false (n % 10) ∷ acc) = (glyph_plain (n % 10) (omega arith), all) in
+    by (n / 10 == 0) _ _ more (onto_plain k (n / 10) (digit_glyph false (n % 10) ∷ acc) more)
+  where
+    by : (b : Bool) (x y : List ℕ) → ArePlain x → ArePlain y → ArePlain (cond b x y)
+    by true x y hx hy = hx
+    by false x y hx hy = hy
+
+pub plain_any : (n : ℕ) → ArePlain (decimal n)
+unfolding digits
+plain_any n = onto_plain 64 n [] tt
 
 pub minus_plain : IsPlain 45
 minus_plain = record { low = omega arith; point = refl; colon = refl }

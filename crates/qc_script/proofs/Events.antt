@@ -19,22 +19,22 @@ use Rattle.qc_model.specs.declared.events.Event.TheVariants as event
 use Rattle.qc_model.specs.ReportText.{Text, fields, listed, hex, table_text, op_text, column_bytes, who_fields, how_fields, gone_fields, event_fields}
 use Rattle.qc_script.specs.Told.{front, behind, behind_two, members, each, number_told, number_below, bytes_told, table_told, signed_told, KindsMade, kinds_at, made_with, row_told, columns_told, put_told, create_told, del_told, change_told, op_told, ops_told, who_told, how_told, gone_told, run_told, commit_told, prune_told, gone_event_told, other_told, event_told}
 use Rattle.qc_script.specs.Tellable.{AreBytes, IsName, IsU64, TellsOp, made_by, TellOps, made_by_all, TellsEvent, made_by_event}
-use Rattle.qc_script.proofs.Cuts.{is_byte, Lacks, AllLack, lacks_both, front_at, behind_at, are_plain, plain_hex, plain_signed, plain_lacks_low, plain_lacks_colon, plain_word}
+use Rattle.qc_script.proofs.Cuts.{is_byte, Lacks, AllLack, lacks_both, front_at, behind_at, are_plain, plain_hex, plain_signed, plain_any, plain_lacks_low, plain_lacks_colon, plain_word}
 use Rattle.qc_script.proofs.Numbers.{number_again, below_again, signed_again, bytes_again}
 use Rattle.qc_script.proofs.Rows.{row_again, row_bytes, columns_again, columns_bytes}
-use Rattle.qc_script.proofs.Rereads.{Cut, word_cut, number_cut, table_again, table_lacks, table_lacks_colon, members_again, who_again, behind_who, how_again, gone_again}
+use Rattle.qc_script.proofs.Rereads.{Cut, plain_cut, word_cut, number_cut, table_again, table_lacks, table_lacks_colon, members_again, who_again, behind_who, how_again, gone_again}
 
 -- ---- operations
 
 -- what stands behind an operation's word, and what stands behind its table there
 module _ (t u name rest : Text) (x : TableName) where
   put_from : (made : KindsMade) (payload : Text) (row : List Value) → front 58 t ≡ codes "put" → behind 58 t ≡ u → front 58 u ≡ name → behind 58 u ≡ rest
-      → bytes_told rest ≡ Ok payload → row_told (kinds_at name made) payload ≡ Ok row → table_told name ≡ Ok x → op_told made t ≡ Ok (op.Put x row, made)
+      → bytes_told rest ≡ Ok payload → row_told (kinds_at (table_text x) made) payload ≡ Ok row → table_told name ≡ Ok x → op_told made t ≡ Ok (op.Put x row, made)
   unfolding op_told change_told put_told
-  put_from made payload row a b c d e f g = rw (a, b, c, d, e, f, g) refl
+  put_from made payload row a b c d e f g = rw (a, b, c, d, g, e, f) refl
 
   create_from : (made : KindsMade) (payload : Text) (columns : List Column) → front 58 t ≡ codes "create" → behind 58 t ≡ u → front 58 u ≡ name → behind 58 u ≡ rest
-      → bytes_told rest ≡ Ok payload → columns_told payload ≡ Ok columns → table_told name ≡ Ok x → op_told made t ≡ Ok (op.CreateTable x columns, made_with name columns made)
+      → bytes_told rest ≡ Ok payload → columns_told payload ≡ Ok columns → table_told name ≡ Ok x → op_told made t ≡ Ok (op.CreateTable x columns, made_with (table_text x) columns made)
   unfolding op_told create_told
   create_from made payload columns a b c d e f g = rw (a, b, c, d, e, f, g) refl
 
@@ -204,7 +204,7 @@ event_again made (event.Commit w os) is =
     let list : Text = listed (map op_text os) in
     let after : List Text = decimal (length os) ∷ list ∷ [] in
     commit_from _ _ made (made_by_all os made) _ _ w os (word_cut (codes "commit") (who_fields w ++ after) refl) (who_again w after is.0) (behind_who w after is.0)
-    ((number_cut (length os) (list ∷ []) is.1).behind) (ops_again made os is.2)
+    ((plain_cut (decimal (length os)) (list ∷ []) (plain_any (length os))).behind) (ops_again made os is.1)
 event_again made (event.Done serial) is = done_from _ _ made serial (word_cut (codes "done") (decimal serial ∷ []) refl) (number_again serial is)
 event_again made (event.Gone serial y) is =
     gone_from _ _ made _ _ serial y (word_cut (codes "gone") (decimal serial ∷ gone_fields y) refl) (number_cut serial (gone_fields y) is.0) (number_again serial is.0) (gone_again y is.1)

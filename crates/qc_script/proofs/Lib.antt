@@ -14,5 +14,6 @@ pub mod ReadBack
 pub mod Rereads
 pub mod Rows
 pub mod SessionDraws
+pub mod Tells
 pub mod Whole
 pub mod Workloads

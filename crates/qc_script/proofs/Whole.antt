@@ -30,7 +30,7 @@ use Rattle.qc_script.specs.declared.reports.sessions.Head.{Head}
 use Rattle.qc_script.specs.ReportParts.{head_fields}
 use Rattle.qc_script.specs.Told.{Told, ◌>>=◌, front, behind, number_told, number_below, bytes_told, KindsMade, event_told, behind_word, spelt, one_line, options_in, options_line, counters_in, counters_line, count_line, ending_told, head_in, head_line, word_told, command_in, command_line, event_line, Unread, line_to, line_at, told_at, behind_line, times, command_at, session_at, sessions_at, Behind, behind_event, event_at, events_at, journal_at, ended, report_told}
 use Rattle.qc_script.specs.Tellable.{AreBytes, IsName, IsWho, IsWhy, IsReason, IsHow, IsGoneWhy, TellsEvent, made_by_event, TellEvents, IsEnding, IsLine, IsSession, AreOptions, AreCounters, IsTellable, IsU64}
-use Rattle.qc_script.proofs.Cuts.{Lacks, AllLack, ArePlain, are_plain, lacks_both, lacks_joined, position_at, front_at, plain_word, plain_lacks_low, plain_decimal, plain_hex}
+use Rattle.qc_script.proofs.Cuts.{Lacks, AllLack, ArePlain, are_plain, lacks_both, lacks_joined, position_at, front_at, plain_any, plain_word, plain_lacks_low, plain_decimal, plain_hex}
 use Rattle.qc_script.proofs.Numbers.{number_again, below_again, bytes_again}
 use Rattle.qc_script.proofs.Rereads.{Cut, lacks_cut, word_cut, number_cut, table_lacks, tables_lack, key_plain}
 use Rattle.qc_script.proofs.Events.{event_again, ops_lack}
@@ -146,7 +146,7 @@ event_lf made (event.Run w h) is = (word_lf (codes "run") refl, all_both (who_fi
 event_lf made (event.Commit w os) is = (
   word_lf (codes "commit") refl,
   all_both (who_fields w) (decimal (length os) ∷ listed (map op_text os) ∷ []) (who_lf w is.0)
-      (number_lf (length os) is.1, (lacks_joined 10 44 (map op_text os) refl (ops_lack 10 (omega arith) made os is.2), tt)),
+      (plain_lf (decimal (length os)) (plain_any (length os)), (lacks_joined 10 44 (map op_text os) refl (ops_lack 10 (omega arith) made os is.1), tt)),
 )
 event_lf made (event.Done serial) is = (word_lf (codes "done") refl, (number_lf serial is, tt))
 event_lf made (event.Gone serial y) is = (word_lf (codes "gone") refl, (number_lf serial is.0, gone_lf y is.1))

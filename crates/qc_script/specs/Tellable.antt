@@ -162,7 +162,7 @@ IsGoneWhy gone.Ended = Unit {0}
 -- an event, where these tables were made before it
 abbrev pub TellsEvent : KindsMade → Event → Type 0
 TellsEvent made (event.Run who h) = IsWho who × IsHow h
-TellsEvent made (event.Commit who ops) = IsWho who × IsU64 (length ops) × TellOps made ops
+TellsEvent made (event.Commit who ops) = IsWho who × TellOps made ops
 TellsEvent made (event.Done serial) = IsU64 serial
 TellsEvent made (event.Gone serial y) = IsU64 serial × IsGoneWhy y
 TellsEvent made (event.Prune serial need largest) = IsU64 serial × IsU32 need × IsU32 largest

@@ -41,7 +41,7 @@ use Rattle.qc_model.specs.declared.reports.Ending.TheVariants as ending
 use Rattle.qc_model.specs.declared.reports.ReportLine.{ReportLine}
 use Rattle.qc_model.specs.declared.reports.SessionReport.{SessionReport}
 use Rattle.qc_model.specs.declared.reports.Report.{Report}
-use Rattle.qc_model.specs.ReportText.{Text, lines, fields, option_fields, counter_fields, event_fields, line_text}
+use Rattle.qc_model.specs.ReportText.{Text, table_text, lines, fields, option_fields, counter_fields, event_fields, line_text}
 use Rattle.qc_script.specs.declared.reading.misspelt.Misspelt.{Misspelt}
 use Rattle.qc_script.specs.declared.reading.left.Lines.{Lines}
 use Rattle.qc_script.specs.declared.reports.sessions.Head.{Head}
@@ -236,9 +236,9 @@ made_with name columns made = insert_entry name_cmp made name (map (λ c. c.kind
 
 unfoldable pub put_told : KindsMade → Text → Told RowOp
 put_told made t = do
-  payload ← bytes_told (behind 58 t)
-  row ← row_told (kinds_at (front 58 t) made) payload
   table ← table_told (front 58 t)
+  payload ← bytes_told (behind 58 t)
+  row ← row_told (kinds_at (table_text table) made) payload
   Ok (op.Put table row)
 
 unfoldable pub create_told : KindsMade → Text → Told (RowOp × KindsMade)
@@ -246,7 +246,7 @@ create_told made t = do
   payload ← bytes_told (behind 58 t)
   columns ← columns_told payload
   table ← table_told (front 58 t)
-  Ok (op.CreateTable table columns, made_with (front 58 t) columns made)
+  Ok (op.CreateTable table columns, made_with (table_text table) columns made)
 
 unfoldable pub del_told : Text → Told RowOp
 del_told t = do

@@ -42,9 +42,9 @@ pub fn read_report(alloc: Global, bytes: &[u8]) -> Result<Report, Or<u32>>
     requires { length bytes.now < 2 ^ 32 - 1 }
     // What was read can be written again.
     ensures short { IfOk result HasShortNames }
-    // The bytes are the text of what was read.
-    ensures found { IfOk result (λ report. bytes.now ≡ text_of_report report) }
-    // The text of a report is read as that report, unless memory lacks.
+    // The bytes are the text of what was read, and tell the whole of it.
+    ensures found { IfOk result (λ report. IsTellable report × (bytes.now ≡ text_of_report report)) }
+    // The text of such a report is read as that report, unless memory lacks.
     ensures only { (r : Report) → IsTellable r → bytes.now ≡ text_of_report r → Gives (λ report. report) (λ n. n) result (Ok r) }
 {
     let lines = Lines {
@@ -57,7 +57,7 @@ pub fn read_report(alloc: Global, bytes: &[u8]) -> Result<Report, Or<u32>>
 #[tactic(auto, unfolding(crate::specs::Told::report_told))]
 fn report(alloc: Global, lines: Lines<'_>) -> Result<Report, Or<u32>>
     ensures short { IfOk result HasShortNames }
-    ensures found { IfOk result (λ report. lines.entry.left.now ≡ text_of_report report) }
+    ensures found { IfOk result (λ report. IsTellable report × (lines.entry.left.now ≡ text_of_report report)) }
     ensures told { Gives (λ report. report) (λ n. n) result (told.report_told (unread lines.entry)) }
 {
     let lines = behind_line(b"qcache report 1\n", lines)?;

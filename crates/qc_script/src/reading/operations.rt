@@ -3,6 +3,7 @@
 ghost use Rattle.std.specs.Prelude.{◌≡◌, IfOk};
 ghost use Rattle.std.specs.List.{All};
 ghost use Rattle.qc_types.specs.Answers.{Gives};
+ghost use Rattle.qc_model.specs.ReportText.{table_text};
 ghost use Rattle.qc_script.specs.Told as told;
 ghost use Rattle.qc_script.specs.ShortNames.{MakesShortColumns};
 
@@ -10,8 +11,9 @@ use crate::reading::fields::{bytes, cut, members_of, signed, table};
 use crate::reading::made::Made;
 use crate::reading::misspelt::Misspelt;
 use crate::reading::payloads::{columns, row};
+use crate::reports::fields::put_table;
 use qc_sql::tables::{Ops, RowOp};
-use qc_types::{Or, OwnedList};
+use qc_types::{NoMemory, Or, OwnedList, TableName, Text};
 use std::alloc::Global;
 
 /// The operations of a commit, with a comma between two. Linear in the list, but for the tables that are looked up.
@@ -68,9 +70,11 @@ fn put(alloc: Global, made: &Made, text: &[u8]) -> Result<RowOp, Or<Misspelt>>
     ensures told { Gives (λ op. op) (λ e. e) result (told.put_told made.now text.now) }
 {
     let (name, payload) = cut(b':', text);
+    let target = table(alloc, name)?;
     let payload = bytes(alloc, payload)?;
-    let row = row(alloc, made.kinds(name), payload.bytes())?;
-    Ok(RowOp::Put(table(alloc, name)?, row))
+    let name = spelt_name(alloc, &target)?;
+    let row = row(alloc, made.kinds(name.bytes()), payload.bytes())?;
+    Ok(RowOp::Put(target, row))
 }
 
 #[tactic(auto, unfolding(crate::specs::Told::del_told))]
@@ -92,6 +96,16 @@ fn create(alloc: Global, made: &mut Made, text: &[u8]) -> Result<RowOp, Or<Missp
     let payload = bytes(alloc, payload)?;
     let columns = columns(alloc, payload.bytes())?;
     let target = table(alloc, name)?;
-    made.make(name, &columns)?;
+    let name = spelt_name(alloc, &target)?;
+    made.make(name.bytes(), &columns)?;
     Ok(RowOp::CreateTable(target, columns))
+}
+
+/// The name of a table, as a report spells it.
+fn spelt_name(alloc: Global, table: &TableName) -> Result<Text, NoMemory>
+    ensures { IfOk result (λ name. name ≡ table_text table.now) }
+{
+    let mut name = Text::of(alloc, &[])?;
+    put_table(alloc, table, &mut name)?;
+    Ok(name)
 }

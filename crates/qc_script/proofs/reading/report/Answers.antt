@@ -2,11 +2,15 @@ use Rattle.std.proofs.lemmas.Result.{err_from_is_err_and}
 use Rattle.qc_script.specs.Told.{unread}
 use Rattle.qc_script.proofs.ReadBack.{report_read}
 use Rattle.qc_script.proofs.EventLoop.{counters_fail, end_fails, rest_fails, parts_told}
+use Rattle.qc_script.proofs.Tells.{read_is_tellable}
 use Rattle.qc_script.proofs.reading.report.Goals as goal
 
 pub returns-clause-found : goal.returns-clause-found
-returns-clause-found c =
-    report_read _ c.args.lines.left.now _ _ _ _ _ _ c.in_ok-lines.ensures.text c.in_ok-options.ensures.text c.in_ok-sessions.ensures.text c.in_ok-journal.ensures.text c.in_ok-counters.ensures.text c.in_ok-lines-2.ensures.text c.in_ok-nothing_left.ensures.text
+returns-clause-found c = (
+  read_is_tellable (unread c.args.lines) _
+      (parts_told (unread c.args.lines) _ _ _ _ _ _ _ _ _ _ _ c.in_ok-lines.ensures.told c.in_ok-options.ensures.told c.in_ok-sessions.ensures.told c.in_ok-journal.ensures.told c.in_ok-counters.ensures.told c.in_ok-lines-2.ensures.told c.in_ok-nothing_left.ensures.told),
+  report_read _ c.args.lines.left.now _ _ _ _ _ _ c.in_ok-lines.ensures.text c.in_ok-options.ensures.text c.in_ok-sessions.ensures.text c.in_ok-journal.ensures.text c.in_ok-counters.ensures.text c.in_ok-lines-2.ensures.text c.in_ok-nothing_left.ensures.text,
+)
 
 pub returns-clause-told : goal.returns-clause-told
 returns-clause-told c =
