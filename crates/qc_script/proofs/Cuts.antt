@@ -95,6 +95,12 @@ position_at c text rest lacks =
     let within : place_of c (text ++ c ∷ rest) < length (text ++ c ∷ rest) = omega (arith, place, length-append text (c ∷ rest)) in
     rw (lt-ltb (place_of c (text ++ c ∷ rest)) (length (text ++ c ∷ rest)) within) (ap Some place)
 
+-- and there is none in a text that lacks it
+pub position_none : (c : ℕ) (text : List ℕ) → Lacks c text → position (λ b. b == c) text ≡ None
+position_none c text lacks =
+    let place = place_none c text lacks in
+    rw (le-ltb (place_of c text) (length text) (omega (arith, place))) refl
+
 -- ---- joined texts
 
 abbrev pub AllLack : ℕ → List (List ℕ) → Type 0

@@ -1,7 +1,9 @@
 pub mod Cuts
 pub mod EventLoop
 pub mod Events
+mod examples
 pub mod FewSessions
+pub mod FirstLines
 pub mod HeldKinds
 pub mod HexDigits
 pub mod Joined
@@ -14,6 +16,7 @@ pub mod ReadBack
 pub mod Rereads
 pub mod Rows
 pub mod SessionDraws
+pub mod Stops
 pub mod Tells
 pub mod Whole
 pub mod Workloads

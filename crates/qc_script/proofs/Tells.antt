@@ -424,7 +424,7 @@ event_ok made t =
 spelt_ok : {A : Type 0} {P : A → Type 0} (line : Text) (text : A → Text) (x : A) → P x → Holds (spelt line text x) P
 spelt_ok line text x h = where_true _ x (λ e. h)
 
-options_ok : (line : Text) → Holds (options_line line) AreOptions
+pub options_ok : (line : Text) → Holds (options_line line) AreOptions
 unfolding options_line options_in
 options_ok line =
     let t : Text = behind_word line in
@@ -435,7 +435,7 @@ options_ok line =
     on (number_below (2 ^ 8) (behind 32 (behind_two t))) _ (below_ok _ _) (λ k hk. ok _ (record { size = hs; limit = hl; unit = hu; kind = hk }))))))
     (λ o h. spelt_ok line (λ p. one_line (option_fields p)) o h)
 
-counters_ok : (line : Text) → Holds (counters_line line) AreCounters
+pub counters_ok : (line : Text) → Holds (counters_line line) AreCounters
 unfolding counters_line counters_in
 counters_ok line =
     on {P = AreCounters} (counters_in (behind_word line)) _
@@ -444,7 +444,7 @@ counters_ok line =
     ok _ (record { com_select = ha; hits = hb; inserts = hc; not_cached = hd; lowmem_prunes = he; queries_in_cache = hf }))))))))
     (λ o h. spelt_ok line (λ p. one_line (counter_fields p)) o h)
 
-count_ok : (w line : Text) → Holds (count_line w line) IsU64
+pub count_ok : (w line : Text) → Holds (count_line w line) IsU64
 unfolding count_line
 count_ok w line = on (number_told (behind_word line)) _ (number_ok _) (λ n h. spelt_ok line (λ m. one_line (w ∷ decimal m ∷ [])) n h)
 
@@ -467,21 +467,21 @@ pub record IsHead (h : Head) : Type 0 where
   pub commands : IsU64 h.commands
   pub ending : IsEnding h.ending
 
-head_ok : (line : Text) → Holds (head_line line) IsHead
+pub head_ok : (line : Text) → Holds (head_line line) IsHead
 unfolding head_line head_in
 head_ok line =
     on {P = IsHead} (head_in (behind_word line)) _
     (on (number_below (2 ^ 8) _) _ (below_ok _ _) (λ s hs. on (number_told _) _ (number_ok _) (λ n hn. on (ending_told _) _ (ending_ok _) (λ e he. ok _ (record { session = hs; commands = hn; ending = he })))))
     (λ h is. spelt_ok line (λ p. one_line (codes "session" ∷ head_fields p)) h is)
 
-command_ok : (line : Text) → Holds (command_line line) IsLine
+pub command_ok : (line : Text) → Holds (command_line line) IsLine
 unfolding command_line command_in
 command_ok line =
     on {P = IsLine} (command_in (front 10 line)) _
     (on (number_told _) _ (number_ok _) (λ p hp. on (word_told _) _ (any (word_told _)) (λ w u. on (bytes_told _) _ (bytes_ok _) (λ r hr. ok _ (record { place = hp; reply = hr })))))
     (λ c is. spelt_ok line (λ p. lines (line_text p ∷ [])) c is)
 
-event_line_ok : (made : KindsMade) (number : ℕ) (line : Text) → Holds (event_line made number line) (EventRead made)
+pub event_line_ok : (made : KindsMade) (number : ℕ) (line : Text) → Holds (event_line made number line) (EventRead made)
 unfolding event_line
 event_line_ok made number line = on (event_told made (behind_word line)) _ (event_ok made (behind_word line)) (λ e h. spelt_ok line (λ (p : Event × KindsMade). one_line (decimal number ∷ event_fields p.0)) e h)
 

@@ -1,5 +1,5 @@
 -- The text of a report is read as that report.
-use Rattle.std.proofs.Common.{◌≡◌, ℕ, zero, suc, ◌+◌, ◌^◌, ◌<◌, true, List, [], ◌∷◌, ◌++◌, map, length, take, drop, Result, Ok, refl, sym, ap, ◌∙◌, append_assoc, append-nil, arith}
+use Rattle.std.proofs.Common.{◌≡◌, ℕ, zero, suc, ◌+◌, ◌^◌, ◌<◌, true, List, [], ◌∷◌, ◌++◌, map, length, take, drop, Result, Ok, Err, refl, sym, ap, ◌∙◌, append_assoc, append-nil, arith}
 use Rattle.std.specs.Prelude.{codes, decimal}
 use Rattle.std.specs.List.{AllByRecursion, flat_map}
 use Rattle.std.proofs.lemmas.List.Concat.{flat_map-append}
@@ -30,7 +30,7 @@ use Rattle.qc_script.specs.declared.reports.sessions.Head.{Head}
 use Rattle.qc_script.specs.ReportParts.{head_fields}
 use Rattle.qc_script.specs.Told.{Told, ◌>>=◌, front, behind, number_told, number_below, bytes_told, KindsMade, event_told, behind_word, spelt, one_line, options_in, options_line, counters_in, counters_line, count_line, ending_told, head_in, head_line, word_told, command_in, command_line, event_line, Unread, line_to, line_at, told_at, behind_line, times, command_at, session_at, sessions_at, Behind, behind_event, event_at, events_at, journal_at, ended, report_told}
 use Rattle.qc_script.specs.Tellable.{AreBytes, IsName, IsWho, IsWhy, IsReason, IsHow, IsGoneWhy, TellsEvent, made_by_event, TellEvents, IsEnding, IsLine, IsSession, AreOptions, AreCounters, IsTellable, IsU64}
-use Rattle.qc_script.proofs.Cuts.{Lacks, AllLack, ArePlain, are_plain, lacks_both, lacks_joined, position_at, front_at, plain_any, plain_word, plain_lacks_low, plain_decimal, plain_hex}
+use Rattle.qc_script.proofs.Cuts.{Lacks, AllLack, ArePlain, are_plain, lacks_both, lacks_joined, position_at, position_none, front_at, plain_any, plain_word, plain_lacks_low, plain_decimal, plain_hex}
 use Rattle.qc_script.proofs.Numbers.{number_again, below_again, bytes_again}
 use Rattle.qc_script.proofs.Rereads.{Cut, lacks_cut, word_cut, number_cut, table_lacks, tables_lack, key_plain}
 use Rattle.qc_script.proofs.Events.{event_again, ops_lack}
@@ -52,7 +52,7 @@ drop_past (b ∷ t) more =
     let e : suc (length t) + 1 ≡ suc (length t + 1) = omega arith in
     rw e (drop_past t more)
 
-line_again : (n : ℕ) (t more : Text) → Lacks 10 t → line_at (at n (t ++ 10 ∷ more)) ≡ Ok (t ++ 10 ∷ [], at (n + 1) more)
+pub line_again : (n : ℕ) (t more : Text) → Lacks 10 t → line_at (at n (t ++ 10 ∷ more)) ≡ Ok (t ++ 10 ∷ [], at (n + 1) more)
 unfolding line_at
 line_again n t more lacks =
     ap (line_to (at n (t ++ 10 ∷ more))) (position_at 10 t more lacks)
@@ -61,7 +61,12 @@ line_again n t more lacks =
     pair : {x x2 y y2 : Text} → x ≡ x2 → y ≡ y2 → ◌≡◌ {A = Text × Text} (x, y) (x2, y2)
     pair e f = rw (e, f) refl
 
-told_from : {A : Type 0} (tells : Text → Told A) (n : ℕ) (t more : Text) (x : A) → Lacks 10 t → tells (t ++ 10 ∷ []) ≡ Ok x → told_at tells (at n (t ++ 10 ∷ more)) ≡ Ok (x, at (n + 1) more)
+-- a text without LF has no line
+pub line_lacks : (n : ℕ) (t : Text) → Lacks 10 t → line_at (at n t) ≡ Err n
+unfolding line_at
+line_lacks n t lacks = ap (line_to (at n t)) (position_none 10 t lacks)
+
+pub told_from : {A : Type 0} (tells : Text → Told A) (n : ℕ) (t more : Text) (x : A) → Lacks 10 t → tells (t ++ 10 ∷ []) ≡ Ok x → told_at tells (at n (t ++ 10 ∷ more)) ≡ Ok (x, at (n + 1) more)
 told_from tells n t more x lacks e = rw (line_again n t more lacks, e) refl
 
 certain_again : (n : ℕ) (t more : Text) → Lacks 10 t → behind_line (t ++ 10 ∷ []) (at n (t ++ 10 ∷ more)) ≡ Ok (at (n + 1) more)
@@ -103,7 +108,7 @@ hex_lf t all = plain_lf (hex t) (plain_hex t all)
 table_lf : (t : TableName) → IsName t → Lacks 10 (table_text t)
 table_lf t is = table_lacks 10 (omega arith) t is
 
-all_both : (xs ys : List Text) → AllLack 10 xs → AllLack 10 ys → AllLack 10 (xs ++ ys)
+pub all_both : (xs ys : List Text) → AllLack 10 xs → AllLack 10 ys → AllLack 10 (xs ++ ys)
 all_both [] ys hx hy = hy
 all_both (x ∷ xs) ys hx hy = (hx.0, all_both xs ys hx.1 hy)
 
@@ -229,7 +234,7 @@ unfolding times
 times_none read s = refl
 
 -- a first line, and those behind it
-first_line : (t : Text) (ls : List Text) (more : Text) → lines (t ∷ ls) ++ more ≡ t ++ 10 ∷ (lines ls ++ more)
+pub first_line : (t : Text) (ls : List Text) (more : Text) → lines (t ∷ ls) ++ more ≡ t ++ 10 ∷ (lines ls ++ more)
 first_line t ls more = append_assoc (t ++ 10 ∷ []) (lines ls) more ∙ append_assoc t (10 ∷ []) (lines ls ++ more)
 
 word_again : (w : Word) → word_told (word_text w) ≡ Ok w

@@ -1,3 +1,4 @@
+pub mod BadLine
 pub mod Drafts
 pub mod Lines
 pub mod ReportParts

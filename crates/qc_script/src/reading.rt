@@ -1,10 +1,11 @@
 //! Reads the text of a report.
 
-ghost use Rattle.std.specs.Prelude.{◌≡◌, ◌<◌, ◌^◌, ◌-◌, ◌++◌, ◌∷◌, [], length, Ok, IfOk, OnOk};
+ghost use Rattle.std.specs.Prelude.{◌≡◌, ◌<◌, ◌^◌, ◌-◌, ◌++◌, ◌∷◌, [], length, Ok, IfOk, IfErr, OnOk};
 ghost use Rattle.qc_types.specs.Answers.{Gives};
 ghost use Rattle.qc_script.specs.Told as told;
 ghost use Rattle.qc_script.specs.Told.{Is, unread};
 ghost use Rattle.qc_model.specs.ReportText.{text_of_report, lines as lines_text, fields, option_fields, counter_fields};
+ghost use Rattle.qc_script.specs.BadLine.{Blames};
 ghost use Rattle.qc_script.specs.ShortNames.{HasShortNames};
 ghost use Rattle.qc_script.specs.Tellable.{IsTellable};
 
@@ -46,6 +47,8 @@ pub fn read_report(alloc: Global, bytes: &[u8]) -> Result<Report, Or<u32>>
     ensures found { IfOk result (λ report. IsTellable report × (bytes.now ≡ text_of_report report)) }
     // The text of such a report is read as that report, unless memory lacks.
     ensures only { (r : Report) → IsTellable r → bytes.now ≡ text_of_report r → Gives (λ report. report) (λ n. n) result (Ok r) }
+    // The refusal is the number of the first bad line.
+    ensures line { IfErr result (Blames bytes.now) }
 {
     let lines = Lines {
         number: 1,
