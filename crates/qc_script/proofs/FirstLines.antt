@@ -399,6 +399,9 @@ not_begun : (front : List Text) (line : Text) (k : ℕ) → ((u : Text) → repo
 not_begun front line k refused begun =
     err_is_no_ok k begun.0 (sym (refused begun.2) ∙ ap (λ (t : Text). report_told (at 1 t)) (sym begun.3) ∙ report_again begun.0 begun.1)
 
+no_report : (t : Text) (n : ℕ) → report_told (at 1 t) ≡ Err n → (r : Report) → IsTellable r → t ≡ text_of_report r → ⊥
+no_report t n e r is whole = err_is_no_ok n r (sym e ∙ ap (λ (u : Text). report_told (at 1 u)) whole ∙ report_again r is)
+
 bad_in_parts : (t : Text) (n : ℕ) → report_told (at 1 t) ≡ Err n → Stopped lines_of IsTellable 1 (λ s. report_parts (at 1 s)) t → IsFirstBad t n
 bad_in_parts t n e s =
     let close : Result (Report × Unread) ℕ → Result Report ℕ = λ r. r >>= closed in
@@ -409,6 +412,7 @@ bad_in_parts t n e s =
       each = s.each;
       parts = s.parts;
       number = omega (arith, same);
+      none = no_report t n e;
       begins = (s.whole, s.holds, lines s.behind, whole_text s.whole ∙ ap lines s.goes_on ∙ flat_map-append (λ l. l ++ 10 ∷ []) s.front s.behind);
       stops = λ line more lacks is. not_begun s.front line (1 + length s.front) (λ u. told_by_parts (at 1 (lines (s.front ++ line ∷ []) ++ u)) ∙ ap close (s.same line more u lacks is));
     }
@@ -426,6 +430,7 @@ bad_behind t n e a =
       each = a.each;
       parts = a.parts;
       number = omega (arith, same);
+      none = no_report t n e;
       begins = (a.value, a.holds, [], whole_text a.value ∙ sym (append-nil (lines front)));
       stops = λ line more lacks is. not_begun front line k (λ u. told_by_parts (at 1 (lines (front ++ line ∷ []) ++ u)) ∙ ap (λ (s : Text). close (report_parts (at 1 s))) (lines_both front (line ∷ []) u)
           ∙ ap close (a.same (lines (line ∷ []) ++ u)) ∙ ap (λ (s : Text). closed (a.value, at k s)) (first_line line [] u) ∙ more_refused k a.value line u);

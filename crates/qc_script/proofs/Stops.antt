@@ -218,7 +218,7 @@ no_line [] more lacks = absurd (apart lacks.0)
     apart e = absurd cc
 no_line (b ∷ l) more lacks = no_line l more lacks.1
 
-one_cut : (l more m rest : Text) → Lacks 10 l → Lacks 10 m → l ++ 10 ∷ more ≡ m ++ 10 ∷ rest → l ≡ m
+pub one_cut : (l more m rest : Text) → Lacks 10 l → Lacks 10 m → l ++ 10 ∷ more ≡ m ++ 10 ∷ rest → l ≡ m
 one_cut l more m rest hl hm e = sym (front_at 10 l more hl) ∙ ap (front 10) e ∙ front_at 10 m rest hm
 
 err_is_no_ok : {A E : Type 0} (e : E) (x : A) → ◌≡◌ {A = Result A E} (Err e) (Ok x) → ⊥

@@ -15,13 +15,15 @@ IsOneLine t = AllByRecursion (λ b. (b == 10) ≡ false) t
 abbrev pub Begins : Text → Type 0
 Begins t = (r : Report) × IsTellable r × (more : Text) × (text_of_report r ≡ t ++ more)
 
--- With the lines in front of line n a report's text begins. With line n none does; or line n lacks its LF, or is missing.
+-- No report that its text tells whole has this text. With the lines in front of line n the text of one begins. With line n none does; or line n lacks its LF,
+-- or is missing.
 pub record IsFirstBad (bytes : Text) (n : ℕ) : Type 0 where
   pub front : List Text
   pub rest : Text
   pub each : AllByRecursion IsOneLine front
   pub parts : bytes ≡ lines front ++ rest
   pub number : n ≡ length front + 1
+  pub none : (r : Report) → IsTellable r → bytes ≡ text_of_report r → ⊥
   pub begins : Begins (lines front)
   pub stops : (line more : Text) → IsOneLine line → rest ≡ line ++ 10 ∷ more → Begins (lines (front ++ line ∷ [])) → ⊥
 

@@ -6,6 +6,7 @@ use Rattle.std.proofs.lemmas.Bool.{and_parts, ltb-true}
 use Rattle.qc_types.specs.declared.names.TableName.{TableName}
 use Rattle.qc_types.specs.declared.names.Value.{Value}
 use Rattle.qc_types.specs.declared.names.Value.TheVariants as value
+use Rattle.qc_sql.specs.Packets.{encoded_integer, encoded_string}
 use Rattle.qc_sql.specs.declared.tables.Column.{Column}
 use Rattle.qc_sql.specs.declared.tables.Kind.TheVariants as kind
 use Rattle.qc_sql.specs.declared.tables.RowOp.TheVariants as op
@@ -18,7 +19,7 @@ use Rattle.qc_model.specs.declared.reports.Word.TheVariants as word
 use Rattle.qc_model.specs.declared.reports.Ending.TheVariants as ending
 use Rattle.qc_model.specs.declared.reports.ReportLine.{ReportLine}
 use Rattle.qc_model.specs.declared.reports.Report.{Report}
-use Rattle.qc_model.specs.ReportText.{Text, table_text, text_of_report}
+use Rattle.qc_model.specs.ReportText.{Text, table_text, text_of_report, lines}
 use Rattle.qc_script.specs.Told.{KindsMade, kinds_at, made_with}
 use Rattle.qc_script.specs.Tellable.{IsU8, AreBytes, made_by, IsTellable}
 
@@ -133,6 +134,28 @@ second_is_told = record {
   );
   counters = record { com_select = omega arith; hits = omega arith; inserts = omega arith; not_cached = omega arith; lowmem_prunes = omega arith; queries_in_cache = omega arith };
 }
+
+second_text : text_of_report second ≡ lines (
+    codes "qcache report 1"
+    ∷ codes "options 0 1048576 4096 1"
+    ∷ codes "sessions 1"
+    ∷ codes "session 1 commands 5 end input"
+    ∷ codes "1 other 0700000100010002000000"
+    ∷ codes "2 other 0700000100000002000000"
+    ∷ codes "3 other 0700000100000002000000"
+    ∷ codes "4 other 0700000100010002000000"
+    ∷ codes "5 plain 01000001011d000002036465660164017401740269640269640c3f001400000008030000000005000003fe0000020002000004013705000005fe00000200"
+    ∷ codes "journal 5"
+    ∷ codes "1 commit 1 1 1 createdb:64"
+    ∷ codes "2 run 1 2 other"
+    ∷ codes "3 commit 1 3 1 create:64.74:02696400000003"
+    ∷ codes "4 commit 1 4 1 put:64.74:0137"
+    ∷ codes "5 run 1 5 plain off"
+    ∷ codes "counters 1 0 0 1 0 0"
+    ∷ codes "end"
+    ∷ [])
+unfolding text_of_report digits encoded_string encoded_integer
+second_text = refl
 
 -- ---- damaged ones
 
