@@ -6,18 +6,15 @@ use Rattle.qc_model.specs.declared.reports.Report.{Report}
 use Rattle.qc_model.specs.declared.reports.ScriptRefusal.{ScriptRefusal}
 use Rattle.qc_model.specs.ReportText.{text_of_report}
 use Rattle.qc_model.specs.ScriptLines.{script_of}
+use Rattle.qc_script.specs.BadLine.{IsFirstBad}
 use Rattle.qc_script.specs.Tellable.{IsTellable}
 use Rattle.qc_show.specs.declared.fault.Fault.TheVariants as fault
 use Rattle.qc_show.specs.declared.fault.Refusal.{Refusal}
 use Rattle.qc_show.specs.declared.fault.Refusal.TheVariants as refusal
 
--- bytes that are the text of a report
+-- bytes that are the text of a report, and tell the whole of it
 abbrev pub IsReport : List ℕ → Type 0
-IsReport bytes = (r : Report) × (bytes ≡ text_of_report r)
-
--- bytes that are the text of no report which its text tells whole
-abbrev pub IsNoReport : List ℕ → Type 0
-IsNoReport bytes = (r : Report) → IsTellable r → bytes ≡ text_of_report r → ⊥
+IsReport bytes = (r : Report) × IsTellable r × (bytes ≡ text_of_report r)
 
 -- whether the report or the script is refused, where else a fault came in between
 abbrev pub is_refused : Refusal → Bool
@@ -33,7 +30,7 @@ HasScriptCause script _ = ⊥
 
 -- what a refusal says of a report and of the script beside it
 abbrev pub HasCause : List ℕ → Option (List ℕ) → Refusal → Type 0
-HasCause report script (refusal.Report line) = IsNoReport report
+HasCause report script (refusal.Report line) = IsFirstBad report line
 HasCause report script refusal.TooLong = 4294967294 < length report
 HasCause report script r = HasScriptCause script r
 
