@@ -48,21 +48,40 @@ pub fn add_all<R: Wait>(rt: &R, turn: &Turn<Log>, seat: &mut Seat<Log>, count: u
     }
 }
 
-/// Asks for the turn once, and says whether it was free.
-pub fn asks_once(turn: &Turn<Log>, seat: &mut Seat<Log>) -> bool
+/// Asks for the turn once, and gives it back where it was free. The number of the seat that was found to hold it, or none.
+fn holder_found(turn: &Turn<Log>, seat: &mut Seat<Log>) -> Option<u32>
     requires { IsSeatOf turn.now seat.old × ((view seat.old).task ≡ Rest) }
     ensures { IsSeatOf turn.now seat.new × ((view seat.new).number ≡ (view seat.old).number) × ((view seat.new).task ≡ Rest) × ((view seat.new).events ≡ (view seat.old).events) }
 {
     match turn.try_take(seat) {
         Ok(held) => {
             held.release(Task::Rest);
-            true
+            None
         }
         Err(busy) => {
-            let Busy { holder: _, seat: _ } = busy;
-            false
+            let Busy { holder, seat: _ } = busy;
+            Some(holder)
         }
     }
+}
+
+/// A second seat asks for the turn while the first one has it, and again when it is free. The seats that it found to hold it.
+pub fn holders_found<R: Wait>(
+    rt: &R,
+    alloc: Global,
+) -> Result<(Option<u32>, Option<u32>), NoMemory> {
+    let (turn, mut first) = Turn::new(alloc, Log::new(alloc), LOG_WORDS)?;
+    let Ok(mut second) = first.split(alloc, &turn) else {
+        let _log = turn.close(first);
+        return Err(NoMemory);
+    };
+    let held = turn.take(rt, &mut first);
+    let taken = holder_found(&turn, &mut second);
+    held.release(Task::Rest);
+    let free = holder_found(&turn, &mut second);
+    first.meet(&turn, second);
+    let _log = turn.close(first);
+    Ok((taken, free))
 }
 
 /// Closes the turn. The first seat, which has met a second one that had added three entries, has seen these and no others, and the log has no others.

@@ -1,4 +1,4 @@
-use crate::add::three;
+use crate::add::{holders_found, three};
 use crate::beside::{end_beside, fill_beside, fill_by_pieces, stream_beside};
 use crate::shares::add_shared;
 use std::test::Fail;
@@ -8,6 +8,13 @@ fn a_second_seat_adds_three(rt: HostRuntime) -> Result<(), Fail> {
     let log = three(&rt, rt.alloc())?.ok_or("memory")?;
     assert!(rt; log.len() == 3);
     assert!(rt; log.sum() == 6);
+    Ok(())
+}
+
+/// The first seat has the number 1.
+#[test]
+fn the_seat_that_holds_is_told(rt: HostRuntime) -> Result<(), Fail> {
+    assert!(rt; holders_found(&rt, rt.alloc())? == (Some(1), None));
     Ok(())
 }
 

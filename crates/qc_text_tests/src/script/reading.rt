@@ -71,6 +71,47 @@ counters 0 0 0 0 0 0
 end
 ";
 
+/// A session that creates a table, and selects a row of it through the cache.
+const FIRST: &str = "qcache report 1
+options 1048576 1048576 4096 1
+sessions 1
+session 1 commands 5 end input
+1 other 0700000100010002000000
+2 other 0700000100000002000000
+3 other 0700000100000002000000
+4 other 0700000100010002000000
+5 start 01000001011d000002036465660164017401740269640269640c3f001400000008030000000005000003fe0000020002000004013705000005fe00000200
+journal 6
+1 commit 1 1 1 createdb:64
+2 run 1 2 other
+3 commit 1 3 1 create:64.74:02696400000003
+4 commit 1 4 1 put:64.74:0137
+5 run 1 5 start 1 01640001210000ffffffffffffffff000053454c4543542069642046524f4d2074 64.74
+6 done 1
+counters 1 0 1 0 0 1
+end
+";
+
+/// The same without a cache.
+const WITHOUT_CACHE: &str = "qcache report 1
+options 0 1048576 4096 1
+sessions 1
+session 1 commands 5 end input
+1 other 0700000100010002000000
+2 other 0700000100000002000000
+3 other 0700000100000002000000
+4 other 0700000100010002000000
+5 plain 01000001011d000002036465660164017401740269640269640c3f001400000008030000000005000003fe0000020002000004013705000005fe00000200
+journal 5
+1 commit 1 1 1 createdb:64
+2 run 1 2 other
+3 commit 1 3 1 create:64.74:02696400000003
+4 commit 1 4 1 put:64.74:0137
+5 run 1 5 plain off
+counters 1 0 0 1 0 0
+end
+";
+
 /// Lines in place of one of the small report's, each with that line's number and the first bad line then.
 const REPLACED: [(usize, &str, u32); 46] = [
     (1, "qcache report 2", 1),
@@ -151,6 +192,8 @@ fn reports_are_read_back(rt: HostRuntime) -> Result<(), Fail> {
     let alloc = rt.alloc();
     assert_eq!(rt; first_bad(&rt, alloc, EVERYTHING)?, 0);
     assert_eq!(rt; first_bad(&rt, alloc, SMALL)?, 0);
+    assert_eq!(rt; first_bad(&rt, alloc, FIRST)?, 0);
+    assert_eq!(rt; first_bad(&rt, alloc, WITHOUT_CACHE)?, 0);
     Ok(())
 }
 
