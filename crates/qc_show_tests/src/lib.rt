@@ -8,6 +8,8 @@ mod client;
 #[cfg(test)]
 mod many_sessions;
 #[cfg(test)]
+mod pages;
+#[cfg(test)]
 mod refusals;
 #[cfg(test)]
 mod told;

@@ -1,11 +1,11 @@
 //! Views of whole reports.
 
-use crate::told::{shown, shows};
+use crate::told::shows;
 use qc_show::View;
 use std::test::Fail;
 
 /// Every kind of event, each in a place where it could come or could not.
-const EVENTS: &str = "qcache report 1
+pub const EVENTS: &str = "qcache report 1
 options 1048576 1048576 4096 1
 sessions 0
 journal 40
@@ -387,22 +387,4 @@ fn summaries(rt: HostRuntime) -> Result<(), Fail> {
         Some(SCRIPT),
         SUMMARY_WITH_COMMANDS.as_bytes(),
     )
-}
-
-/// Texts are escaped, and all entries stand in the page.
-#[test]
-fn a_page(rt: HostRuntime) -> Result<(), Fail> {
-    let page = shown(&rt, rt.alloc(), View::Html, EVENTS, None)?;
-    let page = str::from_utf8(&page)?;
-    assert!(rt; page.starts_with("<!DOCTYPE html>\n"));
-    assert!(rt; page.ends_with("</body>\n</html>\n"));
-    assert!(rt; page.contains("<td class=\"statement\">SELECT '&lt;b&gt;' FROM t</td>"));
-    assert!(rt; !page.contains("<b>"));
-    assert!(rt;
-        page.contains(
-            "<title>32: session 2 committed: 1 row put into d.t; this removed entries 1, 6</title>"
-        )
-    );
-    assert!(rt; page.contains("<td class=\"number\">9</td>"));
-    Ok(())
 }
