@@ -26,8 +26,8 @@ fn reply(alloc: Global, letter: &str) -> Result<String, AllocError> {
     )
 }
 
-/// The setup part fills the entry 1, and session 1 sends its statement twice. Session 2 changes the row, and sends more.
-fn script(alloc: Global, more: &str) -> Result<String, AllocError> {
+/// The setup part fills the entry 1, and session 1 sends its statement and then a last one. Session 2 changes the row, and sends more.
+fn script(alloc: Global, last: &str, more: &str) -> Result<String, AllocError> {
     let old = repeated(alloc, "a")?;
     let new = repeated(alloc, "b")?;
     format!(in alloc;
@@ -40,7 +40,7 @@ query SELECT v FROM t
 session 1
 init d
 query SELECT v FROM t
-query SELECT v FROM t
+query {last}
 session 2
 query UPDATE d.t SET v = '{new}'
 {more}"
@@ -86,6 +86,15 @@ fn events(alloc: Global, count: u32) -> Result<String, AllocError> {
     )
 }
 
+/// The key of `SELECT id FROM t`, behind which the bytes of a condition may stand, and its replies with the row 1 and with none.
+const KEY: &str = "01640001210000ffffffffffffffff000053454c4543542069642046524f4d2074";
+
+const ONE: &str =
+    "01000001011d000002036465660164017401740269640269640c3f001400000008030000000005000003fe0000020002000004013105000005fe00000200";
+
+const NONE: &str =
+    "01000001011d000002036465660164017401740269640269640c3f001400000008030000000005000003fe0000020005000004fe00000200";
+
 /// The report where session 2 sends nothing but a ping behind the UPDATE.
 fn changed_report(alloc: Global) -> Result<String, AllocError> {
     let front = front(alloc, "1048576 1048576 4096 1")?;
@@ -128,6 +137,34 @@ end
     )
 }
 
+/// The report where session 2 fills three small entries behind the UPDATE, of which the first has to go for the last.
+fn pruned_report(alloc: Global) -> Result<String, AllocError> {
+    let front = front(alloc, "4096 1048576 512 1")?;
+    let events = events(alloc, 18)?;
+    format!(in alloc;
+        "{front}18 hit {ONE}
+session 2 commands 6 end input
+9 other 0700000100010002000000
+10 other 0700000100000002000000
+11 start {ONE}
+13 start {ONE}
+16 start {NONE}
+16 local 0700000100000002000000
+{events}10 run 2 2 other
+11 run 2 3 start 2 {KEY} 64.74
+12 done 2
+13 run 2 4 start 3 {KEY}205748455245206964203d2031 64.74
+14 done 3
+15 prune 2 64 0
+16 run 2 5 start 4 {KEY}205748455245206964203d2032 64.74
+17 done 4
+18 run 1 3 hit 3
+counters 4 2 4 0 1 2
+end
+"
+    )
+}
+
 /// Session 2 is held before its UPDATE until session 1 is between two pieces, and session 1 there until session 2 is before this command.
 fn holds(command: u64) -> [Hold; 2] {
     [
@@ -155,7 +192,7 @@ fn a_table_changes_between_two_pieces(rt: HostRuntime) {
     let alloc = rt.alloc();
     let holds = holds(2);
     let gate = Watch::new(Holds::new(&holds));
-    let script = must(&rt, script(alloc, "ping\n"));
+    let script = must(&rt, script(alloc, "SELECT v FROM t", "ping\n"));
     let report = must(&rt, changed_report(alloc));
     has_report(&rt, run(&rt, alloc, "run", &script, &gate), &report);
     assert!(rt; !gate.has_met_limit(), "a wait met its limit");
@@ -176,8 +213,35 @@ fn an_entry_is_filled_between_two_pieces(rt: HostRuntime) {
     let alloc = rt.alloc();
     let holds = holds(5);
     let gate = Watch::new(Holds::new(&holds));
-    let script = must(&rt, script(alloc, RESET_AND_FILL));
+    let script = must(&rt, script(alloc, "SELECT v FROM t", RESET_AND_FILL));
     let report = must(&rt, filled_report(alloc));
+    let ran = run(&rt, alloc, "run --size 4096 --unit 512", &script, &gate);
+    has_report(&rt, ran, &report);
+    assert!(rt; !gate.has_met_limit(), "a wait met its limit");
+    same(&rt, gate.streams(), 4u64);
+    same(&rt, gate.others(), 0u64);
+}
+
+/// What session 2 sends behind the UPDATE where the blocks don't last for its third entry.
+const FILL_THREE: &str = "init d
+query SELECT id FROM t
+query SELECT id FROM t WHERE id = 1
+query SELECT id FROM t WHERE id = 2
+ping
+";
+
+/// Of the memory, 8 blocks, the entry 2 takes three beside the result blocks of the hit, and the entry 3 two. So the entry 4 has those that the entry 2
+/// gives back.
+#[test]
+fn an_entry_is_pruned_between_two_pieces(rt: HostRuntime) {
+    let alloc = rt.alloc();
+    let holds = holds(6);
+    let gate = Watch::new(Holds::new(&holds));
+    let script = must(
+        &rt,
+        script(alloc, "SELECT id FROM t WHERE id = 1", FILL_THREE),
+    );
+    let report = must(&rt, pruned_report(alloc));
     let ran = run(&rt, alloc, "run --size 4096 --unit 512", &script, &gate);
     has_report(&rt, ran, &report);
     assert!(rt; !gate.has_met_limit(), "a wait met its limit");
