@@ -1,1 +1,2 @@
+mod OneBadLine
 mod SecondReport

@@ -1,5 +1,5 @@
 -- The report of one session that makes a table, puts a row and reads it, while the cache is off; and what is no such report.
-use Rattle.std.proofs.Common.{◌≡◌, ℕ, ◌^◌, ◌<◌, Bool, true, false, List, [], ◌∷◌, refl, arith}
+use Rattle.std.proofs.Common.{◌≡◌, ℕ, ◌^◌, ◌<◌, Bool, true, false, List, [], ◌∷◌, ◌++◌, refl, ap, arith}
 use Rattle.std.specs.Prelude.{◌&&◌, nat_lt, codes, pos}
 use Rattle.std.specs.Fmt.{digits}
 use Rattle.std.proofs.lemmas.Bool.{and_parts, ltb-true}
@@ -22,6 +22,7 @@ use Rattle.qc_model.specs.declared.reports.Report.{Report}
 use Rattle.qc_model.specs.ReportText.{Text, table_text, text_of_report, lines}
 use Rattle.qc_script.specs.Told.{KindsMade, kinds_at, made_with}
 use Rattle.qc_script.specs.Tellable.{IsU8, AreBytes, made_by, IsTellable}
+use Rattle.qc_script.specs.BadLine.{Begins, IsFirstBad}
 
 abbrev table : TableName
 table = record { db = codes "d"; name = codes "t" }
@@ -177,3 +178,49 @@ byte_is_not_told h = absurd (too_wide h.journal.1.1.1.0.1.0.1.1.0.bytes.0)
   where
     too_wide : 256 < 2 ^ 8 → ⊥
     too_wide lt = absurd (omega (arith, lt))
+
+-- ---- first bad lines
+
+begun : Begins []
+begun = (second, second_is_told, text_of_report second, refl)
+
+no_line : (line more : Text) → ◌≡◌ {A = Text} [] (line ++ 10 ∷ more) → ⊥
+no_line [] more e = absurd cc
+no_line (b ∷ line) more e = absurd cc
+
+no_text : (r : Report) → ◌≡◌ {A = Text} [] (text_of_report r) → ⊥
+unfolding text_of_report
+no_text r e = absurd cc
+
+-- of no bytes the first line is missing
+nothing_lacks_line_1 : IsFirstBad [] 1
+nothing_lacks_line_1 = record { front = []; rest = []; each = tt; parts = refl; number = refl; none = λ r is e. no_text r e; begins = begun; stops = λ line more lacks e goes_on. absurd (no_line line more e) }
+
+abbrev first : Text → ℕ
+first [] = 0
+first (b ∷ t) = b
+
+wrong_line : (line more : Text) → ◌≡◌ {A = Text} (120 ∷ 10 ∷ []) (line ++ 10 ∷ more) → Begins (lines (line ∷ [])) → ⊥
+unfolding text_of_report
+wrong_line [] more e goes_on = absurd cc
+wrong_line (b ∷ line) more e goes_on =
+    let has : 113 ≡ b = ap first goes_on.3 in
+    let is : 120 ≡ b = ap first e in
+    absurd (omega (arith, has, is))
+
+no_wrong_text : (r : Report) → ◌≡◌ {A = Text} (120 ∷ 10 ∷ []) (text_of_report r) → ⊥
+unfolding text_of_report
+no_wrong_text r e = absurd cc
+
+-- no report begins with the line x
+x_is_bad_line_1 : IsFirstBad (120 ∷ 10 ∷ []) 1
+x_is_bad_line_1 = record {
+  front = [];
+  rest = 120 ∷ 10 ∷ [];
+  each = tt;
+  parts = refl;
+  number = refl;
+  none = λ r is e. no_wrong_text r e;
+  begins = begun;
+  stops = λ line more lacks e goes_on. wrong_line line more e goes_on;
+}
