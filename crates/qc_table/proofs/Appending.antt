@@ -171,7 +171,7 @@ last_appended (j ∷ i ∷ ks) k = last_appended (i ∷ ks) k
 
 -- ---- the table
 
-rises_one : (k : ℤ) → IsStrictlySortedBy int_cmp (k ∷ [])
+pub rises_one : (k : ℤ) → IsStrictlySortedBy int_cmp (k ∷ [])
 unfolding IsStrictlySortedBy
 rises_one k = (tt, tt)
 

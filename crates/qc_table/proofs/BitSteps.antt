@@ -54,7 +54,7 @@ bit_added zero w (suc l) none =
 bit_added (suc k) w zero none = rw (pow-succ' 2 k, same_parity w (2 ^ k), before_some k) refl
 bit_added (suc k) w (suc l) none = rw (pow-succ' 2 k, half_more w (2 ^ k), both_after l k) (bit_added k (w / 2) l none)
 
-none_in_zero : (k : ℕ) → bit_of 0 k ≡ false
+pub none_in_zero : (k : ℕ) → bit_of 0 k ≡ false
 none_in_zero zero = refl
 none_in_zero (suc k) = none_in_zero k
 

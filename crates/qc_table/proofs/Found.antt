@@ -11,7 +11,7 @@ use Rattle.std.proofs.lemmas.Cmp.{int_cmp_total}
 use Rattle.qc_types.specs.declared.names.Value.{Value}
 use Rattle.qc_sql.specs.Database.{MapOf}
 
-is_itself : (a : ℤ) → is_eq (int_cmp a a) ≡ true
+pub is_itself : (a : ℤ) → is_eq (int_cmp a a) ≡ true
 is_itself a = by (int_cmp a a) refl
   where
     by : (r : Ordering) → int_cmp a a ≡ r → is_eq (int_cmp a a) ≡ true

@@ -38,7 +38,7 @@ module _ {A K : Type 0} {R : K → K → Ordering} (o : IsTotalOrder R) (exact :
   each_later key a (e ∷ es) zero d all within = answer_rises a (f e) key all.0
   each_later key a (e ∷ es) (suc j) d all within = each_later key a es j d all.1 (omega arith)
 
-  answers_rise : (key : K) (es : List A) → IsStrictlySortedBy R (map f es) → IsNonDecreasingBy (λ e. ordering_index (R (f e) key)) es
+  pub answers_rise : (key : K) (es : List A) → IsStrictlySortedBy R (map f es) → IsNonDecreasingBy (λ e. ordering_index (R (f e) key)) es
   answers_rise key [] s i j d low within = absurd (omega arith)
   answers_rise key (e ∷ es) s zero zero d low within = omega arith
   answers_rise key (e ∷ es) s zero (suc j) d low within = each_later key (f e) es j d (sorted_head R (f e) (map f es) s) (omega arith)

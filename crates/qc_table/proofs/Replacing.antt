@@ -36,7 +36,7 @@ use Rattle.qc_table.proofs.Stores.{column_full, column_ready, column_shown, keys
 -- ---- a key that is there
 
 -- among rows that rise, the one with the key is replaced
-put_there : (es : MapOf ℤ (List Value)) (at : ℕ) (k : ℤ) (v : List Value) → IsStrictlySortedBy int_cmp (keys_of es) → slice_get (keys_of es) at ≡ Some k → insert_entry int_cmp es k v ≡ set es at (k, v)
+pub put_there : (es : MapOf ℤ (List Value)) (at : ℕ) (k : ℤ) (v : List Value) → IsStrictlySortedBy int_cmp (keys_of es) → slice_get (keys_of es) at ≡ Some k → insert_entry int_cmp es k v ≡ set es at (k, v)
 put_there [] at k v rise is = absurd cc
 put_there (e ∷ es) zero k v rise is =
     let same : e.0 ≡ k = cc in
@@ -59,19 +59,19 @@ pub have_at : (columns : List Column) (n at : ℕ) (cs : List Cells) → IsStore
 have_at columns n at cs store low = λ j c is. full_at (kind_at columns j) n at c (store.1 j c is) low
 
 -- what is put into a column fills it
-one_filled : (o : Option Kind) (n : ℕ) (make : List Value → List Value) (vs : List Value) (b d : Cells) → IsColumn o n b → values_of b ≡ vs → IsMade make (Some b) d → IsFilled o (make vs) d
+pub one_filled : (o : Option Kind) (n : ℕ) (make : List Value → List Value) (vs : List Value) (b d : Cells) → IsColumn o n b → values_of b ≡ vs → IsMade make (Some b) d → IsFilled o (make vs) d
 one_filled None n make vs b d h is m = absurd h
 one_filled (Some kind) n make vs b d h is m = (m.0, m.1 ∙ ap make is, m.2 ∙ h.2)
 
 -- the keys stay
-keys_put : (es : MapOf ℤ (List Value)) (at : ℕ) (k : ℤ) (v : List Value) → slice_get (keys_of es) at ≡ Some k → keys_of (set es at (k, v)) ≡ keys_of es
+pub keys_put : (es : MapOf ℤ (List Value)) (at : ℕ) (k : ℤ) (v : List Value) → slice_get (keys_of es) at ≡ Some k → keys_of (set es at (k, v)) ≡ keys_of es
 keys_put [] at k v is = refl
 keys_put (e ∷ es) zero k v is = let same : e.0 ≡ k = cc in ap (λ (x : ℤ). x ∷ keys_of es) (sym same)
 keys_put (e ∷ es) (suc at) k v is = ap (λ (ks : List ℤ). e.0 ∷ ks) (keys_put es at k v is)
 
 -- ---- the table
 
-still_within : (n : ℕ) → n ≤ most_rows → nat_le n most_rows ≡ true
+pub still_within : (n : ℕ) → n ≤ most_rows → nat_le n most_rows ≡ true
 still_within n h = grind (arith, nat_tests)
 
 -- entries in their places, the first of them put first

@@ -28,7 +28,7 @@ length_dropped zero xs low = omega arith
 length_dropped (suc n) [] low = absurd (omega arith)
 length_dropped (suc n) (x ∷ xs) low = let rest = length_dropped n xs (omega arith) in omega (arith, rest)
 
-part_kept : (from e : ℕ) (bytes t : List ℕ) → from ≤ e → e ≤ length bytes → take (e - from) (drop from (bytes ++ t)) ≡ take (e - from) (drop from bytes)
+pub part_kept : (from e : ℕ) (bytes t : List ℕ) → from ≤ e → e ≤ length bytes → take (e - from) (drop from (bytes ++ t)) ≡ take (e - from) (drop from bytes)
 part_kept from e bytes t low high =
     let all = length_dropped from bytes (omega arith) in
     ap (take (e - from)) (drop_within from bytes t (omega arith)) ∙ take-append-le (e - from) (drop from bytes) t (omega (arith, all))
@@ -38,7 +38,7 @@ part_new bytes t =
     let behind : drop (length bytes) (bytes ++ t) ≡ t = drop_within (length bytes) bytes t (omega arith) ∙ ap (λ l. l ++ t) (drop_whole bytes) in
     rw behind (take_all _ _ (omega (arith, length-append bytes t)))
 
-climbs_up : (from : ℕ) (es : List ℕ) (last : ℕ) → Climbs from es last → from ≤ last
+pub climbs_up : (from : ℕ) (es : List ℕ) (last : ℕ) → Climbs from es last → from ≤ last
 climbs_up from [] last c = omega (arith, c)
 climbs_up from (e ∷ es) last c = omega (arith, c.0, climbs_up e es last c.1)
 

@@ -1,12 +1,13 @@
 -- A table as it is stored: its keys, and its columns.
-use Rattle.std.specs.Prelude.{◌≡◌, ℕ, ℤ, Bool, true, false, List, [], ◌∷◌, ◌++◌, ◌<◌, map, length, sum_by, Option, Some, None, slice_index_or, slice_set}
-use Rattle.std.specs.List.{slice_get, range_with_len}
+use Rattle.std.specs.Prelude.{◌≡◌, ℕ, ℤ, Bool, true, false, List, [], ◌∷◌, ◌++◌, ◌<◌, map, length, sum_by, Option, Some, None, Result, Ok, Err, slice_index_or, slice_set}
+use Rattle.std.specs.List.{slice_get, range_with_len, insert, remove}
+use Rattle.std.specs.List.Sorted.{IsSearchInRange}
 use Rattle.std.specs.Prelude.{zip}
 use Rattle.qc_types.specs.declared.names.Value.{Value}
 use Rattle.qc_types.specs.declared.names.Value.TheVariants as value
 use Rattle.qc_sql.specs.declared.tables.Column.{Column}
 use Rattle.qc_sql.specs.declared.tables.Kind.{Kind}
-use Rattle.qc_sql.specs.Database.{MapOf, is_int, key_of}
+use Rattle.qc_sql.specs.Database.{MapOf, Table, is_int, key_of}
 use Rattle.qc_table.specs.declared.cells.Cells.{Cells}
 use Rattle.qc_table.specs.declared.cells.Cells.TheVariants as cells
 use Rattle.qc_table.specs.Columns.{ints_of, text_length, texts_of, HasIntRoom, HasTextRoom, IsInts, IsTexts}
@@ -141,3 +142,25 @@ with_values (i ∷ places) (v ∷ vs) ws = with_values places vs (with_one i v w
 -- more values
 abbrev pub and_more : List Value → List Value → List Value
 and_more vs ws = ws ++ vs
+
+-- a value in the place of the one at an index, or in front of it
+abbrev pub put_in : Result ℕ ℕ → Value → List Value → List Value
+put_in (Ok i) v vs = slice_set vs i v
+put_in (Err i) v vs = insert vs i v
+
+-- values without the one at an index
+abbrev pub without_one : ℕ → List Value → List Value
+without_one i vs = remove vs i
+
+-- columns that have a place for a value: one of theirs, or one in front of these or behind them
+abbrev pub HavePlace : Result ℕ ℕ → List Cells → Type 0
+HavePlace place cs = (j : ℕ) (c : Cells) → slice_get cs j ≡ Some c → IsSearchInRange place (length (values_of c))
+
+-- keys of which one comes in its place
+abbrev pub key_in : Result ℕ ℕ → ℤ → List ℤ → List ℤ
+key_in (Ok i) k ks = ks
+key_in (Err i) k ks = insert ks i k
+
+-- the table that is stored so
+abbrev pub table_stored : List Column → List ℤ → List Cells → Table
+table_stored columns keys cs = record { columns = columns; rows = rows_of (length columns) keys cs }

@@ -1,9 +1,11 @@
 //! Columns as they are stored.
 
-ghost use Rattle.std.specs.Prelude.{◌≡◌, ◌-◌, ◌<◌, ◌≤◌, [], ◌∷◌, ◌++◌, List, length, take, drop, true, false, option_copied, IsOk, OnOk, Some};
+ghost use Rattle.std.specs.Prelude.{◌≡◌, ◌-◌, ◌<◌, ◌≤◌, [], ◌∷◌, ◌++◌, List, length, take, drop, true, false, option_copied, slice_set, IsOk, OnOk, Some};
+ghost use Rattle.std.specs.List.{insert};
+ghost use Rattle.std.specs.List.Sorted.{IsSearchInRange};
 ghost use Rattle.qc_types.specs.declared.names.Value.{Value};
 ghost use Rattle.qc_table.specs.Puts.{values_at, AreWide};
-ghost use Rattle.qc_table.specs.Stored.{and_more, is_ints, takes, values_of, with_one, CanPut, HasRoom, IsCells, IsMade, TakesAll};
+ghost use Rattle.qc_table.specs.Stored.{and_more, is_ints, put_in, takes, values_of, with_one, without_one, CanPut, HasRoom, IsCells, IsMade, TakesAll};
 ghost use Rattle.qc_sql.specs.Database.{is_int};
 ghost use Rattle.qc_table.specs.Views.{int_value, text_value, value_at, IsNulls};
 
@@ -139,6 +141,76 @@ impl Cells {
             Cells::Ints(ints) => ints.put(row, number(value)),
             // It is the same text.
             Cells::Texts(_) => {}
+        }
+    }
+
+    /// Puts a value of the column's kind in the place of the one at an index, or in front of it. Costs what the value holds, and a move of the values behind
+    /// it where it isn't a number in the place of another. Can't fail where there is room.
+    pub(crate) fn put_in(
+        &mut self,
+        place: Result<usize, usize>,
+        value: &Value,
+    ) -> Result<(), NoMemory>
+        requires ready { IsCells self.old }
+        requires takes { takes (is_ints self.old) value.now ≡ true }
+        requires place { IsSearchInRange place (length (values_of self.old)) }
+        ensures ready { OnOk result (IsCells self.new) }
+        ensures kind { OnOk result (is_ints self.new ≡ is_ints self.old) }
+        ensures values { OnOk result (values_of self.new ≡ put_in place value.now (values_of self.old)) }
+        ensures room { (rest : List Value) → HasRoom (value.now ∷ rest) self.old → IsOk result × HasRoom rest self.new }
+    {
+        match place {
+            Ok(row) => self.replace(row, value),
+            Err(row) => self.insert(row, value),
+        }
+    }
+
+    /// Puts a value of the column's kind in the place of the one at an index. Costs what it holds, and that of a text a move of the texts behind it. Can't
+    /// fail where there is room.
+    fn replace(&mut self, row: usize, value: &Value) -> Result<(), NoMemory>
+        requires ready { IsCells self.old }
+        requires takes { takes (is_ints self.old) value.now ≡ true }
+        requires row { row < length (values_of self.old) }
+        ensures ready { OnOk result (IsCells self.new) }
+        ensures kind { OnOk result (is_ints self.new ≡ is_ints self.old) }
+        ensures values { OnOk result (values_of self.new ≡ slice_set (values_of self.old) row value.now) }
+        ensures room { (rest : List Value) → HasRoom (value.now ∷ rest) self.old → IsOk result × HasRoom rest self.new }
+    {
+        match self {
+            Cells::Ints(ints) => {
+                ints.put(row, number(value));
+                Ok(())
+            }
+            Cells::Texts(texts) => texts.replace(row, bytes(value)),
+        }
+    }
+
+    /// Puts a value of the column's kind in front of the one at an index, or at the end. Linear in how many stand behind it and what they hold. Can't fail
+    /// where there is room.
+    fn insert(&mut self, row: usize, value: &Value) -> Result<(), NoMemory>
+        requires ready { IsCells self.old }
+        requires takes { takes (is_ints self.old) value.now ≡ true }
+        requires row { row ≤ length (values_of self.old) }
+        ensures ready { OnOk result (IsCells self.new) }
+        ensures kind { OnOk result (is_ints self.new ≡ is_ints self.old) }
+        ensures values { OnOk result (values_of self.new ≡ insert (values_of self.old) row value.now) }
+        ensures room { (rest : List Value) → HasRoom (value.now ∷ rest) self.old → IsOk result × HasRoom rest self.new }
+    {
+        match self {
+            Cells::Ints(ints) => ints.insert(row, number(value)),
+            Cells::Texts(texts) => texts.insert(row, bytes(value)),
+        }
+    }
+
+    /// Takes the value at an index out. Linear in how many stand behind it and what they hold.
+    pub(crate) fn remove(&mut self, row: usize)
+        requires ready { IsCells self.old }
+        requires row { row < length (values_of self.old) }
+        ensures { IsMade (without_one row) (Some self.old) self.new }
+    {
+        match self {
+            Cells::Ints(ints) => ints.remove(row),
+            Cells::Texts(texts) => texts.remove(row),
         }
     }
 

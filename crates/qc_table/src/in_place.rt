@@ -18,10 +18,11 @@ use std::alloc::Global;
 /// The tables of each database.
 pub(crate) type Databases = NameMap<NameMap<TableVersion>>;
 
-/// Carries out operations: rows of one table that all come behind the others or all replace some, or one operation of any kind. Answers `false`, and leaves
-/// all as it was, where they are others, and where a table would have too many rows. Costs the logarithm of how many databases and tables there are, and what
-/// the rows hold over many calls, with the logarithm of how many rows the table has for each that replaces another, or what the table holds that one
-/// operation touches.
+/// Carries out operations: rows of one table that all come behind the others or all replace some with the same texts, a few of other keys or texts, or one
+/// operation of any kind. Answers `false`, and leaves all as it was, where they are others, and where a table would have too many rows. Costs the logarithm of
+/// how many databases and tables there are, and what the rows hold over many calls, with the logarithm of how many rows the table has for each that doesn't
+/// come behind them, and a move of the rows behind it for each that comes between others, changes a text or is taken out; or what the table holds that one
+/// operation touches, where another one shares its version.
 pub(crate) fn carry_out(
     databases: &mut Databases,
     alloc: Global,
@@ -40,9 +41,8 @@ pub(crate) fn carry_out(
     }
 }
 
-/// Puts rows into one table, all behind its others or all in the places of those with their keys. Answers `false`, and leaves all as it was, where the
-/// operations are others, where the version of the table is shared, where the keys neither rise above all others nor stand there all, where a VARCHAR would
-/// change, and where the table would have too many rows.
+/// Puts rows into one table. Answers `false`, and leaves all as it was, where the operations are others, where the version of the table is shared, where they
+/// are many rows that neither all come behind the others nor all replace some with the same texts, and where the table might have too many rows.
 fn put_rows(databases: &mut Databases, alloc: Global, ops: &[RowOp]) -> Result<bool, NoMemory>
     requires fits { ops_fit ops.now databases.old ≡ true }
     requires within { is_within_rows databases.old ≡ true }
@@ -184,10 +184,14 @@ impl TableVersion {
         self.become_draft(alloc, &draft)
     }
 
-    /// Takes out the row that the key may have. Linear in what the rows hold.
+    /// Takes out the row that the key may have. Costs the logarithm of how many rows there are, and a move of the rows behind it; where another one shares the
+    /// version, it is linear in what the rows hold.
     fn del(&mut self, alloc: Global, key: i64) -> Result<bool, NoMemory>
         ensures { IsChanged (without_row key self.old) self.old result self.new }
     {
+        if self.remove(key) {
+            return Ok(true);
+        }
         let mut draft = DraftTable::of(alloc, self)?;
         draft.del(key)?;
         self.become_draft(alloc, &draft)

@@ -1,10 +1,11 @@
 //! BIGINT columns as they are stored.
 
-ghost use Rattle.std.specs.Prelude.{◌≡◌, ℕ, suc, ◌<◌, [], ◌∷◌, ◌++◌, length, slice_set, IsOk, OnOk};
+ghost use Rattle.std.specs.Prelude.{◌≡◌, ℕ, suc, ◌<◌, [], ◌∷◌, ◌++◌, length, slice_set, IsOk, OnOk, ◌≤◌};
+ghost use Rattle.std.specs.List.{insert, remove};
 ghost use Rattle.qc_table.specs.Columns.{ints_of, HasIntRoom, IsInts};
 ghost use Rattle.qc_table.specs.Views.{int_value, value_at};
 
-use crate::nulls::{has_bit, push_bit, put_bit, reserve_bits};
+use crate::nulls::{has_bit, insert_bit, push_bit, put_bit, remove_bit, reserve_bits};
 use qc_types::NoMemory;
 use std::alloc::Global;
 
@@ -50,12 +51,37 @@ impl Ints {
         Ok(())
     }
 
+    /// Puts a number or NULL in front of the one at an index, or at the end. Linear in how many stand behind it. Can't fail where there is room.
+    pub(crate) fn insert(&mut self, row: usize, value: Option<i64>) -> Result<(), NoMemory>
+        requires ready { IsInts self.old }
+        requires row { row ≤ length self.old.values.items }
+        ensures ready { OnOk result (IsInts self.new) }
+        ensures values { OnOk result (ints_of self.new ≡ insert (ints_of self.old) row (int_value value)) }
+        ensures room { (more : ℕ) → HasIntRoom (suc more) self.old → IsOk result × HasIntRoom more self.new }
+    {
+        insert_bit(&mut self.nulls, row, self.values.len(), value.is_none())?;
+        self.values.insert(row, value.unwrap_or(0))?;
+        Ok(())
+    }
+
+    /// Takes the number or NULL at an index out. Linear in how many stand behind it.
+    pub(crate) fn remove(&mut self, row: usize)
+        requires ready { IsInts self.old }
+        requires row { row < length self.old.values.items }
+        ensures ready { IsInts self.new }
+        ensures values { ints_of self.new ≡ remove (ints_of self.old) row }
+    {
+        remove_bit(&mut self.nulls, row, self.values.len());
+        self.values.remove(row);
+    }
+
     /// Puts a number or NULL in the place of the one at an index. Constant time.
     pub(crate) fn put(&mut self, row: usize, value: Option<i64>)
         requires ready { IsInts self.old }
         requires row { row < length self.old.values.items }
         ensures ready { IsInts self.new }
         ensures values { ints_of self.new ≡ slice_set (ints_of self.old) row (int_value value) }
+        ensures room { (more : ℕ) → HasIntRoom (suc more) self.old → HasIntRoom more self.new }
     {
         put_bit(&mut self.nulls, row, value.is_none());
         self.values[row] = value.unwrap_or(0);

@@ -13,6 +13,7 @@ mod merge;
 mod name_map;
 mod nulls;
 mod puts;
+mod row_edits;
 mod row_ends;
 mod row_places;
 mod table_rows;

@@ -5,7 +5,7 @@ ghost use Rattle.std.specs.List.{list_all};
 ghost use Rattle.std.specs.Map.{keys_of};
 ghost use Rattle.std.specs.Vec.{vec_capacity, vec_len};
 ghost use Rattle.qc_sql.specs.declared.tables.Kind.TheVariants as kind;
-ghost use Rattle.qc_sql.specs.Database.{key_of, key_value, is_int, most_rows};
+ghost use Rattle.qc_sql.specs.Database.{key_of, key_value, is_int, most_rows, without_row};
 ghost use Rattle.qc_model.specs.Licence.{columns_fit, row_fits};
 ghost use Rattle.qc_model.specs.Sound.{IsSoundTable};
 ghost use Rattle.qc_table.specs.Changes as changes;
@@ -18,6 +18,7 @@ ghost use Rattle.qc_table.specs.Views.{int_value, text_value, kind_at, row_at, v
 use crate::cells::Cells;
 use crate::keys::key_of_row;
 use crate::puts::Puts;
+use crate::row_edits::{put_each, remove_row};
 use crate::row_ends::{push_rows, reserve_rows};
 use crate::row_places::{places_of, put_rows};
 use qc_sql::tables::Columns;
@@ -28,6 +29,9 @@ use std::marker::Model;
 
 /// The most rows of a table.
 pub(crate) const MOST_ROWS: usize = 1_048_576;
+
+/// The most rows that are put in their places one after another: each costs a move of the rows behind it, and all together a copy of the table otherwise.
+const MOST_PLACED: usize = 16;
 
 /// The columns of a table, and its rows: their keys, and the values of each column.
 #[derive(Drop)]
@@ -139,8 +143,10 @@ impl TableRows {
         Cut { end, next: end }
     }
 
-    /// Puts copies of the rows where they stand, all behind the others or all in the places of those with their keys. Answers `false`, and leaves all as it
-    /// was, where neither is possible. Costs what the rows hold over many calls, and the logarithm of how many rows there are for each that it replaces.
+    /// Puts copies of the rows in their places, where the others stand. Answers `false`, and leaves all as it was, where there would be too many rows, and
+    /// where they are many that neither all come behind the others nor all replace some with the same texts. Costs what the rows hold over many calls, the
+    /// logarithm of how many rows there are for each that doesn't come behind them all, and a move of the rows behind it where it comes between others or
+    /// changes a text.
     pub(crate) fn put(&mut self, alloc: Global, puts: &Puts<'_>) -> Result<bool, NoMemory>
         requires fits { list_all (row_fits self.old.columns) puts.now.rows ≡ true }
         requires within { length self.old.rows ≤ most_rows }
@@ -149,7 +155,10 @@ impl TableRows {
         if self.append(puts)? {
             return Ok(true);
         }
-        self.replace(alloc, puts)
+        if self.replace(alloc, puts)? {
+            return Ok(true);
+        }
+        self.place(puts)
     }
 
     /// Puts copies of the rows behind the others, where they stand, for which all memory is taken before. Answers `false`, and leaves all as it was, where their
@@ -184,6 +193,37 @@ impl TableRows {
         };
         put_rows(&mut self.cells, &places, puts);
         Ok(true)
+    }
+
+    /// Puts copies of a few rows in their places, in those of the rows with their keys or between others, the first of them first. All memory is taken
+    /// before. Answers `false`, and leaves all as it was, where they are more than a few and where there might be too many rows. Costs for each the logarithm
+    /// of how many rows there are, what it holds, and a move of the rows behind it.
+    fn place(&mut self, puts: &Puts<'_>) -> Result<bool, NoMemory>
+        requires fits { list_all (row_fits self.old.columns) puts.now.rows ≡ true }
+        requires within { length self.old.rows ≤ most_rows }
+        ensures { IsChanged (with_rows puts.now.rows self.old) self.old result self.new }
+    {
+        if puts.len() > MOST_PLACED || puts.len() > MOST_ROWS - self.keys.len() {
+            return Ok(false);
+        }
+        self.keys.reserve(puts.len())?;
+        reserve_rows(&mut self.cells, puts)?;
+        put_each(&self.columns, &mut self.keys, &mut self.cells, puts);
+        Ok(true)
+    }
+
+    /// Takes out the row that the key may have. Costs the logarithm of how many rows there are, and a move of the rows behind it.
+    pub(crate) fn remove(&mut self, key: i64)
+        requires { length self.old.rows ≤ most_rows }
+        ensures { IsChanged (without_row key self.old) self.old (Ok true) self.new }
+    {
+        match self.keys.binary_search(&key) {
+            Ok(at) => {
+                self.keys.remove(at);
+                remove_row(&mut self.cells, at);
+            }
+            Err(_) => {}
+        }
     }
 
     /// The number in a BIGINT column, `None` where it is NULL.

@@ -5,6 +5,7 @@ ghost use Rattle.std.specs.List.{list_all, slice_get};
 ghost use Rattle.std.specs.Ordering.{int_cmp};
 ghost use Rattle.std.specs.BTreeMap.{is_at};
 ghost use Rattle.std.specs.Map.{keys_of, lookup};
+ghost use Rattle.qc_sql.specs.Database.{without_row};
 ghost use Rattle.qc_sql.specs.Order.{RowsRise};
 ghost use Rattle.qc_model.specs.Licence.{row_fits};
 ghost use Rattle.qc_model.specs.Sound.{IsSoundTable};
@@ -81,9 +82,10 @@ impl TableVersion {
         })
     }
 
-    /// Puts copies of the rows where they stand, all behind the others or all in the places of those with their keys. Answers `false`, and leaves all as it
-    /// was, where another one shares the version, where the keys neither rise above all others nor stand there all, where a VARCHAR would change, and where
-    /// there would be too many rows. Costs what the rows hold over many calls, and the logarithm of how many rows there are for each that it replaces.
+    /// Puts copies of the rows in their places, where the others stand. Answers `false`, and leaves all as it was, where another one shares the version, where
+    /// there would be too many rows, and where they are many that neither all come behind the others nor all replace some with the same texts. Costs what the
+    /// rows hold over many calls, the logarithm of how many rows there are for each that doesn't come behind them all, and a move of the rows behind it where
+    /// it comes between others or changes a text.
     pub(crate) fn put_rows(&mut self, alloc: Global, puts: &Puts<'_>) -> Result<bool, NoMemory>
         requires { list_all (row_fits self.old.columns) puts.now.rows ≡ true }
         ensures { IsChanged (with_rows puts.now.rows self.old) self.old result self.new }
@@ -91,6 +93,20 @@ impl TableVersion {
         match Arc::get_mut(&mut self.stored) {
             Some(rows) => rows.put(alloc, puts),
             None => Ok(false),
+        }
+    }
+
+    /// Takes out the row that the key may have, where the others stand. Answers `false`, and leaves all as it was, where another one shares the version.
+    /// Costs the logarithm of how many rows there are, and a move of the rows behind it.
+    pub(crate) fn remove(&mut self, key: i64) -> bool
+        ensures { IsChanged (without_row key self.old) self.old (Ok result) self.new }
+    {
+        match Arc::get_mut(&mut self.stored) {
+            Some(rows) => {
+                rows.remove(key);
+                true
+            }
+            None => false,
         }
     }
 

@@ -201,6 +201,63 @@ const CHANGES: &[(&[&[Row<'static>]], &str)] = &[
         ],
         "SELECT * FROM n\n    a, k, b, c: 'x', 7, 30, 7 | 'y', 8, 31, 8 | 'x', 9, 2, 2\n",
     ),
+    // One row in front of all, and rows between others, one after another.
+    (
+        &[
+            &[("t", "0,1,'zero'")],
+            &[("t", "3,NULL,NULL")],
+            &[("t", "4,4,''")],
+            &[("t", "2,NULL,'b'")],
+            &[("t", "-9223372036854775808,2,'least'")],
+        ],
+        "SELECT * FROM t\n    id, v, name: -9223372036854775808, 2, 'least' | 0, 1, 'zero' | 1, 10, 'a' | 2, NULL, 'b' | 3, NULL, NULL | 4, 4, '' | 5, NULL, NULL\n",
+    ),
+    // Several at once, by falling keys, of which one comes twice.
+    (
+        &[&[
+            ("t", "4,1,'long name'"),
+            ("t", "2,2,NULL"),
+            ("t", "3,NULL,'b'"),
+            ("t", "2,5,'c'"),
+            ("t", "0,0,NULL"),
+        ]],
+        "SELECT * FROM t\n    id, v, name: 0, 0, NULL | 1, 10, 'a' | 2, 5, 'c' | 3, NULL, 'b' | 4, 1, 'long name' | 5, NULL, NULL\n",
+    ),
+    // Between others, in the place of one with another text, and behind all.
+    (
+        &[&[
+            ("n", "'bb',6,1,NULL"),
+            ("n", "'yyyyy',8,1,NULL"),
+            ("n", "'',10,2,3"),
+        ]],
+        "SELECT * FROM n\n    a, k, b, c: 'bb', 6, 1, NULL | 'x', 7, 0, NULL | 'yyyyy', 8, 1, NULL | 'x', 9, 2, 2 | '', 10, 2, 3\n",
+    ),
+    // A longer text, a shorter one, and none, in each place.
+    (
+        &[
+            &[("n", "'long1',7,0,NULL")],
+            &[("n", "'long2',8,1,1")],
+            &[("n", "'long3',9,2,2")],
+            &[("n", "'',7,0,NULL")],
+            &[("n", "'2',8,1,1")],
+            &[("n", "'33',9,2,2")],
+        ],
+        "SELECT * FROM n\n    a, k, b, c: '', 7, 0, NULL | '2', 8, 1, 1 | '33', 9, 2, 2\n",
+    ),
+    (
+        &[
+            &[("t", "1,10,NULL")],
+            &[("t", "5,NULL,'e'")],
+            &[("t", "1,NULL,'first'")],
+            &[("t", "5,50,NULL")],
+        ],
+        "SELECT * FROM t\n    id, v, name: 1, NULL, 'first' | 5, 50, NULL\n",
+    ),
+    // Into a table without rows, by falling keys.
+    (
+        &[&[("e", "4")], &[("e", "0")], &[("e", "-3"), ("e", "2")]],
+        "SELECT * FROM e\n    id: -3 | 0 | 2 | 4\n",
+    ),
     // Rows that are there beside one that isn't: between them, and behind them.
     (
         &[&[("n", "'x',7,10,3"), ("n", "'z',6,1,1"), ("n", "'x',9,12,4")]],
@@ -209,6 +266,24 @@ const CHANGES: &[(&[&[Row<'static>]], &str)] = &[
     (
         &[&[("n", "'x',7,10,3"), ("n", "'z',10,1,1")]],
         "SELECT * FROM n\n    a, k, b, c: 'x', 7, 10, 3 | 'y', 8, 1, 1 | 'x', 9, 2, 2 | 'z', 10, 1, 1\n",
+    ),
+];
+
+/// Keys of rows that are taken out of a table one after another, and what is seen then.
+const DELETIONS: &[(&str, &[i64], &str)] = &[
+    ("t", &[1], "SELECT * FROM t\n    id, v, name: 5, NULL, NULL\n"),
+    ("t", &[5], "SELECT * FROM t\n    id, v, name: 1, 10, 'a'\n"),
+    ("t", &[5, 1], "SELECT * FROM t\n    id, v, name:\n"),
+    ("u", &[2], "SELECT * FROM u\n    id:\n"),
+    (
+        "n",
+        &[8],
+        "SELECT * FROM n\n    a, k, b, c: 'x', 7, 0, NULL | 'x', 9, 2, 2\n",
+    ),
+    (
+        "n",
+        &[7, 9],
+        "SELECT * FROM n\n    a, k, b, c: 'y', 8, 1, 1\n",
     ),
 ];
 
@@ -223,17 +298,18 @@ fn puts(rt: &impl Abort, alloc: Global, rows: &[Row<'_>]) -> Ops {
     ops
 }
 
-/// An operation that puts a row, once more.
+/// An operation on a row, once more.
 fn copy_of(alloc: Global, op: &RowOp) -> Result<RowOp, NoMemory>
     ensures { IfOk result (λ copy. copy ≡ op.now) }
 {
     match op {
         RowOp::Put(table, row) => Ok(RowOp::Put(table.duplicate(alloc)?, row.copy(alloc)?)),
+        RowOp::Del(table, key) => Ok(RowOp::Del(table.duplicate(alloc)?, *key)),
         _ => Err(NoMemory),
     }
 }
 
-/// Whether operations that put rows fit a database, each of them what those before it made.
+/// Whether operations on rows fit a database, each of them what those before it made.
 fn all_fit(rt: &impl Abort, alloc: Global, ops: &Ops, database: &Database) -> bool
     ensures { result ≡ true → ops_fit ops.now database.now ≡ true }
 {
@@ -254,6 +330,17 @@ fn change(rt: &impl Abort, alloc: Global, database: &mut Database, rows: &[Row<'
     let ops = puts(rt, alloc, rows);
     if !all_fit(rt, alloc, &ops, database) {
         panic!(rt; "a row doesn't fit the database");
+    }
+    must(rt, database.change(alloc, &ops));
+}
+
+/// Takes the row with a key out of a table.
+fn delete(rt: &impl Abort, alloc: Global, database: &mut Database, table: &str, key: i64) {
+    let name = must(rt, table_name(alloc, b"d", table.as_bytes()));
+    let mut ops = Ops::new(alloc);
+    must(rt, ops.push(RowOp::Del(name, key)));
+    if !all_fit(rt, alloc, &ops, database) {
+        panic!(rt; "there is no such row");
     }
     must(rt, database.change(alloc, &ops));
 }
@@ -304,6 +391,97 @@ fn a_version_stays_where_rows_are_put(rt: HostRuntime) {
         assert_eq!(rt; version.count(), 2);
         is_empty(&rt, &differences_on(&rt, alloc, &database, PLAIN, *wanted));
     }
+}
+
+#[test]
+fn rows_that_are_taken_out(rt: HostRuntime) {
+    let alloc = rt.alloc();
+    for (table, keys, wanted) in DELETIONS {
+        let mut database = at_first(&rt, alloc);
+        for key in *keys {
+            delete(&rt, alloc, &mut database, *table, *key);
+        }
+        is_empty(&rt, &differences_on(&rt, alloc, &database, PLAIN, *wanted));
+    }
+}
+
+#[test]
+fn a_snapshot_stays_where_rows_are_taken_out(rt: HostRuntime) {
+    let alloc = rt.alloc();
+    for (table, keys, wanted) in DELETIONS {
+        let mut database = at_first(&rt, alloc);
+        let shared = must(&rt, database.share());
+        for key in *keys {
+            delete(&rt, alloc, &mut database, *table, *key);
+        }
+        is_empty(&rt, &differences_on(&rt, alloc, &shared, PLAIN, AT_FIRST));
+        is_empty(&rt, &differences_on(&rt, alloc, &database, PLAIN, *wanted));
+    }
+}
+
+/// What is seen when 210 rows were put into a table without rows, one after another and not by their keys, which are those from 1 to 210: each third has NULL
+/// for its number, each fifth for its name.
+const SCATTERED: &str = r#"
+; 1 + 2 + .. + 210 is 22155, of which 3 + 6 + .. + 210, which is 7455, is missing
+SELECT COUNT(*), COUNT(v), SUM(v), COUNT(name), MIN(id), MAX(id) FROM s
+    COUNT(*), COUNT(v), SUM(v), COUNT(name), MIN(id), MAX(id): 210, 140, 14700, 168, 1, 210
+; the rows on both sides of the 64th, the 128th and the 192nd
+SELECT id, v, name FROM s WHERE id > 62 LIMIT 4
+    id, v, name: 63, NULL, 'n63' | 64, 64, 'n64' | 65, 65, NULL | 66, NULL, 'n66'
+SELECT id, v, name FROM s WHERE id > 126 LIMIT 4
+    id, v, name: 127, 127, 'n127' | 128, 128, 'n128' | 129, NULL, 'n129' | 130, 130, NULL
+SELECT id, v, name FROM s WHERE id > 190 LIMIT 4
+    id, v, name: 191, 191, 'n191' | 192, NULL, 'n192' | 193, 193, 'n193' | 194, 194, 'n194'
+"#;
+
+/// What is seen when each seventh of them was taken out, the last of them first.
+const THINNED: &str = r#"
+; 7 + 14 + .. + 210 is 3255, of which 21 + 42 + .. + 210, which is 1155, had none
+SELECT COUNT(*), COUNT(v), SUM(v), COUNT(name), MIN(id), MAX(id) FROM s
+    COUNT(*), COUNT(v), SUM(v), COUNT(name), MIN(id), MAX(id): 180, 120, 12600, 144, 1, 209
+SELECT id, v, name FROM s WHERE id > 60 LIMIT 5
+    id, v, name: 61, 61, 'n61' | 62, 62, 'n62' | 64, 64, 'n64' | 65, 65, NULL | 66, NULL, 'n66'
+SELECT id, v, name FROM s WHERE id > 206 LIMIT 5
+    id, v, name: 207, NULL, 'n207' | 208, 208, 'n208' | 209, 209, 'n209'
+"#;
+
+/// A row of the table `s`.
+fn scattered_row(alloc: Global, key: i64) -> Result<String, NoMemory> {
+    let row = match (key % 3 == 0, key % 5 == 0) {
+        (true, true) => format!(in alloc; "{key},NULL,NULL"),
+        (true, false) => format!(in alloc; "{key},NULL,'n{key}'"),
+        (false, true) => format!(in alloc; "{key},{key},NULL"),
+        (false, false) => format!(in alloc; "{key},{key},'n{key}'"),
+    };
+    Ok(row?)
+}
+
+#[test]
+fn rows_come_between_others(rt: HostRuntime) {
+    let alloc = rt.alloc();
+    let tables = [Filled {
+        db: "d",
+        name: "s",
+        columns: &[
+            ("id", Kind::Int, Holds::Key),
+            ("v", Kind::Int, Holds::Nulls),
+            ("name", Kind::Str(10), Holds::Nulls),
+        ],
+        rows: &[],
+    }];
+    let mut database = database_of(&rt, alloc, &["d"], &tables);
+    // 7 is a generator of the units of 211, a prime: its powers are all keys.
+    let mut key = 1;
+    for _ in 0..210 {
+        let row = must(&rt, scattered_row(alloc, key));
+        change(&rt, alloc, &mut database, &[("s", row.as_str())]);
+        key = key * 7 % 211;
+    }
+    is_empty(&rt, &differences_on(&rt, alloc, &database, PLAIN, SCATTERED));
+    for seventh in (1..31).rev() {
+        delete(&rt, alloc, &mut database, "s", 7 * seventh);
+    }
+    is_empty(&rt, &differences_on(&rt, alloc, &database, PLAIN, THINNED));
 }
 
 /// What is seen when 50 lists have put the rows of the keys from 6 to 155, three at once: the first of each list has NULL for its number, and the third for its

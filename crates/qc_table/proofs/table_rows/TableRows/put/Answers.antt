@@ -1,4 +1,4 @@
--- Rows that can't be put behind leave the table as it was.
+-- Rows that can't be put so leave the table as it was.
 use Rattle.std.proofs.Common.{◌≡◌, ◌≤◌, ◌∙◌, ap, length, subst, sym, true}
 use Rattle.std.specs.Prelude.{Ok}
 use Rattle.std.specs.List.{list_all}
@@ -21,8 +21,5 @@ replace-requires-clause-within c =
     let same = left (with_rows rows c.args.self.now) c.args.self.now c.append.new.self c.append.result (c.in_ok-append.was ∙ ap Ok c.if-branch.false) c.append.ensures in
     subst (λ (t : Table). length t.rows ≤ most_rows) (sym same) c.requires.within
 
-pub returns : goal.returns
-returns c =
-    let rows = c.args.puts.now.rows in
-    let same = left (with_rows rows c.args.self.now) c.args.self.now c.append.new.self c.append.result (c.in_ok-append.was ∙ ap Ok c.if-branch.false) c.append.ensures in
-    subst (λ (t : Table). IsChanged (with_rows rows t) t c.replace.result c.replace.new.self) same c.replace.ensures
+pub returns-then-branch-2 : goal.returns-then-branch-2
+returns-then-branch-2 c = ?

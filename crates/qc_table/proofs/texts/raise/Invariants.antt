@@ -1,0 +1,6 @@
+use Rattle.std.proofs.Common.{◌≡◌, ◌+◌, ◌-◌}
+use Rattle.qc_table.proofs.TextMoves.{partly}
+use Rattle.qc_table.proofs.texts.raise.Given as goal
+
+abbrev pub invariant-loop-index : goal.invariant-loop-index
+invariant-loop-index l = l.ends ≡ partly (λ end. end + l.more) l.from (l.index - l.from) l.fn.ends
