@@ -2,6 +2,7 @@ pub mod Appending
 pub mod BitMoves
 pub mod BitSteps
 pub mod Cutting
+pub mod Deleting
 pub mod Drafts
 pub mod Fits
 pub mod Found

@@ -21,6 +21,7 @@ use Rattle.qc_sql.specs.Database.{MapOf, Table, key_of, most_rows, with_row, wit
 use Rattle.qc_model.specs.Licence.{row_fits}
 use Rattle.qc_model.specs.Sound.{IsSoundTable}
 use Rattle.qc_table.specs.declared.cells.Cells.{Cells}
+use Rattle.qc_table.specs.Dels.{without_rows}
 use Rattle.qc_table.specs.Fitting.{is_within, IsChanged}
 use Rattle.qc_table.specs.Puts.{put_at, values_at, with_rows}
 use Rattle.qc_table.specs.Stored.{column_of, key_in, put_in, rows_of, table_stored, values_of, without_one, AreFilled, AreMade, HaveAt, HasRoom, HavePlace, IsColumn, IsFilled, IsMade, IsStore}
@@ -220,8 +221,13 @@ all_put rows index t all past before = sym (ap (λ (rs : List (List Value)). wit
 
 -- ---- versions of tables
 
-most : (n : ℕ) → nat_le n most_rows ≡ true → n ≤ most_rows
+pub most : (n : ℕ) → nat_le n most_rows ≡ true → n ≤ most_rows
 most n h = grind (arith, nat_tests)
 
-pub del_stored : (t t' : Table) (key : ℤ) → IsStored t → IsChanged (without_row key t) t (Ok true) t' → IsStored t'
-del_stored t t' key s c = record { sound = subst IsSoundTable (sym c.0) (del_sound t key s.sound); within = most (length t'.rows) c.1 }
+all_sound : (t : Table) (keys : List ℤ) → IsSoundTable t → IsSoundTable (without_rows keys t)
+all_sound t [] sound = sound
+all_sound t (key ∷ keys) sound = all_sound (without_row key t) keys (del_sound t key sound)
+
+pub dels_stored : (t t' : Table) (keys : List ℤ) (r : Bool) → IsStored t → IsChanged (without_rows keys t) t (Ok r) t' → IsStored t'
+dels_stored t t' keys true s c = record { sound = subst IsSoundTable (sym c.0) (all_sound t keys s.sound); within = most (length t'.rows) c.1 }
+dels_stored t t' keys false s c = subst IsStored (sym c) s

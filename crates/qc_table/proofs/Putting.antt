@@ -70,10 +70,10 @@ module _ {X : Type 0} where
         | false ↦ λ p. rw p (ap (λ rest. e ∷ rest) (change_twice name f g m))
       ] refl
 
-table_twice : (t : TableName) (f g : Table → Table) (d : Database) → change_table t f (change_table t g d) ≡ change_table t (λ v. f (g v)) d
+pub table_twice : (t : TableName) (f g : Table → Table) (d : Database) → change_table t f (change_table t g d) ≡ change_table t (λ v. f (g v)) d
 table_twice t f g d = change_twice t.db (change_at t.name f) (change_at t.name g) d ∙ change_with t.db _ _ d (change_twice t.name f g)
 
-table_same : (t : TableName) (d : Database) → change_table t (λ v. v) d ≡ d
+pub table_same : (t : TableName) (d : Database) → change_table t (λ v. v) d ≡ d
 table_same t d = change_with t.db (change_at t.name (λ v. v)) (λ ts. ts) d (change_at-same t.name) ∙ change_at-same t.db d
 
 -- ---- what they make
@@ -160,3 +160,7 @@ done (Err e) P ok h = absurd cc
 pub fails : {X : Type 0} (r : Result X NoMemory) → IsOk r → is_err r ≡ true → ⊥
 fails (Ok x) ok h = absurd cc
 fails (Err e) ok h = absurd cc
+
+pub on_ok : {X : Type 0} (r : Result X NoMemory) (P Q : Type 0) → (P → Q) → OnOk r P → OnOk r Q
+on_ok (Ok x) P Q f h = f h
+on_ok (Err e) P Q f h = h

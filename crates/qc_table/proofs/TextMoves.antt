@@ -198,31 +198,33 @@ partly_begun f from i xs is =
     let none : i - from ≡ 0 = omega (arith, is) in
     sym (ap (λ k. partly f from k xs) none ∙ partly_none f from xs)
 
-partly_read : (f : ℕ → ℕ) (from k : ℕ) (xs : List ℕ) → get_or (partly f from k xs) (from + k) 0 ≡ get_or xs (from + k) 0
-partly_read f zero zero xs = refl
-partly_read f zero (suc k) [] = refl
-partly_read f zero (suc k) (x ∷ xs) = partly_read f zero k xs
-partly_read f (suc from) k [] = refl
-partly_read f (suc from) k (x ∷ xs) = partly_read f from k xs
+partly_read : (f : ℕ → ℕ) (from k j : ℕ) (xs : List ℕ) → j ≡ from + k → get_or (partly f from k xs) j 0 ≡ get_or xs j 0
+partly_read f zero zero j xs is = refl
+partly_read f zero (suc k) j [] is = refl
+partly_read f zero (suc k) zero (x ∷ xs) is = absurd (omega (arith, is))
+partly_read f zero (suc k) (suc j) (x ∷ xs) is = partly_read f zero k j xs (omega (arith, is))
+partly_read f (suc from) k j [] is = refl
+partly_read f (suc from) k zero (x ∷ xs) is = refl
+partly_read f (suc from) k (suc j) (x ∷ xs) is = partly_read f from k j xs (omega (arith, is))
 
 -- the next one is as it was
 pub next_is : (f : ℕ → ℕ) (from i : ℕ) (xs ys : List ℕ) → from ≤ i → ys ≡ partly f from (i - from) xs → get_or ys i 0 ≡ get_or xs i 0
-next_is f from i xs ys low is =
-    let whole : from + (i - from) ≡ i = omega (arith, low) in
-    ap (λ (zs : List ℕ). get_or zs i 0) is ∙ (ap (λ (j : ℕ). get_or (partly f from (i - from) xs) j 0) (sym whole) ∙ (partly_read f from (i - from) xs ∙ ap (λ (j : ℕ). get_or xs j 0) whole))
+next_is f from i xs ys low is = ap (λ (zs : List ℕ). get_or zs i 0) is ∙ partly_read f from (i - from) i xs (omega (arith, low))
 
-partly_step : (f : ℕ → ℕ) (from k y : ℕ) (xs : List ℕ) → from + k < length xs → y ≡ get_or xs (from + k) 0 → set (partly f from k xs) (from + k) (f y) ≡ partly f from (suc k) xs
-partly_step f from k y [] low is = absurd (omega arith)
-partly_step f zero zero y (x ∷ xs) low is = ap (λ z. f z ∷ xs) is
-partly_step f zero (suc k) y (x ∷ xs) low is = ap (λ rest. f x ∷ rest) (partly_step f zero k y xs (omega arith) is)
-partly_step f (suc from) k y (x ∷ xs) low is = ap (λ rest. x ∷ rest) (partly_step f from k y xs (omega arith) is)
+partly_step : (f : ℕ → ℕ) (from k j y : ℕ) (xs : List ℕ) → j ≡ from + k → j < length xs → y ≡ get_or xs j 0 → set (partly f from k xs) j (f y) ≡ partly f from (suc k) xs
+partly_step f from k j y [] is low read = absurd (omega arith)
+partly_step f zero zero zero y (x ∷ xs) is low read = ap (λ (z : ℕ). f z ∷ xs) read
+partly_step f zero zero (suc j) y (x ∷ xs) is low read = absurd (omega (arith, is))
+partly_step f zero (suc k) zero y (x ∷ xs) is low read = absurd (omega (arith, is))
+partly_step f zero (suc k) (suc j) y (x ∷ xs) is low read = ap (λ (rest : List ℕ). f x ∷ rest) (partly_step f zero k j y xs (omega (arith, is)) (omega (arith, low)) read)
+partly_step f (suc from) k zero y (x ∷ xs) is low read = absurd (omega (arith, is))
+partly_step f (suc from) k (suc j) y (x ∷ xs) is low read = ap (λ (rest : List ℕ). x ∷ rest) (partly_step f from k j y xs (omega (arith, is)) (omega (arith, low)) read)
 
 pub partly_more : (f : ℕ → ℕ) (from i y : ℕ) (xs ys : List ℕ) → from ≤ i → i < length xs → ys ≡ partly f from (i - from) xs → y ≡ get_or ys i 0 → set ys i (f y) ≡ partly f from (i + 1 - from) xs
 partly_more f from i y xs ys low high is read =
-    let whole : from + (i - from) ≡ i = omega (arith, low) in
     let up : suc (i - from) ≡ i + 1 - from = omega (arith, low) in
-    let old : y ≡ get_or xs (from + (i - from)) 0 = rw whole (read ∙ next_is f from i xs ys low is) in
-    ap (λ zs. set zs i (f y)) is ∙ (ap (λ j. set (partly f from (i - from) xs) j (f y)) (sym whole) ∙ (partly_step f from (i - from) y xs (omega (arith, whole, high)) old ∙ ap (λ k. partly f from k xs) up))
+    let old : y ≡ get_or xs i 0 = read ∙ next_is f from i xs ys low is in
+    ap (λ (zs : List ℕ). set zs i (f y)) is ∙ (partly_step f from (i - from) i y xs (omega (arith, low)) high old ∙ ap (λ k. partly f from k xs) up)
 
 partly_whole : (f : ℕ → ℕ) (from k : ℕ) (xs : List ℕ) → length xs ≤ from + k → partly f from k xs ≡ take from xs ++ map f (drop from xs)
 partly_whole f zero zero [] all = refl

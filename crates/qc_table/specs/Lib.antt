@@ -2,6 +2,7 @@ pub mod Bits
 pub mod Borrowed
 pub mod Changes
 pub mod Columns
+pub mod Dels
 pub mod Fitting
 pub mod Puts
 pub mod Stored

@@ -122,10 +122,11 @@ impl Database {
 
     /// Makes of it what the operations make, the first of them first, or names the first table that would have too many rows; it is as before then, and also
     /// where memory runs out. One operation alone is carried out in place where no other one shares the database: it costs the logarithm of how many databases
-    /// and tables there are, and what the table holds that it touches. Where no other one shares the version of that table either, a row that it puts or takes
-    /// out costs the logarithm of how many rows there are, what it holds over many calls, and a move of the rows behind it where it comes between others,
-    /// changes a VARCHAR or is taken out; and so do rows of one table that all come behind its others, all replace some and change no VARCHAR, or are at most
-    /// 16. Else it costs as much as `apply`, which copies each table that is touched.
+    /// and tables there are, and what the table holds that it touches. Where no other one shares the version of that table either, rows that are
+    /// put into it cost what they hold, over many calls, and the logarithm of how many rows there are for each that doesn't come behind them all, where they
+    /// all come behind its others, all replace some and change no VARCHAR, or are at most 16; at most 16 that are taken out cost that logarithm for each. A row
+    /// that comes between others, changes a VARCHAR or is taken out costs a move of what stands behind it in its columns, too. Else it costs as much as
+    /// `apply`, which copies each table that is touched.
     /// The copy is shared with no one, so what comes next changes it in place.
     pub fn change(&mut self, alloc: Global, ops: &Ops) -> Result<(), Or<TableFull>>
         requires { ops_fit ops.now self.old ≡ true }

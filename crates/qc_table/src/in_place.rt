@@ -6,6 +6,7 @@ ghost use Rattle.qc_sql.specs.Database.{with_row, without_row};
 ghost use Rattle.qc_model.specs.Licence.{columns_fit, is_within_rows, op_fits, ops_fit, row_fits};
 ghost use Rattle.qc_table.specs.Fitting.{AreCarriedOut, IsCarriedOut, IsChanged};
 
+use crate::dels::Dels;
 use crate::draft_table::DraftTable;
 use crate::merge::empty;
 use crate::name_map::NameMap;
@@ -18,8 +19,8 @@ use std::alloc::Global;
 /// The tables of each database.
 pub(crate) type Databases = NameMap<NameMap<TableVersion>>;
 
-/// Carries out operations: rows of one table that all come behind the others or all replace some with the same texts, a few of other keys or texts, or one
-/// operation of any kind. Answers `false`, and leaves all as it was, where they are others, and where a table would have too many rows. Costs the logarithm of
+/// Carries out operations: rows of one table that all come behind the others or all replace some with the same texts, a few of other keys or texts, a few that
+/// are taken out, or one operation of any kind. Answers `false`, and leaves all as it was, where they are others, and where a table would have too many rows. Costs the logarithm of
 /// how many databases and tables there are, and what the rows hold over many calls, with the logarithm of how many rows the table has for each that doesn't
 /// come behind them, and a move of the rows behind it for each that comes between others, changes a text or is taken out; or what the table holds that one
 /// operation touches, where another one shares its version.
@@ -33,6 +34,9 @@ pub(crate) fn carry_out(
     ensures { AreCarriedOut ops.now databases.old result databases.new }
 {
     if put_rows(databases, alloc, ops)? {
+        return Ok(true);
+    }
+    if remove_rows(databases, ops) {
         return Ok(true);
     }
     match ops {
@@ -59,6 +63,26 @@ fn put_rows(databases: &mut Databases, alloc: Global, ops: &[RowOp]) -> Result<b
         unreachable!()
     };
     version.put_rows(alloc, &puts)
+}
+
+/// Takes rows out of one table. Answers `false`, and leaves all as it was, where the operations are others, where the version of the table is shared, and where
+/// they are many.
+fn remove_rows(databases: &mut Databases, ops: &[RowOp]) -> bool
+    requires fits { ops_fit ops.now databases.old ≡ true }
+    requires within { is_within_rows databases.old ≡ true }
+    ensures { AreCarriedOut ops.now databases.old (Ok result) databases.new }
+{
+    let Some(dels) = Dels::of(ops) else {
+        return false;
+    };
+    let table = dels.table();
+    let Some(tables) = databases.get_mut(table.db.bytes()) else {
+        unreachable!()
+    };
+    let Some(version) = tables.get_mut(table.name.bytes()) else {
+        unreachable!()
+    };
+    version.remove_rows(&dels)
 }
 
 /// Carries out one operation. Answers `false`, and leaves all as it was, where a table would have too many rows. Costs the logarithm of how many databases
@@ -184,14 +208,10 @@ impl TableVersion {
         self.become_draft(alloc, &draft)
     }
 
-    /// Takes out the row that the key may have. Costs the logarithm of how many rows there are, and a move of the rows behind it; where another one shares the
-    /// version, it is linear in what the rows hold.
+    /// Takes out the row that the key may have. Linear in what the rows hold.
     fn del(&mut self, alloc: Global, key: i64) -> Result<bool, NoMemory>
         ensures { IsChanged (without_row key self.old) self.old result self.new }
     {
-        if self.remove(key) {
-            return Ok(true);
-        }
         let mut draft = DraftTable::of(alloc, self)?;
         draft.del(key)?;
         self.become_draft(alloc, &draft)

@@ -3,6 +3,7 @@
 
 mod cells;
 mod database;
+mod dels;
 mod draft;
 mod draft_table;
 mod fitting;

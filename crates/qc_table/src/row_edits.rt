@@ -1,12 +1,13 @@
 //! Rows that come between others, or in their places, and rows that are taken out.
 
-ghost use Rattle.std.specs.Prelude.{◌≡◌, ◌+◌, ◌<◌, ◌≤◌, drop, length, true, Some};
+ghost use Rattle.std.specs.Prelude.{◌≡◌, ℕ, ◌+◌, ◌<◌, ◌≤◌, drop, length, true, Some};
 ghost use Rattle.std.specs.List.{insert, list_all, slice_get};
 ghost use Rattle.std.specs.List.Sorted.{IsSearchInRange};
 ghost use Rattle.std.specs.Vec.{vec_capacity, vec_len};
 ghost use Rattle.qc_sql.specs.Database.{with_row};
 ghost use Rattle.qc_model.specs.Licence.{row_fits};
 ghost use Rattle.qc_model.specs.Sound.{IsSoundTable};
+ghost use Rattle.qc_table.specs.declared.cells.Cells.{Cells};
 ghost use Rattle.qc_table.specs.Puts.{put_at, with_rows};
 ghost use Rattle.qc_table.specs.Stored.{key_in, put_in, table_stored, without_one, AreMade, HaveAt, HavePlace, HaveRoom, IsCells, IsStore, TakeRow};
 ghost use Rattle.qc_table.specs.Views.{value_at};

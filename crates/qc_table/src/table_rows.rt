@@ -10,12 +10,14 @@ ghost use Rattle.qc_model.specs.Licence.{columns_fit, row_fits};
 ghost use Rattle.qc_model.specs.Sound.{IsSoundTable};
 ghost use Rattle.qc_table.specs.Changes as changes;
 ghost use Rattle.qc_table.specs.Changes.{above, below, last_of};
+ghost use Rattle.qc_table.specs.Dels.{without_rows};
 ghost use Rattle.qc_table.specs.Fitting.{IsChanged};
 ghost use Rattle.qc_table.specs.Puts.{with_rows};
 ghost use Rattle.qc_table.specs.Stored.{column_of, is_ints, rows_of, values_of, IsCells, IsStore};
 ghost use Rattle.qc_table.specs.Views.{int_value, text_value, kind_at, row_at, value_at, IsNulls, IsTextAt, IsWithin};
 
 use crate::cells::Cells;
+use crate::dels::Dels;
 use crate::keys::key_of_row;
 use crate::puts::Puts;
 use crate::row_edits::{put_each, remove_row};
@@ -30,7 +32,8 @@ use std::marker::Model;
 /// The most rows of a table.
 pub(crate) const MOST_ROWS: usize = 1_048_576;
 
-/// The most rows that are put in their places one after another: each costs a move of the rows behind it, and all together a copy of the table otherwise.
+/// The most rows that are put in their places or taken out one after another. Each costs a move of the rows behind it, where a copy of the table merges all of
+/// them at once.
 const MOST_PLACED: usize = 16;
 
 /// The columns of a table, and its rows: their keys, and the values of each column.
@@ -203,7 +206,10 @@ impl TableRows {
         requires within { length self.old.rows ≤ most_rows }
         ensures { IsChanged (with_rows puts.now.rows self.old) self.old result self.new }
     {
-        if puts.len() > MOST_PLACED || puts.len() > MOST_ROWS - self.keys.len() {
+        if puts.len() > MOST_PLACED {
+            return Ok(false);
+        }
+        if MOST_ROWS - self.keys.len() < puts.len() {
             return Ok(false);
         }
         self.keys.reserve(puts.len())?;
@@ -212,18 +218,32 @@ impl TableRows {
         Ok(true)
     }
 
+    /// Takes out the rows that a few keys may have, the first of them first. Answers `false`, and leaves all as it was, where they are more than a few. Costs for
+    /// each the logarithm of how many rows there are, and a move of the rows behind it.
+    pub(crate) fn remove_each(&mut self, dels: &Dels<'_>) -> bool
+        requires { length self.old.rows ≤ most_rows }
+        ensures { IsChanged (without_rows dels.now.keys self.old) self.old (Ok result) self.new }
+    {
+        if dels.len() > MOST_PLACED {
+            return false;
+        }
+        for index in 0..dels.len() {
+            self.remove(dels.key(index));
+        }
+        true
+    }
+
     /// Takes out the row that the key may have. Costs the logarithm of how many rows there are, and a move of the rows behind it.
-    pub(crate) fn remove(&mut self, key: i64)
+    fn remove(&mut self, key: i64)
         requires { length self.old.rows ≤ most_rows }
         ensures { IsChanged (without_row key self.old) self.old (Ok true) self.new }
     {
-        match self.keys.binary_search(&key) {
-            Ok(at) => {
-                self.keys.remove(at);
-                remove_row(&mut self.cells, at);
-            }
-            Err(_) => {}
-        }
+        let at = match self.keys.binary_search(&key) {
+            Ok(at) => at,
+            Err(_) => return,
+        };
+        self.keys.remove(at);
+        remove_row(&mut self.cells, at);
     }
 
     /// The number in a BIGINT column, `None` where it is NULL.

@@ -5,15 +5,16 @@ ghost use Rattle.std.specs.List.{list_all, slice_get};
 ghost use Rattle.std.specs.Ordering.{int_cmp};
 ghost use Rattle.std.specs.BTreeMap.{is_at};
 ghost use Rattle.std.specs.Map.{keys_of, lookup};
-ghost use Rattle.qc_sql.specs.Database.{without_row};
 ghost use Rattle.qc_sql.specs.Order.{RowsRise};
 ghost use Rattle.qc_model.specs.Licence.{row_fits};
 ghost use Rattle.qc_model.specs.Sound.{IsSoundTable};
+ghost use Rattle.qc_table.specs.Dels.{without_rows};
 ghost use Rattle.qc_table.specs.Fitting.{IsChanged};
 ghost use Rattle.qc_table.specs.Puts.{with_rows};
 ghost use Rattle.qc_table.specs.Tables.{IsStored};
 ghost use Rattle.qc_table.specs.Views.{kind_at, column_values, row_values};
 
+use crate::dels::Dels;
 use crate::puts::Puts;
 use crate::table_rows::TableRows;
 use crate::views::{ColumnView, RowView};
@@ -96,16 +97,13 @@ impl TableVersion {
         }
     }
 
-    /// Takes out the row that the key may have, where the others stand. Answers `false`, and leaves all as it was, where another one shares the version.
-    /// Costs the logarithm of how many rows there are, and a move of the rows behind it.
-    pub(crate) fn remove(&mut self, key: i64) -> bool
-        ensures { IsChanged (without_row key self.old) self.old (Ok result) self.new }
+    /// Takes out the rows that a few keys may have, where the others stand. Answers `false`, and leaves all as it was, where another one shares the version and
+    /// where they are more than a few. Costs for each the logarithm of how many rows there are, and a move of the rows behind it.
+    pub(crate) fn remove_rows(&mut self, dels: &Dels<'_>) -> bool
+        ensures { IsChanged (without_rows dels.now.keys self.old) self.old (Ok result) self.new }
     {
         match Arc::get_mut(&mut self.stored) {
-            Some(rows) => {
-                rows.remove(key);
-                true
-            }
+            Some(rows) => rows.remove_each(dels),
             None => false,
         }
     }

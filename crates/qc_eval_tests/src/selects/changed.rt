@@ -269,9 +269,13 @@ const CHANGES: &[(&[&[Row<'static>]], &str)] = &[
     ),
 ];
 
-/// Keys of rows that are taken out of a table one after another, and what is seen then.
+/// Keys of rows that are taken out of a table, and what is seen then.
 const DELETIONS: &[(&str, &[i64], &str)] = &[
-    ("t", &[1], "SELECT * FROM t\n    id, v, name: 5, NULL, NULL\n"),
+    (
+        "t",
+        &[1],
+        "SELECT * FROM t\n    id, v, name: 5, NULL, NULL\n",
+    ),
     ("t", &[5], "SELECT * FROM t\n    id, v, name: 1, 10, 'a'\n"),
     ("t", &[5, 1], "SELECT * FROM t\n    id, v, name:\n"),
     ("u", &[2], "SELECT * FROM u\n    id:\n"),
@@ -334,11 +338,13 @@ fn change(rt: &impl Abort, alloc: Global, database: &mut Database, rows: &[Row<'
     must(rt, database.change(alloc, &ops));
 }
 
-/// Takes the row with a key out of a table.
-fn delete(rt: &impl Abort, alloc: Global, database: &mut Database, table: &str, key: i64) {
-    let name = must(rt, table_name(alloc, b"d", table.as_bytes()));
+/// Takes the rows with some keys out of a table at once.
+fn delete(rt: &impl Abort, alloc: Global, database: &mut Database, table: &str, keys: &[i64]) {
     let mut ops = Ops::new(alloc);
-    must(rt, ops.push(RowOp::Del(name, key)));
+    for key in keys {
+        let name = must(rt, table_name(alloc, b"d", table.as_bytes()));
+        must(rt, ops.push(RowOp::Del(name, *key)));
+    }
     if !all_fit(rt, alloc, &ops, database) {
         panic!(rt; "there is no such row");
     }
@@ -399,7 +405,7 @@ fn rows_that_are_taken_out(rt: HostRuntime) {
     for (table, keys, wanted) in DELETIONS {
         let mut database = at_first(&rt, alloc);
         for key in *keys {
-            delete(&rt, alloc, &mut database, *table, *key);
+            delete(&rt, alloc, &mut database, *table, &[*key]);
         }
         is_empty(&rt, &differences_on(&rt, alloc, &database, PLAIN, *wanted));
     }
@@ -411,10 +417,18 @@ fn a_snapshot_stays_where_rows_are_taken_out(rt: HostRuntime) {
     for (table, keys, wanted) in DELETIONS {
         let mut database = at_first(&rt, alloc);
         let shared = must(&rt, database.share());
-        for key in *keys {
-            delete(&rt, alloc, &mut database, *table, *key);
-        }
+        delete(&rt, alloc, &mut database, *table, *keys);
         is_empty(&rt, &differences_on(&rt, alloc, &shared, PLAIN, AT_FIRST));
+        is_empty(&rt, &differences_on(&rt, alloc, &database, PLAIN, *wanted));
+    }
+}
+
+#[test]
+fn rows_that_are_taken_out_at_once(rt: HostRuntime) {
+    let alloc = rt.alloc();
+    for (table, keys, wanted) in DELETIONS {
+        let mut database = at_first(&rt, alloc);
+        delete(&rt, alloc, &mut database, *table, *keys);
         is_empty(&rt, &differences_on(&rt, alloc, &database, PLAIN, *wanted));
     }
 }
@@ -477,9 +491,12 @@ fn rows_come_between_others(rt: HostRuntime) {
         change(&rt, alloc, &mut database, &[("s", row.as_str())]);
         key = key * 7 % 211;
     }
-    is_empty(&rt, &differences_on(&rt, alloc, &database, PLAIN, SCATTERED));
+    is_empty(
+        &rt,
+        &differences_on(&rt, alloc, &database, PLAIN, SCATTERED),
+    );
     for seventh in (1..31).rev() {
-        delete(&rt, alloc, &mut database, "s", 7 * seventh);
+        delete(&rt, alloc, &mut database, "s", &[7 * seventh]);
     }
     is_empty(&rt, &differences_on(&rt, alloc, &database, PLAIN, THINNED));
 }

@@ -1,5 +1,5 @@
 -- One more column has its value, for which there is room.
-use Rattle.std.proofs.Common.{◌≡◌, ◌<◌, ◌+◌, ◌∙◌, arith, drop, length, subst, sym}
+use Rattle.std.proofs.Common.{◌≡◌, ◌<◌, ◌+◌, ◌∙◌, arith, drop, length, subst, sym, true}
 use Rattle.std.proofs.lemmas.List.{get_or_default}
 use Rattle.qc_types.specs.declared.names.Value.TheVariants as value
 use Rattle.qc_table.specs.Puts.{put_at, values_at}

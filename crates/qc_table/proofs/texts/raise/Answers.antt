@@ -7,7 +7,11 @@ pub loop-index-init : goal.loop-index-init
 loop-index-init c = partly_begun (λ end. end + c.args.more) c.args.from c.args.from c.args.ends.now refl
 
 pub overflow_add-ends : goal.overflow_add-ends
-overflow_add-ends c = ?
+overflow_add-ends c =
+    let i = c.loop-index.index in
+    let low : c.args.from ≤ i = omega arith in
+    let high : i < length c.args.ends.now = omega arith in
+    rw (next_is (λ end. end + c.args.more) c.args.from i c.args.ends.now c.loop-index.ends low c.loop-index.invariant) (record { fits = c.requires.fits i low high })
 
 pub loop-index-preserved : goal.loop-index-preserved
 loop-index-preserved c =

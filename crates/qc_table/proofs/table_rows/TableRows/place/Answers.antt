@@ -12,7 +12,7 @@ pub overflow_sub-len : goal.overflow_sub-len
 overflow_sub-len c =
     let inside = c.self.inside in
     let within = rw (← c.self.view_is) at c.requires.within in
-    let count : c.len-3.result ≡ length inside.keys.items = search rules in
+    let count : c.len-2.result ≡ length inside.keys.items = search rules in
     omega (arith, within, count, rows_length (length inside.columns) inside.keys.items inside.cells.items)
 
 pub reserve_rows-requires : goal.reserve_rows-requires
@@ -53,7 +53,7 @@ returns c =
     let inside = c.self.inside in
     let rows = c.args.puts.now.rows in
     let within = rw (← c.self.view_is) at c.requires.within in
-    let count : c.len-3.result ≡ length inside.keys.items = search rules in
+    let count : c.len-2.result ≡ length inside.keys.items = search rules in
     let keys : length c.reserve.new.self.items ≡ length inside.keys.items = ap length c.reserve.ensures.items in
     let many = rows_length (length inside.columns) c.put_each.new.keys.items c.put_each.new.cells.items in
     let few : length c.put_each.new.keys.items ≤ most_rows = omega (arith, within, count, keys, c.put_each.ensures.few, rows_length (length inside.columns) inside.keys.items inside.cells.items) in

@@ -15,6 +15,12 @@ insert_bytes-requires c =
     let within = (climbs_to 0 c.args.row old.ends.items (length old.bytes.items) c.requires.ready.climbs c.requires.row).1 in
     rw c.start-start.ensures within
 
+pub overflow_add-start : goal.overflow_add-start
+overflow_add-start c =
+    let old = c.args.self.now in
+    let within : c.start-start.result ≤ length old.bytes.items = rw c.start-start.ensures (climbs_to 0 c.args.row old.ends.items (length old.bytes.items) c.requires.ready.climbs c.requires.row).1 in
+    record { fits = omega (arith, within, c.in_ok-insert_bytes.ensures.len) }
+
 pub raise-requires-clause-fits : goal.raise-requires-clause-fits
 raise-requires-clause-fits c = λ i above low.
     let old = c.args.self.now in
