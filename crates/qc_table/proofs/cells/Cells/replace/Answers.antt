@@ -11,9 +11,6 @@ replace-requires-clause-row c =
     let t = c.in-Texts.texts in
     rw (c.in-Texts.is, texts_length 0 0 t.ends.items t.bytes.items t.nulls.items) at c.requires.row
 
-pub returns-in-Ints-clause-room : goal.returns-in-Ints-clause-room
-returns-in-Ints-clause-room c = λ rest room. (tt, c.put.ensures.room (length rest) (rw c.in-Ints.is at room))
-
 pub returns-in-Texts-clause-room : goal.returns-in-Texts-clause-room
 returns-in-Texts-clause-room c = λ rest room.
     let texts = c.in-Texts.texts in
