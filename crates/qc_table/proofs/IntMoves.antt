@@ -1,5 +1,5 @@
 -- The numbers of a column, of which one is put between others or taken out.
-use Rattle.std.proofs.Common.{◌≡◌, ℕ, ◌+◌, ◌<◌, ◌≤◌, ℤ, pos, Bool, List, [], ◌∷◌, ◌++◌, map, length, get_or, zero, suc, refl, sym, ap, ◌∙◌, arith, Option}
+use Rattle.std.proofs.Common.{◌≡◌, ℕ, ◌+◌, ◌<◌, ◌≤◌, ℤ, pos, Bool, List, [], ◌∷◌, map, length, get_or, zero, suc, refl, sym, ap, ◌∙◌, arith, Option}
 use Rattle.std.specs.Prelude.{unwrap_or}
 use Rattle.std.specs.List.{insert, remove}
 use Rattle.qc_types.specs.declared.names.Value.{Value}

@@ -1,5 +1,5 @@
 -- Lists of which one member is put between others, or taken out.
-use Rattle.std.proofs.Common.{◌≡◌, ℕ, ◌+◌, ◌<◌, ◌≤◌, List, [], ◌∷◌, ◌++◌, map, length, get_or, set, take, drop, zero, suc, refl, sym, ap, ◌∙◌, arith}
+use Rattle.std.proofs.Common.{◌≡◌, ℕ, ◌<◌, ◌≤◌, List, [], ◌∷◌, map, length, get_or, set, zero, suc, refl, ap, arith}
 use Rattle.std.specs.List.{insert, remove}
 
 module _ {X : Type 0} where

@@ -1,7 +1,7 @@
 -- Rows that are put in their places of a table, and rows that are taken out of it.
-use Rattle.std.proofs.Common.{◌≡◌, ℕ, ◌+◌, ◌<◌, ◌≤◌, ℤ, Bool, true, false, List, [], ◌∷◌, map, length, get_or, set, drop, zero, suc, refl, sym, ap, ◌∙◌, arith, subst, Some, None, Option, map-id}
+use Rattle.std.proofs.Common.{◌≡◌, ℕ, ◌+◌, ◌<◌, ◌≤◌, ℤ, Bool, true, false, List, [], ◌∷◌, length, get_or, set, drop, zero, suc, refl, sym, ap, ◌∙◌, arith, subst, Some, None, map-id}
 use Rattle.std.specs.Prelude.{Ok, Err, Result, nat_le}
-use Rattle.std.specs.List.{list_all, slice_get, insert, remove, AllWithin}
+use Rattle.std.specs.List.{slice_get, insert, remove, AllWithin}
 use Rattle.std.specs.List.Sorted.{IsStrictlySortedBy, IsSearchInRange, IsBinarySearchResult}
 use Rattle.std.specs.Map.{keys_of, remove_entry}
 use Rattle.std.specs.BTreeMap.{insert_entry, is_at}
@@ -16,7 +16,6 @@ use Rattle.std.proofs.lemmas.Map.Lookups.{exact_signed}
 use Rattle.std.proofs.lemmas.Option.{get_or_from_slice_get, slice_get-get_or, slice_get_within}
 use Rattle.qc_types.specs.declared.names.Value.{Value}
 use Rattle.qc_sql.specs.declared.tables.Column.{Column}
-use Rattle.qc_sql.specs.declared.tables.Kind.{Kind}
 use Rattle.qc_sql.specs.Database.{MapOf, Table, key_of, most_rows, with_row, without_row}
 use Rattle.qc_model.specs.Licence.{row_fits}
 use Rattle.qc_model.specs.Sound.{IsSoundTable}
@@ -24,7 +23,7 @@ use Rattle.qc_table.specs.declared.cells.Cells.{Cells}
 use Rattle.qc_table.specs.Dels.{without_rows}
 use Rattle.qc_table.specs.Fitting.{is_within, IsChanged}
 use Rattle.qc_table.specs.Puts.{put_at, values_at, with_rows}
-use Rattle.qc_table.specs.Stored.{column_of, key_in, put_in, rows_of, table_stored, values_of, without_one, AreFilled, AreMade, HaveAt, HasRoom, HavePlace, IsColumn, IsFilled, IsMade, IsStore}
+use Rattle.qc_table.specs.Stored.{column_of, key_in, put_in, rows_of, table_stored, without_one, AreFilled, AreMade, HasRoom, HavePlace, IsFilled, IsStore}
 use Rattle.qc_table.specs.Tables.{Changes, IsStored, with_changes}
 use Rattle.qc_table.specs.Views.{kind_at, value_at}
 use Rattle.qc_table.proofs.Appending.{higher, made_from, put_sound, rises_one, stood}

@@ -1,5 +1,5 @@
 -- The table is there, and what changes it changes the tables of its database, and these the whole.
-use Rattle.std.proofs.Common.{◌≡◌, ap, ◌∙◌, sym, subst, true}
+use Rattle.std.proofs.Common.{◌≡◌, ap, ◌∙◌, sym, subst}
 use Rattle.std.specs.Prelude.{option_and_then, Ok}
 use Rattle.qc_sql.specs.Database.{apply, at_name, change_table}
 use Rattle.qc_model.specs.Licence.{has_row}

@@ -1,7 +1,5 @@
 -- One more row has its place.
 use Rattle.std.proofs.Common.{◌<◌, arith, length}
-use Rattle.qc_table.specs.Puts.{with_rows}
-use Rattle.qc_table.specs.Stored.{table_stored}
 use Rattle.qc_table.proofs.Placing.{all_put, next_put}
 use Rattle.qc_table.proofs.row_edits.put_each.Goals as goal
 

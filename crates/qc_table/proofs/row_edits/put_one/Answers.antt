@@ -1,11 +1,8 @@
 -- The row comes where the search for its key ends.
 use Rattle.std.proofs.Common.{◌≡◌, ◌∙◌, ◌≤◌, ◌+◌, ap, length, rules, subst, sym, w64, FitsSigned}
-use Rattle.std.specs.List.Sorted.{IsBinarySearchResult, IsSearchInRange}
-use Rattle.std.specs.Ordering.{int_cmp}
 use Rattle.std.proofs.lemmas.Int.{to_z-of_z}
 use Rattle.qc_sql.specs.Database.{key_of}
 use Rattle.qc_table.specs.Puts.{put_at}
-use Rattle.qc_table.specs.Stored.{key_in}
 use Rattle.qc_table.proofs.Appending.{fits_at, row_taken}
 use Rattle.qc_table.proofs.Placing.{have_place, key_in_length, placed}
 use Rattle.qc_table.proofs.row_edits.put_one.Goals as goal

@@ -1,4 +1,4 @@
-use Rattle.std.proofs.Common.{◌≡◌, ◌+◌, ◌-◌}
+use Rattle.std.proofs.Common.{◌≡◌, ◌-◌}
 use Rattle.qc_table.proofs.TextMoves.{partly}
 use Rattle.qc_table.proofs.texts.lower.Given as goal
 

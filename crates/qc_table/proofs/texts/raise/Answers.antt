@@ -1,5 +1,5 @@
 -- One more end is changed.
-use Rattle.std.proofs.Common.{◌≡◌, ◌+◌, ◌-◌, ◌<◌, ◌≤◌, ◌∙◌, arith, get_or, length, refl}
+use Rattle.std.proofs.Common.{◌+◌, ◌-◌, ◌<◌, ◌≤◌, arith, get_or, length, refl}
 use Rattle.qc_table.proofs.TextMoves.{next_is, partly_begun, partly_done, partly_more}
 use Rattle.qc_table.proofs.texts.raise.Goals as goal
 

@@ -1,5 +1,5 @@
 -- A number and its bit are taken out.
-use Rattle.std.proofs.Common.{◌≡◌, ◌+◌, ◌-◌, ◌∙◌, ap, arith, length, rules}
+use Rattle.std.proofs.Common.{◌≡◌, ◌-◌, arith, length, rules}
 use Rattle.std.proofs.lemmas.List.Edits.{length-remove}
 use Rattle.qc_table.specs.Bits.{bit_at}
 use Rattle.qc_table.specs.Columns.{ints_of}

@@ -1,6 +1,5 @@
 -- The columns get room first, and then each row its place.
-use Rattle.std.proofs.Common.{◌≡◌, ◌+◌, ◌≤◌, ◌∙◌, ap, arith, length, rules, sym, true}
-use Rattle.std.specs.Prelude.{nat_le}
+use Rattle.std.proofs.Common.{◌≡◌, ◌≤◌, ◌∙◌, ap, arith, length, rules}
 use Rattle.qc_sql.specs.Database.{most_rows}
 use Rattle.qc_table.specs.Puts.{with_rows}
 use Rattle.qc_table.proofs.Appending.{rows_taken, same_stored, unchanged}

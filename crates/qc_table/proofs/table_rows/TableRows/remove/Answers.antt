@@ -1,12 +1,11 @@
 -- The row is taken out where the search for its key ends, and there is none where it isn't found.
-use Rattle.std.proofs.Common.{◌≡◌, ◌+◌, ◌<◌, ◌≤◌, ◌∙◌, ap, arith, get_or, length, rules, subst, sym, w64}
-use Rattle.std.specs.List.Sorted.{IsBinarySearchResult}
+use Rattle.std.proofs.Common.{◌≡◌, ◌∙◌, ap, length, subst, w64}
 use Rattle.std.proofs.lemmas.Int.{to_z-of_z}
 use Rattle.qc_sql.specs.Database.{Table, without_row}
 use Rattle.qc_table.specs.Views.{kind_at}
 use Rattle.qc_table.proofs.Placing.{none_taken, taken_out, taken_within}
 use Rattle.qc_table.proofs.Replacing.{have_at, still_within}
-use Rattle.qc_table.proofs.Stores.{column_ready, rows_length}
+use Rattle.qc_table.proofs.Stores.{column_ready}
 use Rattle.qc_table.proofs.table_rows.TableRows.remove.Goals as goal
 
 pub remove_row-requires-clause-ready : goal.remove_row-requires-clause-ready

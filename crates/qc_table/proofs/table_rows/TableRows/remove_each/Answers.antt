@@ -1,5 +1,5 @@
 -- One more row is taken out.
-use Rattle.std.proofs.Common.{◌<◌, ◌∙◌, arith, length, rules, w64, FitsSigned}
+use Rattle.std.proofs.Common.{◌<◌, arith, length, rules, w64, FitsSigned}
 use Rattle.std.proofs.lemmas.Int.{to_z-of_z}
 use Rattle.qc_table.proofs.Deleting.{all_del, next_del}
 use Rattle.qc_table.proofs.Placing.{most}

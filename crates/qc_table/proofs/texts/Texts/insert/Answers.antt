@@ -1,5 +1,5 @@
 -- A text, its end and its bit come between others.
-use Rattle.std.proofs.Common.{◌≡◌, ◌++◌, ◌∷◌, [], ◌+◌, ◌<◌, ◌∙◌, ◌≤◌, ap, append_assoc, arith, drop, get_or, length, rules, subst, sym, take}
+use Rattle.std.proofs.Common.{◌≡◌, ◌++◌, [], ◌+◌, ◌∙◌, ◌≤◌, ap, append_assoc, arith, drop, length, rules, subst, sym, take}
 use Rattle.std.specs.Prelude.{is_none, unwrap_or, option_copied}
 use Rattle.std.specs.List.{insert}
 use Rattle.std.proofs.lemmas.List.{take_at}

@@ -1,5 +1,5 @@
 -- A text, its end and its bit are taken out.
-use Rattle.std.proofs.Common.{◌≡◌, ◌+◌, ◌-◌, ◌<◌, ◌∙◌, ◌≤◌, ap, arith, drop, get_or, length, rules, sym}
+use Rattle.std.proofs.Common.{◌≡◌, ◌+◌, ◌-◌, ◌∙◌, arith, drop, get_or, length, rules}
 use Rattle.std.proofs.lemmas.List.{take_at}
 use Rattle.std.proofs.lemmas.List.Edits.{get_or-remove_above, length-remove}
 use Rattle.qc_table.specs.Bits.{bit_at}
