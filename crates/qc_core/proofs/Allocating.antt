@@ -5,6 +5,7 @@ use Rattle.qc_tiles.specs.declared.blocks.NoTile.{NoTile}
 use Rattle.std.specs.Prelude.{Result, Ok, Err, IfOk, not, ◌||◌, ◌==◌, Option, Some, None, IsSomeAnd, IsPermutation, Contains, nat_le, is_some}
 use Rattle.std.specs.List.{list_any, AllByRecursion}
 use Rattle.std.proofs.lemmas.Bool.Decides.{nat_tests}
+use Rattle.std.proofs.lemmas.List.Sorted.{IsPermutation-refl}
 use Rattle.std.proofs.lemmas.Option.{none-some, same_Some}
 use Rattle.qc_types.specs.declared.options.Options.{Options}
 use Rattle.qc_types.specs.Blocks.{least_block, raised}
@@ -118,6 +119,11 @@ prunes_so need s t v p = record {
   running = p.running;
   tasks = p.tasks;
   alloc = p.alloc;
+  kept = [];
+  may = p.may;
+  mid = p.mid;
+  left = record { others = p.freed; freed = p.freed; removed = p.left.removed; parts = IsPermutation-refl p.freed; server = p.left.server };
+  server = p.server;
 }
 
 -- the entry that was pruned was complete

@@ -241,15 +241,20 @@ module _ (need : ℕ) (hand : Hand) (s : Parts) (u : MayTakeOne need hand s) whe
           record {
             prunes = subst (Prunes need s) (sym v_is) (record {
               small = q.small;
-              serial = q.serial;
-              oldest = q.oldest;
-              events = q.events;
+              serial = n;
+              oldest = oldest;
+              events = λ i. s.journal.events ++ event.Prune n need (size i) ∷ [];
               options = q.options;
               database = q.database;
               connected = q.connected;
               running = q.running;
               tasks = q.tasks;
               alloc = q.alloc;
+              kept = gone.kept;
+              may = may_leave m u.words u.starting.names s n u.starting.whole o.idle;
+              mid = t;
+              left = record { others = gone.others; freed = gone.freed; removed = gone.removed; parts = gone.parts; server = gone.server };
+              server = sym v_is ∙ (pushed ∙ (λ i. with_event (event.Prune n need (size i)) t));
             });
             starting = record {
               names = names;

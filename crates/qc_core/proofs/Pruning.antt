@@ -39,6 +39,11 @@ pruned_one s t v n need largest u oldest size left valid pushed =
       connected = ap (λ (x : Parts). x.connected) pushed ∙ ap (λ (x : Parts). x.connected) server;
       running = ap (λ (x : Parts). x.tasks) pushed ∙ ap (λ (x : Parts). x.tasks) server;
       alloc = ap (λ (x : Parts). x.alloc) pushed ∙ ap (λ (x : Parts). x.alloc) server;
+      may = may_leave u.moment u.words u.names s n u.whole o.idle;
+      freed = gone.0;
+      mid = t;
+      left = gone.1;
+      server = pushed ∙ (λ i. with_event (event.Prune n need (size i)) t);
     }
 
 pub spare_left : (s t : Parts) (n need : ℕ) (u : MayPruneOne need s) → oldest_idle s.dir.entries ≡ Some n → ((w : MayLeave n s) → (freed : List TableBlock) × Leaves n w.entry w.held freed s t) → 1 ≤ t.journal.spare

@@ -8,10 +8,12 @@ use Rattle.qc_model.specs.Needs.{PruneHasNeed}
 use Rattle.qc_tiles.specs.declared.blocks.Block.{Block}
 use Rattle.qc_tiles.specs.declared.blocks.NoTile.{NoTile}
 use Rattle.qc_tiles.specs.Tiles.{taken, after_take, largest_free}
+use Rattle.qc_dir.specs.declared.tables.TableBlock.{TableBlock}
 use Rattle.qc_dir.specs.Directory.{oldest_idle}
 use Rattle.qc_sound.specs.Moment.{Moment}
 use Rattle.qc_core.specs.declared.parts.Parts.{Parts}
-use Rattle.qc_core.specs.Whole.{Named, IsWhole, tasks_of}
+use Rattle.qc_core.specs.Whole.{Named, IsWhole, tasks_of, with_event}
+use Rattle.qc_core.specs.Leaves.{MayLeave, LeavesBut}
 
 -- The server is sound but for what its call has begun, and the need is one that the call may have. What the call holds is no larger than the first blocks
 -- of a start: its tables' and its result's.
@@ -26,7 +28,7 @@ pub record MayAllocate (need : ℕ) (s : Parts) : Type 0 where
   pub held : AllByRecursion (λ b. b.words ≤ unit_words s.options + 63) moment.held
 
 -- One entry was pruned: no free block held the need, the least recently used entry that is complete and without users went, and its event has the need
--- and the largest free block as that was.
+-- and the largest free block as that was. Its blocks were given back, but for those of its tables that a start keeps for its own. Nothing else changed.
 pub record Prunes (need : ℕ) (old new : Parts) : Type 0 where
   pub small : largest_free old.tiles < need
   pub serial : ℕ
@@ -38,6 +40,11 @@ pub record Prunes (need : ℕ) (old new : Parts) : Type 0 where
   pub running : new.tasks ≡ old.tasks
   pub tasks : tasks_of new ≡ tasks_of old
   pub alloc : new.alloc ≡ old.alloc
+  pub kept : List TableBlock
+  pub may : MayLeave serial old
+  pub mid : Parts
+  pub left : LeavesBut kept serial may.entry may.held old mid
+  pub server : new ≡ with_event (event.Prune serial need (largest_free old.tiles)) mid
 
 -- so many entries were, one after another
 abbrev pub PrunesMany : ℕ → ℕ → Parts → Parts → Type 0

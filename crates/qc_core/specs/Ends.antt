@@ -12,6 +12,7 @@ use Rattle.qc_model.specs.Session.{answer}
 use Rattle.qc_tiles.specs.declared.blocks.Block.{Block}
 use Rattle.qc_chain.specs.Words.{words_of}
 use Rattle.qc_chain.specs.Chains.{Chain, chain_at, with_chain, cut_chain, after_cut, used_words, EndsInLast}
+use Rattle.qc_dir.specs.declared.tables.TableBlock.{TableBlock}
 use Rattle.qc_dir.specs.Directory.{entry_at, after_complete, with_entries}
 use Rattle.qc_sound.specs.parts.Contents.{text_of}
 use Rattle.qc_core.specs.Pins.{after_unpins}
@@ -21,7 +22,8 @@ use Rattle.qc_sound.specs.Moment.{at_rest}
 use Rattle.qc_core.specs.declared.parts.RunningTask.{RunningTask}
 use Rattle.qc_core.specs.declared.parts.Parts.{Parts}
 use Rattle.qc_core.specs.Whole.{Named, IsWhole, tasks_of, with_event}
-use Rattle.qc_core.specs.Strikes.{is_of, without_task_of, blocks_of_chain, MayLetGo}
+use Rattle.qc_core.specs.Leaves.{MayLeave, Leaves}
+use Rattle.qc_core.specs.Strikes.{is_of, without_task_of, blocks_of_chain, MayLetGo, rested}
 
 -- the event was added, and what it says nothing of stays
 pub record EndsBy (e : Event) (old new : Parts) : Type 0 where
@@ -89,6 +91,14 @@ pub record IsDone (seat serial bytes : ℕ) (old new : Parts) : Type 0 where
   pub work : RunningTask
   pub at : find (is_of seat) old.tasks.items ≡ Some work
   pub server : new ≡ with_event (event.Done serial) (with_complete serial (cut_to work.chain.number bytes (without_task_of seat old)))
+
+-- The entry left with its blocks, the seat's fill is out, its chain went where no other task is on it, and the event was added. Nothing else changed.
+pub record IsGone (seat serial : ℕ) (why : GoneWhy) (old new : Parts) : Type 0 where
+  pub may : MayLeave serial old
+  pub freed : List TableBlock
+  pub mid : Parts
+  pub left : Leaves serial may.entry may.held freed old mid
+  pub server : new ≡ with_event (event.Gone serial why) (rested seat mid)
 
 -- the server is sound, the seat fills the entry, which is there, and has stored its whole answer
 pub record MayComplete (seat serial bytes : ℕ) (s : Parts) : Type 0 where

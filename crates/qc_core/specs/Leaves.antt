@@ -62,6 +62,14 @@ pub record Leaves (serial : ℕ) (e : Entry) (held : Chain) (freed : List TableB
   pub removed : RemovesEntry serial freed old.dir new.dir
   pub server : new ≡ left_by new.dir (has_task serial old) e held freed old
 
+-- The entry is out, and its blocks were given back, but for these, of tables that no other entry names.
+pub record LeavesBut (kept : List TableBlock) (serial : ℕ) (e : Entry) (held : Chain) (old new : Parts) : Type 0 where
+  pub others : List TableBlock
+  pub freed : List TableBlock
+  pub removed : RemovesEntry serial freed old.dir new.dir
+  pub parts : IsPermutation freed (kept ++ others)
+  pub server : new ≡ left_by new.dir (has_task serial old) e held others old
+
 -- so many of the places have been gone through
 pub record IsReturning (ps : List (Option TableBlock)) (k : ℕ) (old now : List Tile) : Type 0 where
   pub tiling : IsTiling (region_words old) now

@@ -5,10 +5,12 @@ use Rattle.qc_model.specs.declared.events.Event.TheVariants as event
 use Rattle.qc_model.specs.Licence.{word_bound}
 use Rattle.qc_model.specs.Needs.{PruneHasNeed}
 use Rattle.qc_tiles.specs.Tiles.{largest_free}
+use Rattle.qc_dir.specs.declared.tables.TableBlock.{TableBlock}
 use Rattle.qc_dir.specs.Directory.{oldest_idle}
 use Rattle.qc_sound.specs.Moment.{Moment}
 use Rattle.qc_core.specs.declared.parts.Parts.{Parts}
-use Rattle.qc_core.specs.Whole.{Named, IsWhole, tasks_of}
+use Rattle.qc_core.specs.Whole.{Named, IsWhole, tasks_of, with_event}
+use Rattle.qc_core.specs.Leaves.{MayLeave, Leaves}
 
 -- The server is sound but for what its call has begun, no free block holds the need, and it is one that the call may have.
 pub record MayPruneOne (need : ℕ) (s : Parts) : Type 0 where
@@ -34,3 +36,8 @@ pub record PrunesOne (need : ℕ) (old new : Parts) (u : MayPruneOne need old) :
   pub connected : new.connected ≡ old.connected
   pub running : new.tasks ≡ old.tasks
   pub alloc : new.alloc ≡ old.alloc
+  pub may : MayLeave serial old
+  pub freed : List TableBlock
+  pub mid : Parts
+  pub left : Leaves serial may.entry may.held freed old mid
+  pub server : new ≡ with_event (event.Prune serial need (largest_free old.tiles)) mid

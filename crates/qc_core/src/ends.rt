@@ -1,6 +1,6 @@
 //! Fills end.
 
-ghost use Rattle.std.specs.Prelude.{◌≡◌, [], true, None, length, is_some, is_ok, IfOk, OnErr, IfErr};
+ghost use Rattle.std.specs.Prelude.{◌≡◌, [], true, None, length, is_some, is_ok, IfOk, OnOk, OnErr, IfErr};
 ghost use Rattle.qc_model.specs.declared.events.Event.TheVariants as event;
 ghost use Rattle.qc_model.specs.Cache.{cache, entry_of};
 ghost use Rattle.qc_model.specs.Licence.{MayGiveUp};
@@ -11,7 +11,7 @@ ghost use Rattle.qc_core.specs.Whole.{tasks_of};
 ghost use Rattle.qc_core.specs.Calls.{ListsFill, StoresWhole, MayBeGone};
 ghost use Rattle.qc_core.specs.Strikes.{rested};
 ghost use Rattle.qc_core.specs.Overtaken.{WasOvertaken, IsOvertaken};
-ghost use Rattle.qc_core.specs.Ends.{MayGiveUpFill, MayComplete, MayCut, cut_to, EndsFill, EndsBy, IsDone};
+ghost use Rattle.qc_core.specs.Ends.{MayGiveUpFill, MayComplete, MayCut, cut_to, EndsFill, EndsBy, IsDone, IsGone};
 
 use crate::overtakings::overtaken;
 use crate::parts::Parts;
@@ -27,6 +27,7 @@ impl Parts {
         requires { MayGiveUpFill seat serial why self.old }
         ensures number { result ≡ length self.new.journal.events }
         ensures ends { (u : MayGiveUpFill seat serial why self.old) → EndsFill (event.Gone serial why) seat u.words self.old self.new }
+        ensures gone { IsGone seat serial why self.old self.new }
     {
         self.drop_entry(serial);
         self.rest(seat);
@@ -71,6 +72,7 @@ impl Server {
         requires { MayGiveUpFill seat serial why self.old }
         ensures number { result ≡ length self.new.journal.events }
         ensures ends { (u : MayGiveUpFill seat serial why self.old) → EndsFill (event.Gone serial why) seat u.words self.old self.new }
+        ensures gone { IsGone seat serial why self.old self.new }
     {
         self.parts.give_up(seat, serial, why)
     }
@@ -140,6 +142,7 @@ pub fn gone(held: &mut Held<'_, Server>, serial: u64, why: GoneWhy) -> Result<u6
     ensures stands { MayRelease held.new × SameHolder held.old held.new }
     ensures there { is_ok result ≡ is_some (entry_of serial (cache held.old.value.journal.events)) }
     ensures ok { IfOk result (λ place. (place ≡ length held.new.value.journal.events) × EndsBy (event.Gone serial why) held.old.value held.new.value) }
+    ensures gone { OnOk result (IsGone (holder held.old).number serial why held.old.value held.new.value) }
     ensures err { IfErr result (λ by. IsOvertaken held.old.value.journal.events serial by × (held.new.value ≡ rested (holder held.old).number held.old.value)) }
     ensures rests { listed_for (holder held.old).number (tasks_of held.new.value) ≡ [] }
     ensures ranges { held.new.ranges ≡ held.old.ranges }
@@ -159,6 +162,7 @@ fn end_given_up(held: &mut Held<'_, Server>, serial: u64, why: GoneWhy) -> u64
     ensures stands { MayRelease held.new × SameHolder held.old held.new }
     ensures number { result ≡ length held.new.value.journal.events }
     ensures ends { EndsBy (event.Gone serial why) held.old.value held.new.value }
+    ensures gone { IsGone (holder held.old).number serial why held.old.value held.new.value }
     ensures rests { listed_for (holder held.old).number (tasks_of held.new.value) ≡ [] }
     ensures ranges { held.new.ranges ≡ held.old.ranges }
 {

@@ -5,7 +5,7 @@ use Rattle.qc_turn.specs.Views.{idle_of}
 use Rattle.qc_turn.specs.Seats.{words, holder}
 use Rattle.qc_sound.specs.Moment.{at_rest}
 use Rattle.qc_core.specs.declared.parts.Parts.{Parts}
-use Rattle.qc_core.specs.Ends.{MayGiveUpFill, EndsFill}
+use Rattle.qc_core.specs.Ends.{MayGiveUpFill, EndsFill, IsGone}
 use Rattle.qc_core.proofs.Standing.{value_stands}
 use Rattle.qc_core.proofs.Filling.{fills_of, gone_licensed, ends_follows}
 use Rattle.qc_core.proofs.ends.end_given_up.Goals as goal
@@ -51,3 +51,6 @@ returns-clause-rests c =
     let ev = event.Gone c.args.serial c.args.why in
     let ends = subst (λ (p : ℕ × Parts). (u : MayGiveUpFill p.0 c.args.serial c.args.why p.1) → EndsFill ev p.0 u.words p.1 c.give_up.new.self) (λ i. (c.number-seat.ensures i, c.value.ensures.value i)) c.give_up.ensures.ends u in
     ends.rests
+
+pub returns-clause-gone : goal.returns-clause-gone
+returns-clause-gone c = subst (λ (p : ℕ × Parts). IsGone p.0 c.args.serial c.args.why p.1 c.give_up.new.self) (λ i. (c.number-seat.ensures i, c.value.ensures.value i)) c.give_up.ensures.gone

@@ -23,6 +23,12 @@ push-requires c =
     let valid = subst (λ (x : Parts). IsDirectory x.dir) c.rest.ensures.rested c.rest.ensures.valid in
     subst (λ (x : Parts). 1 ≤ x.journal.spare) (sym c.rest.ensures.rested) (room c.args.seat c.args.serial c.args.why c.args.self.now u c.drop_entry.new.self d.0 d.1 c.drop_entry.ensures.valid valid)
 
+pub returns-clause-gone : goal.returns-clause-gone
+returns-clause-gone c =
+    let may = may_leave c.args.seat c.args.serial c.args.why c.args.self.now c.requires in
+    let d = c.drop_entry.ensures.left may in
+    record { may = may; freed = d.0; mid = c.drop_entry.new.self; left = d.1; server = c.push.ensures.pushed ∙ ap (with_event (event.Gone c.args.serial c.args.why)) c.rest.ensures.rested }
+
 pub returns-clause-ends : goal.returns-clause-ends
 returns-clause-ends c = λ u.
     let d = c.drop_entry.ensures.left (may_leave c.args.seat c.args.serial c.args.why c.args.self.now u) in
