@@ -1,13 +1,13 @@
 -- The entry of a start is put in, and the server stands at rest again.
-use Rattle.std.proofs.Common.{◌≡◌, ◌≢◌, ℕ, zero, suc, ◌+◌, ◌-◌, ◌*◌, ◌/◌, ◌^◌, ◌<◌, ◌≤◌, max, eqb, eq-eqb, ne_eqb, Bool, true, false, cond, List, [], ◌∷◌, ◌++◌, map, length, refl, sym, ap, subst, ◌∙◌, arith, true≢false, append_assoc, length-append, inl, inr, ⊎_elim, ◌⊎◌}
-use Rattle.std.specs.Prelude.{not, ◌||◌, ◌==◌, Option, Some, None, IfSome, Contains, IsPermutation, ◌↔◌, is_some, is_none, find, option_and_then, slice_get, slice_set}
+use Rattle.std.proofs.Common.{◌≡◌, ◌≢◌, ℕ, zero, suc, ◌+◌, ◌-◌, ◌*◌, ◌/◌, ◌<◌, ◌≤◌, eqb, eq-eqb, ne_eqb, Bool, true, false, cond, List, [], ◌∷◌, ◌++◌, map, length, refl, sym, ap, subst, ◌∙◌, arith, true≢false, append_assoc, length-append, inl, inr, ⊎_elim, ◌⊎◌}
+use Rattle.std.specs.Prelude.{not, ◌||◌, ◌==◌, Option, Some, None, IfSome, Contains, IsPermutation, is_some, is_none, find, option_and_then, slice_get, slice_set}
 use Rattle.std.specs.List.{list_any, filter, flat_map, AllByRecursion}
 use Rattle.std.proofs.lemmas.List.{length-map, map-append}
 use Rattle.std.proofs.lemmas.List.Elements.{Contains-append_left, Contains-append_right, Contains-append_cases}
 use Rattle.std.proofs.lemmas.List.Sorted.{IsPermutation-sym, IsPermutation-map, length_permutation}
-use Rattle.std.proofs.lemmas.Option.{none-some, same_Some}
+use Rattle.std.proofs.lemmas.Option.{none-some}
 use Rattle.qc_types.specs.declared.names.TableName.{TableName}
-use Rattle.qc_types.specs.Blocks.{least_block, raised}
+use Rattle.qc_types.specs.Blocks.{raised}
 use Rattle.qc_key.specs.Hash.{hash}
 use Rattle.qc_laws.specs.history.Runs.{are_distinct}
 use Rattle.qc_laws.proofs.history.Events.{all_on, all_append}
@@ -26,17 +26,16 @@ use Rattle.qc_tiles.specs.declared.blocks.Block.{Block}
 use Rattle.qc_tiles.specs.Tiles.{CoversFrom, block_of, handed_out, after_pin}
 use Rattle.qc_tiles.proofs.Calls.{own_tiling}
 use Rattle.qc_tiles.proofs.Keeps.{after_pin-tiling}
-use Rattle.qc_chain.specs.Words.{words_of}
 use Rattle.qc_chain.specs.Chains.{Chained, chain_at, empty_chain, whole_chain, with_chain, after_append}
 use Rattle.qc_chain.specs.Chains.{Chain as Kept}
 use Rattle.qc_chain.proofs.Releases.{in_front, in_first}
 use Rattle.qc_dir.specs.declared.entries.Entry.{Entry}
 use Rattle.qc_dir.specs.declared.tables.TableBlock.{TableBlock}
-use Rattle.qc_dir.specs.Directory.{Directory, IsDirectory, AreApart, entry_at, is_block_of}
+use Rattle.qc_dir.specs.Directory.{entry_at}
 use Rattle.qc_turn.specs.declared.task.Task.{Task}
 use Rattle.qc_turn.specs.declared.task.Task.TheVariants as task
 use Rattle.qc_turn.specs.Tasks.{listed_for, own}
-use Rattle.qc_sound.specs.PlainServer.{PlainServer, StoredEntry, EntryChain, SeatTask, session_of, has_chain, blocks_at, blocks_of, serial_of, listed_tasks}
+use Rattle.qc_sound.specs.PlainServer.{PlainServer, StoredEntry, EntryChain, SeatTask, has_chain, blocks_at, blocks_of, serial_of, listed_tasks}
 use Rattle.qc_sound.specs.PlainServer.{has_serial as chain_has}
 use Rattle.qc_sound.specs.Moment.{Moment, at_rest}
 use Rattle.qc_sound.specs.Sound.{IsSound}
@@ -44,7 +43,7 @@ use Rattle.qc_sound.specs.Pending.{NeedsOf}
 use Rattle.qc_sound.specs.parts.Contents.{text_of}
 use Rattle.qc_sound.specs.parts.Memory.{TilesAreSound, TablesAreSound, ChainFits, blocks_in_use, blocks_of_tasks, pinned_blocks, names_table}
 use Rattle.qc_sound.specs.parts.Tasks.{IsSeat, SeatTaskIsSound}
-use Rattle.qc_sound.specs.steps.Starts.{chain_of, started, starts_entry, IsNewEntry}
+use Rattle.qc_sound.specs.steps.Starts.{chain_of, started, IsNewEntry}
 use Rattle.qc_sound.specs.steps.Hits.{IsFreeSeat}
 use Rattle.qc_sound.specs.steps.Listing.{ListsAlone}
 use Rattle.qc_sound.specs.steps.Leaving.{filling}
@@ -57,10 +56,9 @@ use Rattle.qc_core.specs.declared.hands.Hand.{Hand}
 use Rattle.qc_core.specs.declared.takes.Taken.{Taken}
 use Rattle.qc_core.specs.declared.parts.RunningTask.{RunningTask}
 use Rattle.qc_core.specs.declared.parts.Parts.{Parts}
-use Rattle.qc_core.specs.Whole.{Named, is_named, IsNamedAs, chain_blocks, chain_bytes, chain_in, stored, table_pair, work_in, plain, tasks_of, free_names, IsNamed, ChainsHaveRoom, IsWhole, with_event}
+use Rattle.qc_core.specs.Whole.{Named, is_named, IsNamedAs, chain_blocks, chain_bytes, chain_in, stored, table_pair, work_in, plain, tasks_of, IsNamed, ChainsHaveRoom, IsWhole, with_event}
 use Rattle.qc_core.specs.KeptLaws.{tasks_same}
 use Rattle.qc_core.specs.Leaves.{table_blocks}
-use Rattle.qc_core.specs.Hands.{IsInHand}
 use Rattle.qc_core.specs.Starts.{HasStartRoom, new_entry, fill_of, AddsFill}
 use Rattle.qc_core.specs.Takes.{holds, starts, IsStarting}
 use Rattle.qc_core.specs.Grows.{MayAppend}

@@ -1,12 +1,11 @@
 -- Prunes until a free block holds a need, and the block that is taken then.
-use Rattle.std.proofs.Common.{◌≡◌, ℕ, zero, suc, ◌+◌, ◌<◌, ◌≤◌, eqb, eqb-true, Bool, true, false, cond, List, [], ◌∷◌, ◌++◌, map, length, refl, sym, ap, subst, ◌∙◌, arith, true≢false}
+use Rattle.std.proofs.Common.{◌≡◌, ℕ, suc, ◌+◌, ◌<◌, ◌≤◌, eqb, eqb-true, Bool, true, false, cond, List, [], ◌∷◌, ◌++◌, refl, sym, ap, subst, ◌∙◌, arith, true≢false}
 use Rattle.std.specs.Result.{IfErr, result_ok}
 use Rattle.qc_tiles.specs.declared.blocks.NoTile.{NoTile}
-use Rattle.std.specs.Prelude.{Result, Ok, Err, IfOk, not, ◌||◌, ◌==◌, Option, Some, None, IsSomeAnd, IsPermutation, Contains, nat_le, is_some}
+use Rattle.std.specs.Prelude.{Result, Ok, Err, IfOk, not, ◌||◌, ◌==◌, Option, Some, None, IsSomeAnd, Contains, nat_le, is_some}
 use Rattle.std.specs.List.{list_any, AllByRecursion}
 use Rattle.std.proofs.lemmas.Bool.Decides.{nat_tests}
 use Rattle.std.proofs.lemmas.List.Sorted.{IsPermutation-refl}
-use Rattle.std.proofs.lemmas.Option.{none-some, same_Some}
 use Rattle.qc_types.specs.declared.options.Options.{Options}
 use Rattle.qc_types.specs.Blocks.{least_block, raised}
 use Rattle.qc_model.specs.declared.events.Event.{Event}
@@ -14,32 +13,31 @@ use Rattle.qc_model.specs.declared.events.Event.TheVariants as event
 use Rattle.qc_model.specs.declared.events.How.TheVariants as how
 use Rattle.qc_model.specs.declared.events.Reason.TheVariants as reason
 use Rattle.qc_model.specs.Journal.{Journal}
-use Rattle.qc_model.specs.Cache.{cache, entry_of, is_entry}
+use Rattle.qc_model.specs.Cache.{cache, entry_of}
 use Rattle.qc_model.specs.Cache.{Entry as Cached}
 use Rattle.qc_model.specs.Cache.{without as cached_without}
-use Rattle.qc_model.specs.Licence.{IsComplete, IsLicensed, IsLawful, region_words, unit_words, word_bound}
+use Rattle.qc_model.specs.Licence.{IsComplete, IsLawful, region_words, unit_words, word_bound}
 use Rattle.qc_model.specs.Needs.{PruneHasNeed}
 use Rattle.qc_laws.specs.history.Runs.{are_distinct, serials}
-use Rattle.qc_laws.proofs.history.Events.{cache_push, lawful_back, lawful_prefix}
+use Rattle.qc_laws.proofs.history.Events.{cache_push, lawful_back}
 use Rattle.qc_laws.proofs.history.Serials.{serials_apart, both_true, opposite, neither}
 use Rattle.qc_tiles.specs.declared.blocks.Block.{Block}
 use Rattle.qc_tiles.specs.declared.blocks.Tile.{Tile}
 use Rattle.qc_tiles.specs.Tiles.{handed_out, taken, after_take, largest_free}
 use Rattle.qc_tiles.proofs.Refusals.{taken-some}
-use Rattle.qc_dir.specs.Directory.{oldest_idle}
 use Rattle.qc_sound.specs.PlainServer.{PlainServer}
 use Rattle.qc_sound.specs.Moment.{Moment}
 use Rattle.qc_sound.specs.parts.Journal.{reserved}
-use Rattle.qc_sound.specs.parts.Memory.{TilesAreSound, blocks_in_use, pinned_blocks}
+use Rattle.qc_sound.specs.parts.Memory.{TilesAreSound, blocks_in_use}
 use Rattle.qc_sound.specs.steps.Holding.{with_tiles}
-use Rattle.qc_sound.proofs.Handed.{times, times_append, times_permuted, permuted}
+use Rattle.qc_sound.proofs.Handed.{times_permuted, permuted}
 use Rattle.qc_sound.proofs.Holding.{hold_step}
 use Rattle.qc_sound.proofs.Leaves.{one_less}
 use Rattle.qc_core.specs.declared.parts.Parts.{Parts}
-use Rattle.qc_core.specs.Whole.{Named, plain, IsWhole, tasks_of}
+use Rattle.qc_core.specs.Whole.{Named, plain, IsWhole}
 use Rattle.qc_core.specs.Prunes.{MayPruneOne, PrunesOne}
-use Rattle.qc_core.specs.Allocates.{MayAllocate, Prunes, PrunesMany, IsPruned, LacksTile, holding, Allocates}
-use Rattle.qc_core.proofs.Taking.{Took, took}
+use Rattle.qc_core.specs.Allocates.{MayAllocate, Prunes, IsPruned, holding, Allocates}
+use Rattle.qc_core.proofs.Taking.{took}
 
 -- ---- what is held is small enough for any need
 

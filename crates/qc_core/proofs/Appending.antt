@@ -1,5 +1,5 @@
 -- A chain gets a block more.
-use Rattle.std.proofs.Common.{◌≡◌, ◌≢◌, ℕ, zero, suc, ◌+◌, ◌-◌, ◌*◌, ◌<◌, ◌≤◌, eqb, eq-eqb, eqb-true, ne_eqb, Bool, true, false, cond, List, [], ◌∷◌, ◌++◌, map, length, refl, sym, ap, subst, ◌∙◌, arith, true≢false, length-append, append_assoc}
+use Rattle.std.proofs.Common.{◌≡◌, ◌≢◌, ℕ, zero, suc, ◌+◌, ◌-◌, ◌*◌, ◌<◌, eqb, eq-eqb, eqb-true, true, false, cond, List, [], ◌∷◌, ◌++◌, map, length, refl, sym, ap, subst, ◌∙◌, arith, true≢false, length-append}
 use Rattle.std.specs.Prelude.{not, ◌||◌, ◌==◌, Option, Some, None, is_some, is_none, find, option_and_then, slice_get, slice_set}
 use Rattle.std.specs.List.{list_any, filter, flat_map, AllByRecursion}
 use Rattle.std.proofs.lemmas.Option.{none-some, same_Some}
@@ -11,10 +11,10 @@ use Rattle.qc_chain.specs.Words.{words_of}
 use Rattle.qc_chain.specs.Chains.{Chained, chain_at, Begun, after_append, whole_chain}
 use Rattle.qc_chain.specs.Chains.{Chain as Kept}
 use Rattle.qc_dir.specs.declared.entries.Entry.{Entry}
-use Rattle.qc_sound.specs.PlainServer.{EntryChain, StoredEntry, has_chain}
+use Rattle.qc_sound.specs.PlainServer.{EntryChain, has_chain}
 use Rattle.qc_sound.specs.steps.Growing.{with_blocks, with_bytes}
 use Rattle.qc_sound.proofs.Changed.{only_keyed}
-use Rattle.qc_core.specs.Whole.{Named, is_named, IsNamedAs, chain_blocks, chain_bytes, chain_in, stored, free_names, ChainsHaveRoom}
+use Rattle.qc_core.specs.Whole.{Named, is_named, IsNamedAs, chain_blocks, chain_bytes, chain_in, stored, ChainsHaveRoom}
 use Rattle.qc_core.proofs.Remaining.{IsOther}
 use Rattle.qc_core.proofs.Uses.{find_all}
 

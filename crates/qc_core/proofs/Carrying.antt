@@ -1,5 +1,5 @@
 -- Words are carried down.
-use Rattle.std.proofs.Common.{◌≡◌, ◌≢◌, ℕ, ◌+◌, ◌-◌, ◌<◌, ◌≤◌, Bool, true, false, List, length, get_or, set, refl, sym, ap, subst, ◌∙◌, arith, eqb, eqb-true, eq-eqb, true≢false}
+use Rattle.std.proofs.Common.{◌≡◌, ◌≢◌, ℕ, ◌+◌, ◌-◌, ◌<◌, ◌≤◌, true, false, List, length, get_or, set, refl, sym, ap, subst, ◌∙◌, arith, eqb, eqb-true, eq-eqb, true≢false}
 use Rattle.std.proofs.lemmas.List.{get_or-set_same, get_or-set_other, length-set}
 use Rattle.qc_tiles.specs.declared.blocks.Move.{Move}
 use Rattle.qc_turn.specs.declared.kept.Kept.{Ghosts}
@@ -8,7 +8,6 @@ use Rattle.qc_turn.specs.Releases.{IsFreeOfOthers}
 use Rattle.qc_turn.specs.Views.{idle_of}
 use Rattle.qc_turn.specs.Seats.{Held, holder, words, taken, IsHeld, SameHolder}
 use Rattle.qc_turn.proofs.Holders.{taken_is, number_is, same_on}
-use Rattle.qc_core.specs.Spelled.{IsSame}
 use Rattle.qc_core.specs.Compacts.{MayCarry, HasCarried}
 use Rattle.qc_core.proofs.Spelling.{is_same, outside_on}
 

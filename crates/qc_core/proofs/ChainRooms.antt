@@ -1,17 +1,15 @@
 -- The named chains, and the room for more.
-use Rattle.std.proofs.Common.{◌≡◌, ℕ, zero, suc, ◌+◌, ◌-◌, ◌/◌, ◌<◌, ◌≤◌, eqb, Bool, true, false, cond, List, [], ◌∷◌, ◌++◌, map, length, refl, sym, ap, subst, ◌∙◌, arith, length-append, append-nil, replicate}
-use Rattle.std.specs.Prelude.{not, ◌==◌, Option, Some, None, IsPermutation, is_none, find, option_and_then, slice_get, slice_set}
+use Rattle.std.proofs.Common.{◌≡◌, ℕ, zero, suc, ◌+◌, ◌-◌, ◌/◌, true, List, [], ◌∷◌, ◌++◌, map, length, refl, sym, ap, ◌∙◌, arith, length-append, replicate}
+use Rattle.std.specs.Prelude.{not, ◌==◌, Option, Some, None, is_none, find, option_and_then, slice_get, slice_set}
 use Rattle.std.specs.List.{filter, flat_map, AllByRecursion}
 use Rattle.std.proofs.lemmas.List.Sorted.{length_permutation}
-use Rattle.std.proofs.lemmas.List.{length-replicate}
-use Rattle.std.proofs.lemmas.Option.{none-some, same_Some}
+use Rattle.std.proofs.lemmas.Option.{none-some}
 use Rattle.qc_laws.specs.history.Runs.{are_distinct}
-use Rattle.qc_tiles.specs.declared.blocks.Block.{Block}
 use Rattle.qc_chain.specs.Chains.{Chained, chain_at, Begun, no_chains}
 use Rattle.qc_chain.specs.Chains.{Chain as Kept}
 use Rattle.qc_sound.specs.PlainServer.{EntryChain}
 use Rattle.qc_sound.proofs.Handed.{permuted, times_append}
-use Rattle.qc_core.specs.Whole.{Named, is_named, IsNamedAs, chain_blocks, chain_in, free_names, ChainsHaveRoom}
+use Rattle.qc_core.specs.Whole.{Named, is_named, IsNamedAs, chain_blocks, chain_in, ChainsHaveRoom}
 use Rattle.qc_core.specs.Leaves.{released}
 use Rattle.qc_core.proofs.Seating.{found_less}
 use Rattle.qc_core.proofs.OwnBlocks.{chain_count}

@@ -1,32 +1,32 @@
 -- Blocks move down until none can any more.
-use Rattle.std.proofs.Common.{◌≡◌, ◌≢◌, ℕ, zero, suc, ◌+◌, ◌-◌, ◌<◌, ◌≤◌, eqb, Bool, true, false, cond, List, [], ◌∷◌, ◌++◌, map, length, refl, sym, ap, subst, ◌∙◌, arith, true≢false, inl, inr, ⊎_elim, ◌⊎◌, append-nil}
+use Rattle.std.proofs.Common.{◌≡◌, ◌≢◌, ℕ, ◌+◌, ◌-◌, ◌<◌, ◌≤◌, Bool, true, false, cond, List, [], ◌∷◌, ◌++◌, map, refl, sym, ap, subst, arith, true≢false, inl, inr, ⊎_elim, ◌⊎◌}
 use Rattle.std.specs.Prelude.{not, ◌&&◌, ◌==◌, Option, Some, None, Contains, nat_lt}
 use Rattle.std.proofs.lemmas.Bool.Decides.{nat_tests}
 use Rattle.std.proofs.lemmas.Option.{none-some}
-use Rattle.std.specs.List.{filter, flat_map, list_any, AllByRecursion}
-use Rattle.std.proofs.lemmas.List.Elements.{Contains-append_left, Contains-append_right, Contains-append_cases}
+use Rattle.std.specs.List.{filter, flat_map, AllByRecursion}
+use Rattle.std.proofs.lemmas.List.Elements.{Contains-append_left, Contains-append_right}
 use Rattle.qc_types.specs.Blocks.{least_block}
 use Rattle.qc_key.specs.Hash.{hash}
 use Rattle.qc_model.specs.Licence.{region_words}
 use Rattle.qc_tiles.specs.declared.blocks.Block.{Block}
 use Rattle.qc_tiles.specs.declared.blocks.Move.{Move}
 use Rattle.qc_tiles.specs.declared.blocks.Tile.{Tile}
-use Rattle.qc_tiles.specs.Tiles.{CoversFrom, FreeApart, IsTiling, block_of, tile, free_tile, handed_out, may_move, movable, swapped, joined, after_move_down}
+use Rattle.qc_tiles.specs.Tiles.{CoversFrom, FreeApart, IsTiling, block_of, tile, free_tile, handed_out, may_move, movable, swapped, after_move_down}
 use Rattle.qc_chain.proofs.Releases.{joined-used, in_front, in_first, behind}
 use Rattle.qc_turn.specs.declared.task.ListedTask.{ListedTask}
 use Rattle.qc_turn.specs.declared.task.Task.{Task}
 use Rattle.qc_turn.specs.declared.task.Task.TheVariants as task
 use Rattle.qc_turn.specs.Blocks.{places, counted, Misses}
-use Rattle.qc_turn.specs.Tasks.{listed_for, places_of, fill_places, fill_of, KeepsListed, OutsideOtherFills}
+use Rattle.qc_turn.specs.Tasks.{listed_for, places_of, fill_places, fill_of, OutsideOtherFills}
 use Rattle.qc_turn.specs.Releases.{IsFreeOfOthers, Follows}
 use Rattle.qc_turn.proofs.Tasks.{misses_front, misses_back, keeps_fills}
 use Rattle.qc_sound.specs.PlainServer.{PlainServer, SeatTask, blocks_of, listed, listed_tasks}
-use Rattle.qc_sound.specs.Moment.{Moment, at_rest}
+use Rattle.qc_sound.specs.Moment.{at_rest}
 use Rattle.qc_sound.specs.parts.Memory.{pinned_blocks, blocks_of_tasks}
-use Rattle.qc_sound.proofs.Counts.{occurs, occurs_misses, misses_occurs, occurs_append, occurs_places, counted_here, all_blocks, tiled_once, parted}
+use Rattle.qc_sound.proofs.Counts.{occurs, occurs_misses, occurs_append, counted_here, all_blocks, tiled_once, parted}
 use Rattle.qc_core.specs.declared.parts.Parts.{Parts}
 use Rattle.qc_core.specs.contracts.server.ServerKept.TheImpl.{ghosts}
-use Rattle.qc_core.specs.Whole.{Named, plain, tasks_of, IsWhole, Sound}
+use Rattle.qc_core.specs.Whole.{Named, plain, tasks_of, IsWhole}
 use Rattle.qc_core.specs.KeptLaws.{tasks_same}
 use Rattle.qc_core.specs.Compacts.{OneFreeBetween}
 

@@ -1,6 +1,6 @@
 -- The blocks of a start, one after another.
-use Rattle.std.proofs.Common.{◌≡◌, ℕ, zero, suc, ◌+◌, ◌<◌, ◌≤◌, max, eqb, eq-eqb, Bool, true, false, List, [], ◌∷◌, ◌++◌, map, length, take, drop, get_or, refl, sym, ap, subst, ◌∙◌, arith, append_assoc, append-nil, length-append}
-use Rattle.std.specs.Prelude.{◌||◌, Option, Some, Result, Ok, Err, IfOk}
+use Rattle.std.proofs.Common.{◌≡◌, ℕ, zero, suc, ◌+◌, ◌<◌, ◌≤◌, eqb, eq-eqb, Bool, true, false, List, [], ◌∷◌, ◌++◌, map, length, take, drop, get_or, refl, sym, ap, subst, ◌∙◌, arith, append_assoc, length-append}
+use Rattle.std.specs.Prelude.{◌||◌, Option, Result, Ok, Err, IfOk}
 use Rattle.std.specs.Result.{IfErr, IsErrAnd}
 use Rattle.std.specs.List.{AllByRecursion}
 use Rattle.std.proofs.lemmas.List.{map-append, take_all, take-append-drop}
@@ -8,28 +8,23 @@ use Rattle.qc_types.specs.declared.names.TableName.{TableName}
 use Rattle.qc_types.specs.declared.options.Options.{Options}
 use Rattle.qc_types.specs.Blocks.{least_block, raised}
 use Rattle.qc_model.specs.declared.events.Event.{Event}
-use Rattle.qc_model.specs.Cache.{cache}
 use Rattle.qc_model.specs.Journal.{Journal}
-use Rattle.qc_model.specs.Licence.{LacksRoom, region_words, unit_words, words_of_bytes}
+use Rattle.qc_model.specs.Licence.{LacksRoom, unit_words, words_of_bytes}
 use Rattle.qc_model.specs.Needs.{is_need, PruneHasNeed}
 use Rattle.qc_tiles.specs.declared.blocks.Block.{Block}
 use Rattle.qc_tiles.specs.declared.blocks.NoTile.{NoTile}
-use Rattle.qc_tiles.specs.declared.blocks.Tile.{Tile}
-use Rattle.qc_tiles.specs.Tiles.{after_give_back, largest_free}
+use Rattle.qc_tiles.specs.Tiles.{largest_free}
 use Rattle.qc_chain.specs.Chains.{AreHandedOut, after_release}
 use Rattle.qc_dir.specs.declared.tables.TableBlock.{TableBlock}
-use Rattle.qc_sound.specs.parts.Journal.{reserved}
 use Rattle.qc_sound.proofs.Handed.{times, times_append}
 use Rattle.qc_core.specs.declared.hands.Hand.{Hand}
 use Rattle.qc_core.specs.declared.takes.Taken.{Taken}
 use Rattle.qc_core.specs.declared.parts.Parts.{Parts}
-use Rattle.qc_core.specs.Whole.{Named, IsWhole}
 use Rattle.qc_core.specs.Leaves.{table_blocks}
-use Rattle.qc_core.specs.Allocates.{PrunesMany}
 use Rattle.qc_core.specs.Hands.{IsInHand}
-use Rattle.qc_core.specs.Starts.{TakesOne, Takes, IsShortOf, needs_for}
+use Rattle.qc_core.specs.Starts.{TakesOne, Takes, needs_for}
 use Rattle.qc_core.specs.Takes.{holds, starts, next_of, IsStarting, KeepsRoom, MayTakeOne, PrunesSome, HasNone, TakesKeeping, MayTake, TakesTables, HaveSizes, TakesPair, TakesAll, Stops}
-use Rattle.qc_core.proofs.FillTasks.{IsAfter, pruned_after}
+use Rattle.qc_core.proofs.FillTasks.{pruned_after}
 use Rattle.qc_core.proofs.Handing.{hand_takes, hand_few}
 use Rattle.qc_core.proofs.Keeping.{reheld}
 use Rattle.qc_core.proofs.GivingBack.{held_out, given_whole}

@@ -1,28 +1,24 @@
 -- A seat that fills an entry, and what stays of it when others are pruned.
-use Rattle.std.proofs.Common.{◌≡◌, ◌≢◌, ℕ, zero, suc, ◌+◌, ◌*◌, ◌<◌, ◌≤◌, max, eqb, eq-eqb, eqb-true, Bool, true, false, cond, List, [], ◌∷◌, ◌++◌, map, length, refl, sym, ap, subst, ◌∙◌, arith, true≢false, append_assoc, append-nil, inl}
+use Rattle.std.proofs.Common.{◌≡◌, ◌≢◌, ℕ, zero, suc, ◌+◌, ◌<◌, eqb, eqb-true, Bool, true, false, cond, List, [], ◌∷◌, ◌++◌, map, refl, sym, ap, subst, ◌∙◌, arith, true≢false, append_assoc, append-nil, inl}
 use Rattle.std.specs.Prelude.{not, ◌||◌, ◌==◌, Option, Some, None, IfSome, IsSomeAnd, find}
-use Rattle.std.specs.List.{list_any, filter, AllByRecursion}
+use Rattle.std.specs.List.{list_any}
 use Rattle.std.proofs.lemmas.List.Elements.{filter-append}
 use Rattle.std.proofs.lemmas.Option.{none-some, same_Some}
 use Rattle.qc_types.specs.declared.names.TableName.{TableName}
 use Rattle.qc_types.specs.declared.options.Options.{Options}
-use Rattle.qc_types.specs.Blocks.{least_block, raised}
 use Rattle.qc_key.specs.Hash.{hash}
-use Rattle.qc_model.specs.declared.events.Event.{Event}
 use Rattle.qc_model.specs.declared.events.Event.TheVariants as event
 use Rattle.qc_model.specs.declared.events.How.TheVariants as how
 use Rattle.qc_model.specs.Journal.{Journal}
 use Rattle.qc_model.specs.Cache.{cache, entry_of, is_entry}
 use Rattle.qc_model.specs.Cache.{Entry as Cached}
 use Rattle.qc_model.specs.Licence.{IsFilling, IsLawful, unit_words}
-use Rattle.qc_laws.specs.history.Runs.{IsStarted, IsKept, are_distinct}
+use Rattle.qc_laws.specs.history.Runs.{IsStarted, IsKept}
 use Rattle.qc_laws.proofs.history.Events.{found_all, lawful_back}
-use Rattle.qc_laws.proofs.history.Serials.{opposite}
 use Rattle.qc_laws.proofs.history.Stays.{answers_stay}
 use Rattle.qc_tiles.specs.declared.blocks.Block.{Block}
 use Rattle.qc_tiles.specs.Tiles.{largest_free}
-use Rattle.qc_chain.specs.Chains.{Chained, chain_at, Begun}
-use Rattle.qc_chain.specs.Chains.{Chain as Kept}
+use Rattle.qc_chain.specs.Chains.{Chained, chain_at}
 use Rattle.qc_dir.specs.declared.entries.Entry.{Entry}
 use Rattle.qc_dir.specs.Directory.{entry_at, has_serial}
 use Rattle.qc_turn.specs.declared.task.ListedTask.{ListedTask}
@@ -31,7 +27,7 @@ use Rattle.qc_turn.specs.declared.task.Task.TheVariants as task
 use Rattle.qc_turn.specs.Tasks.{listed_for, own}
 use Rattle.qc_turn.specs.Views.{of_seat}
 use Rattle.qc_turn.specs.Releases.{Follows}
-use Rattle.qc_sound.specs.PlainServer.{SeatTask, serial_of}
+use Rattle.qc_sound.specs.PlainServer.{serial_of}
 use Rattle.qc_sound.specs.Moment.{Moment, at_rest}
 use Rattle.qc_sound.specs.Ended.{is_ended}
 use Rattle.qc_sound.specs.steps.Leaving.{is_of_seat, filling}
@@ -42,12 +38,11 @@ use Rattle.qc_core.specs.declared.parts.Parts.{Parts}
 use Rattle.qc_core.specs.contracts.server.ServerKept.TheImpl.{ghosts}
 use Rattle.qc_core.specs.Whole.{Named, is_named, IsNamedAs, chain_blocks, task_blocks, listed_in, work_in, plain, tasks_of, IsWhole}
 use Rattle.qc_core.specs.Strikes.{is_of}
-use Rattle.qc_core.specs.Allocates.{MayAllocate, Prunes, PrunesMany}
+use Rattle.qc_core.specs.Allocates.{MayAllocate, PrunesMany}
 use Rattle.qc_core.specs.Overtaken.{overtakes, WasOvertaken}
-use Rattle.qc_core.specs.Grows.{FillsOn, MayGrowOn}
 use Rattle.qc_core.proofs.Uses.{find_all}
 use Rattle.qc_core.proofs.Seeking.{pair_of, pair_there}
-use Rattle.qc_core.proofs.Overtaking.{IsThere, stays_all}
+use Rattle.qc_core.proofs.Overtaking.{stays_all}
 
 -- ---- the task of the seat
 

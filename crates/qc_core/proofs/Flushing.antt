@@ -1,6 +1,6 @@
 -- The server stands while blocks move down, and takes the event of the flush.
-use Rattle.std.proofs.Common.{◌≡◌, ◌≢◌, ℕ, zero, suc, ◌+◌, ◌-◌, ◌<◌, ◌≤◌, Bool, true, false, List, [], ◌∷◌, ◌++◌, map, length, get_or, refl, sym, ap, subst, ◌∙◌, arith, inl, append-nil}
-use Rattle.std.specs.Prelude.{Option, Some, None}
+use Rattle.std.proofs.Common.{◌≡◌, ℕ, zero, suc, ◌+◌, ◌-◌, ◌<◌, List, [], get_or, refl, sym, ap, subst, ◌∙◌, arith, inl, append-nil}
+use Rattle.std.specs.Prelude.{Some, None}
 use Rattle.qc_key.specs.Hash.{hash}
 use Rattle.qc_model.specs.declared.events.Who.{Who}
 use Rattle.qc_model.specs.declared.events.Event.{Event}
@@ -13,7 +13,7 @@ use Rattle.qc_dir.specs.Directory.{IsDirectory}
 use Rattle.qc_turn.specs.Tasks.{listed_for, OutsideOtherFills}
 use Rattle.qc_turn.specs.Releases.{Follows, IsFreeOfOthers}
 use Rattle.qc_turn.specs.Views.{idle_of}
-use Rattle.qc_turn.specs.Seats.{Held, holder, words, taken, IsHeld, SameHolder, MayRelease, with_value}
+use Rattle.qc_turn.specs.Seats.{Held, holder, words, taken, SameHolder, MayRelease, with_value}
 use Rattle.qc_turn.proofs.Holders.{taken_is, number_is, same_on, same_value, held_value, follows_on}
 use Rattle.qc_sound.specs.Moment.{at_rest}
 use Rattle.qc_sound.specs.steps.Events.{IsQuiet}
@@ -23,7 +23,7 @@ use Rattle.qc_sound.proofs.Pushes.{quiet_step}
 use Rattle.qc_journal.specs.Room.{Recorded}
 use Rattle.qc_core.specs.declared.parts.Parts.{Parts}
 use Rattle.qc_core.specs.contracts.server.ServerKept.TheImpl.{ghosts}
-use Rattle.qc_core.specs.Whole.{plain, tasks_of, with_event, IsWhole, Sound}
+use Rattle.qc_core.specs.Whole.{plain, tasks_of, with_event, Sound}
 use Rattle.qc_core.specs.Calls.{IsNext, HasSpare}
 use Rattle.qc_core.specs.Connects.{is_connected}
 use Rattle.qc_core.specs.Compacts.{shifted_by, Moves, OneFreeBetween, IsCompacted, MayCarry, HasCarried}

@@ -1,12 +1,11 @@
 -- A start, when ended streams of others were struck off.
-use Rattle.std.proofs.Common.{◌≡◌, ℕ, ◌+◌, ◌*◌, ◌<◌, ◌≤◌, Bool, true, false, cond, List, [], ◌∷◌, ◌++◌, length, refl, sym, ap, subst, ◌∙◌, append-nil}
+use Rattle.std.proofs.Common.{◌≡◌, ℕ, ◌+◌, ◌*◌, ◌<◌, ◌≤◌, Bool, true, false, cond, List, [], ◌∷◌, refl, sym, ap, subst, ◌∙◌, append-nil}
 use Rattle.std.specs.Prelude.{Option, Some, None, find}
 use Rattle.qc_types.specs.declared.names.TableName.{TableName}
 use Rattle.qc_types.specs.declared.options.Options.{Options}
 use Rattle.qc_journal.specs.Room.{Recorded}
 use Rattle.qc_chain.specs.Chains.{Ranged}
 use Rattle.qc_dir.specs.Directory.{Directory}
-use Rattle.qc_dir.specs.declared.tables.TableBlock.{TableBlock}
 use Rattle.qc_model.specs.Cache.{cache}
 use Rattle.qc_model.specs.Choice.{start_count}
 use Rattle.qc_model.specs.Licence.{MayStart}

@@ -1,5 +1,5 @@
 -- Blocks that a start holds are given back.
-use Rattle.std.proofs.Common.{◌≡◌, ℕ, ◌+◌, ◌≤◌, List, ◌++◌, sym, subst, arith}
+use Rattle.std.proofs.Common.{◌≡◌, ℕ, ◌+◌, List, ◌++◌, sym, subst, arith}
 use Rattle.std.specs.Prelude.{Contains}
 use Rattle.std.specs.List.{flat_map, AllByRecursion}
 use Rattle.qc_model.specs.Licence.{region_words}
@@ -8,7 +8,6 @@ use Rattle.qc_tiles.specs.Tiles.{handed_out}
 use Rattle.qc_chain.specs.Chains.{AreHandedOut, after_release}
 use Rattle.qc_sound.specs.PlainServer.{PlainServer, EntryChain}
 use Rattle.qc_sound.specs.Moment.{Moment}
-use Rattle.qc_sound.specs.Handed.{IsGivenBack}
 use Rattle.qc_sound.specs.parts.Memory.{blocks_in_use, pinned_blocks}
 use Rattle.qc_sound.proofs.Handed.{times, times_append, times_permuted, permuted, gives_all}
 use Rattle.qc_core.specs.declared.parts.Parts.{Parts}

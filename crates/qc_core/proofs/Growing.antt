@@ -1,12 +1,11 @@
 -- The chain of an entry that is filled gets a block more, and the server stays sound.
-use Rattle.std.proofs.Common.{◌≡◌, ◌≢◌, ℕ, zero, suc, ◌+◌, ◌-◌, ◌*◌, ◌/◌, ◌<◌, ◌≤◌, eqb, eq-eqb, eqb-true, Bool, true, false, cond, List, [], ◌∷◌, ◌++◌, map, length, refl, sym, ap, subst, ◌∙◌, arith, true≢false, length-append, append-nil, inl, inr, ⊎_elim, ◌⊎◌}
-use Rattle.std.specs.Prelude.{not, ◌||◌, ◌==◌, Option, Some, None, IsSomeAnd, Contains, IsPermutation, ◌↔◌, find, unwrap_or, IfOk, Result, Ok, Err}
+use Rattle.std.proofs.Common.{◌≡◌, ◌≢◌, ℕ, ◌+◌, ◌-◌, ◌*◌, ◌/◌, ◌<◌, ◌≤◌, eqb, eqb-true, Bool, true, false, cond, List, [], ◌∷◌, ◌++◌, map, length, refl, sym, ap, subst, ◌∙◌, arith, true≢false, length-append, append-nil, inl, inr, ⊎_elim, ◌⊎◌}
+use Rattle.std.specs.Prelude.{not, ◌||◌, ◌==◌, Option, Some, None, IsSomeAnd, Contains, IsPermutation, find, unwrap_or, IfOk, Result, Ok, Err}
 use Rattle.std.specs.List.{list_any, filter, flat_map, AllByRecursion}
 use Rattle.std.proofs.lemmas.List.Recursion.{is_sum_by}
 use Rattle.std.proofs.lemmas.List.Elements.{Contains-append_left, Contains-append_right, Contains-append_cases}
 use Rattle.std.proofs.lemmas.List.Sorted.{sum_by-IsPermutation}
 use Rattle.std.proofs.lemmas.Option.{none-some, same_Some}
-use Rattle.qc_types.specs.Blocks.{least_block, raised}
 use Rattle.qc_key.specs.Hash.{hash}
 use Rattle.std.proofs.lemmas.List.Elements.{filter-append}
 use Rattle.qc_turn.specs.Views.{of_seat}
@@ -23,22 +22,22 @@ use Rattle.qc_laws.proofs.history.Serials.{both_true, opposite, neither}
 use Rattle.qc_tiles.specs.declared.blocks.Tile.{Tile}
 use Rattle.qc_tiles.specs.declared.blocks.Block.{Block}
 use Rattle.qc_tiles.specs.declared.blocks.NoTile.{NoTile}
-use Rattle.qc_tiles.specs.Tiles.{IsTiling, CoversFrom, block_of, handed_out, taken, after_take, after_pin}
+use Rattle.qc_tiles.specs.Tiles.{CoversFrom, block_of, handed_out, taken, after_take, after_pin}
 use Rattle.qc_tiles.proofs.Calls.{own_tiling}
 use Rattle.qc_tiles.proofs.Keeps.{after_pin-tiling}
 use Rattle.qc_chain.specs.Words.{words_of}
-use Rattle.qc_chain.specs.Chains.{Chained, chain_at, Begun, Ranged, after_append}
+use Rattle.qc_chain.specs.Chains.{Chained, chain_at, Begun, Ranged}
 use Rattle.qc_chain.specs.Chains.{Chain as Kept}
-use Rattle.qc_chain.proofs.Releases.{in_front, in_first, behind}
+use Rattle.qc_chain.proofs.Releases.{in_front, in_first}
 use Rattle.qc_dir.specs.declared.entries.Entry.{Entry}
 use Rattle.qc_dir.specs.Directory.{entry_at}
 use Rattle.qc_turn.specs.declared.task.Task.{Task}
 use Rattle.qc_turn.specs.declared.task.Task.TheVariants as task
 use Rattle.qc_turn.specs.Tasks.{listed_for, own}
 use Rattle.qc_sound.specs.PlainServer.{PlainServer, StoredEntry, EntryChain, SeatTask, has_chain, blocks_at, blocks_of, is_stored, listed_tasks}
-use Rattle.qc_sound.specs.Moment.{Moment, at_rest}
+use Rattle.qc_sound.specs.Moment.{at_rest}
 use Rattle.qc_sound.specs.Sound.{IsSound}
-use Rattle.qc_sound.specs.parts.Memory.{TilesAreSound, blocks_in_use, blocks_of_tasks, pinned_blocks}
+use Rattle.qc_sound.specs.parts.Memory.{TilesAreSound, blocks_in_use, blocks_of_tasks}
 use Rattle.qc_sound.specs.steps.Leaving.{is_of_seat, filling}
 use Rattle.qc_sound.specs.steps.Growing.{with_blocks, with_bytes, grown, MayGrow}
 use Rattle.qc_sound.proofs.Handed.{times, times_append, times_permuted, times_cut, self_one, permuted, pin_hands, pin_pins}

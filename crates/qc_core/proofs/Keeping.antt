@@ -1,17 +1,14 @@
 -- An entry is pruned for a start, which keeps the blocks of its own tables.
 use Rattle.std.proofs.Common.{◌≡◌, ℕ, ◌+◌, ◌-◌, ◌<◌, ◌≤◌, List, [], ◌∷◌, ◌++◌, map, length, refl, sym, ap, subst, ◌∙◌, arith, append_assoc, length-append}
-use Rattle.std.specs.Prelude.{Some, Contains, IsPermutation}
-use Rattle.std.specs.List.{AllByRecursion, list_any}
+use Rattle.std.specs.Prelude.{Some, IsPermutation}
+use Rattle.std.specs.List.{AllByRecursion}
 use Rattle.std.proofs.lemmas.List.{length-map, map-append}
 use Rattle.std.proofs.lemmas.List.Sorted.{IsPermutation-trans, IsPermutation-append_comm, IsPermutation-append_left}
 use Rattle.std.proofs.lemmas.Option.{same_Some}
-use Rattle.qc_types.specs.declared.names.TableName.{TableName}
-use Rattle.qc_types.specs.Blocks.{least_block}
-use Rattle.qc_key.specs.Hash.{hash}
 use Rattle.qc_model.specs.declared.events.Event.{Event}
 use Rattle.qc_model.specs.declared.events.Event.TheVariants as event
 use Rattle.qc_model.specs.Cache.{cache}
-use Rattle.qc_model.specs.Licence.{IsLicensed, region_words, unit_words, word_bound}
+use Rattle.qc_model.specs.Licence.{IsLicensed, unit_words, word_bound}
 use Rattle.qc_tiles.specs.declared.blocks.Tile.{Tile}
 use Rattle.qc_tiles.specs.declared.blocks.Block.{Block}
 use Rattle.qc_tiles.specs.Tiles.{handed_out, largest_free}
@@ -19,7 +16,7 @@ use Rattle.qc_chain.specs.Chains.{Chain, chain_at, after_release}
 use Rattle.qc_dir.specs.declared.entries.Entry.{Entry}
 use Rattle.qc_dir.specs.declared.tables.TableBlock.{TableBlock}
 use Rattle.qc_dir.specs.Directory.{IsDirectory, oldest_idle}
-use Rattle.qc_sound.specs.PlainServer.{PlainServer, is_stored, is_task_on}
+use Rattle.qc_sound.specs.PlainServer.{is_stored}
 use Rattle.qc_sound.specs.Moment.{Moment}
 use Rattle.qc_sound.specs.Pending.{NeedsOf}
 use Rattle.qc_sound.specs.parts.Journal.{reserved}
@@ -32,19 +29,19 @@ use Rattle.qc_sound.proofs.Holding.{hold_step}
 use Rattle.qc_sound.proofs.Needs.{needs_prune}
 use Rattle.qc_core.specs.declared.hands.Hand.{Hand}
 use Rattle.qc_core.specs.declared.parts.Parts.{Parts}
-use Rattle.qc_core.specs.Whole.{Named, stored, table_pair, plain, with_event, IsWhole, tasks_of}
+use Rattle.qc_core.specs.Whole.{Named, stored, table_pair, plain, with_event, IsWhole}
 use Rattle.qc_core.specs.Leaves.{MayLeave, Leaves, left_by, own_blocks, free_chain, has_task, table_blocks}
 use Rattle.qc_core.specs.Prunes.{MayPruneOne, PrunesOne}
 use Rattle.qc_core.specs.Allocates.{Prunes}
 use Rattle.qc_core.specs.Cuts.{cut}
-use Rattle.qc_core.specs.Hands.{IsInHand, AreSorted}
-use Rattle.qc_core.specs.Takes.{holds, IsStarting, KeepsRoom, MayKeep, LeavesKeeping, MayTakeOne, PrunesKeeping}
+use Rattle.qc_core.specs.Hands.{IsInHand}
+use Rattle.qc_core.specs.Takes.{holds, MayKeep, LeavesKeeping, MayTakeOne, PrunesKeeping}
 use Rattle.qc_core.proofs.Allocating.{held_small, going_less, prunes_so}
 use Rattle.qc_core.proofs.Cutting.{whole_blocks, count, tiles_after}
 use Rattle.qc_core.proofs.OwnBlocks.{pair_blocks, use_count}
 use Rattle.qc_core.proofs.Remaining.{words_left}
 use Rattle.qc_core.proofs.Striking.{any_in}
-use Rattle.qc_core.proofs.Pruned.{Idle, Oldest, may_leave, oldest_of, pruned_whole, names_left, after_plain}
+use Rattle.qc_core.proofs.Pruned.{Oldest, may_leave, oldest_of, pruned_whole, names_left, after_plain}
 use Rattle.qc_core.proofs.Pruning.{pruned_one}
 use Rattle.qc_core.proofs.Handing.{hand_keeps, hand_room, hand_few}
 

@@ -1,12 +1,10 @@
 -- Prunes for a start until a free block holds a need, and the block that is taken then.
-use Rattle.std.proofs.Common.{◌≡◌, ℕ, zero, suc, ◌+◌, ◌<◌, ◌≤◌, Bool, true, false, cond, List, [], ◌∷◌, ◌++◌, map, length, refl, sym, ap, subst, ◌∙◌, arith, true≢false, eq-eqb}
+use Rattle.std.proofs.Common.{◌≡◌, ℕ, zero, suc, ◌+◌, ◌<◌, ◌≤◌, true, false, cond, List, [], ◌∷◌, ◌++◌, map, refl, sym, ap, subst, ◌∙◌, arith, true≢false}
 use Rattle.std.specs.Result.{IfErr, result_ok}
 use Rattle.std.specs.Prelude.{Result, Ok, Err, IfOk, ◌==◌, ◌&&◌, Option, Some, None, find, option_map}
 use Rattle.std.specs.List.{AllByRecursion}
 use Rattle.std.proofs.lemmas.Option.{none-some}
-use Rattle.qc_types.specs.declared.names.TableName.{TableName}
 use Rattle.qc_types.specs.declared.options.Options.{Options}
-use Rattle.qc_model.specs.declared.events.Event.{Event}
 use Rattle.qc_model.specs.Cache.{cache}
 use Rattle.qc_model.specs.Licence.{region_words, unit_words}
 use Rattle.qc_model.specs.Needs.{PruneHasNeed}
@@ -17,16 +15,14 @@ use Rattle.qc_tiles.specs.Tiles.{taken, after_take, largest_free}
 use Rattle.qc_chain.specs.Chains.{Chained}
 use Rattle.qc_dir.specs.declared.entries.Entry.{Entry}
 use Rattle.qc_dir.specs.Directory.{is_idle, oldest_idle}
-use Rattle.qc_sound.specs.PlainServer.{StoredEntry}
-use Rattle.qc_sound.specs.Room.{Restless}
 use Rattle.qc_sound.specs.parts.Journal.{reserved}
 use Rattle.qc_sound.proofs.Grounds.{lacks_room}
 use Rattle.qc_sound.proofs.Handed.{times_append}
 use Rattle.qc_core.specs.declared.hands.Hand.{Hand}
 use Rattle.qc_core.specs.declared.parts.Parts.{Parts}
-use Rattle.qc_core.specs.Whole.{stored, plain, IsWhole}
+use Rattle.qc_core.specs.Whole.{stored, plain}
 use Rattle.qc_core.specs.Leaves.{table_blocks}
-use Rattle.qc_core.specs.Allocates.{LacksTile, holding, PrunesMany, Prunes}
+use Rattle.qc_core.specs.Allocates.{holding}
 use Rattle.qc_core.specs.Takes.{holds, IsStarting, MayTakeOne, PrunesKeeping, PrunesSome, HasNone, TakesKeeping}
 use Rattle.qc_core.proofs.Allocating.{held_whole, holds_some}
 use Rattle.qc_core.proofs.FillTasks.{pruned_after}

@@ -1,13 +1,12 @@
 -- A block moves down, and the server stays sound where its words are carried along.
-use Rattle.std.proofs.Common.{◌≡◌, ◌≢◌, ℕ, zero, suc, ◌+◌, ◌-◌, ◌<◌, ◌≤◌, Bool, true, false, cond, List, [], ◌∷◌, ◌++◌, map, length, refl, sym, ap, subst, ◌∙◌, arith, length-append}
-use Rattle.std.specs.Prelude.{not, Option, Some, None, is_some, is_none, option_map, option_and_then, slice_get, IfSome, find, Contains}
+use Rattle.std.proofs.Common.{◌≡◌, ℕ, zero, suc, ◌-◌, true, List, [], ◌∷◌, map, length, refl, sym, ap, subst, ◌∙◌, arith, length-append}
+use Rattle.std.specs.Prelude.{Option, Some, None, is_some, is_none, option_map, option_and_then, slice_get}
 use Rattle.std.specs.List.{filter, flat_map, AllByRecursion}
 use Rattle.std.proofs.lemmas.List.{length-map}
 use Rattle.qc_key.specs.Hash.{hash}
 use Rattle.qc_model.specs.Licence.{region_words}
 use Rattle.qc_tiles.specs.declared.blocks.Block.{Block}
 use Rattle.qc_tiles.specs.declared.blocks.Move.{Move}
-use Rattle.qc_tiles.specs.declared.blocks.Tile.{Tile}
 use Rattle.qc_tiles.specs.Tiles.{moved, movable, after_move_down}
 use Rattle.qc_chain.specs.Chains.{Chained, chain_at, after_shift, moved_chain}
 use Rattle.qc_chain.specs.Chains.{Chain as Kept}
@@ -15,17 +14,16 @@ use Rattle.qc_dir.specs.declared.entries.Entry.{Entry}
 use Rattle.qc_dir.specs.declared.tables.TableBlock.{TableBlock}
 use Rattle.qc_dir.specs.Directory.{IsDirectory}
 use Rattle.qc_dir.specs.Directory as dir
-use Rattle.qc_sound.specs.PlainServer.{PlainServer, serial_of, listed_tasks}
-use Rattle.qc_sound.specs.Moment.{Moment, at_rest}
+use Rattle.qc_sound.specs.PlainServer.{listed_tasks}
+use Rattle.qc_sound.specs.Moment.{at_rest}
 use Rattle.qc_sound.specs.Sound.{IsSound}
 use Rattle.qc_sound.specs.steps.Moving.{shifted, MovesWords}
 use Rattle.qc_sound.specs.steps.Moving as meant
 use Rattle.qc_sound.proofs.Moving.{move_step}
 use Rattle.qc_sound.proofs.MovedTiles.{moves_tiles}
 use Rattle.qc_sound.proofs.Places.{moves_spell}
-use Rattle.qc_core.specs.declared.parts.RunningTask.{RunningTask}
 use Rattle.qc_core.specs.declared.parts.Parts.{Parts}
-use Rattle.qc_core.specs.Whole.{Named, IsNamedAs, chain_blocks, chain_bytes, chain_in, stored, table_pair, plain, tasks_of, free_names, ChainsHaveRoom, IsNamed, IsWhole, Sound}
+use Rattle.qc_core.specs.Whole.{Named, IsNamedAs, chain_blocks, chain_bytes, chain_in, stored, table_pair, plain, tasks_of, ChainsHaveRoom, IsNamed, IsWhole}
 use Rattle.qc_core.specs.KeptLaws.{tasks_same}
 use Rattle.qc_core.specs.Compacts.{shifted_by}
 

@@ -1,12 +1,11 @@
 -- A start, as the lock sees it.
-use Rattle.std.proofs.Common.{◌≡◌, ◌≢◌, ℕ, zero, suc, ◌+◌, ◌-◌, ◌*◌, ◌/◌, ◌<◌, ◌≤◌, Bool, true, false, cond, List, [], ◌∷◌, ◌++◌, map, length, get_or, refl, sym, ap, subst, ◌∙◌, arith, true≢false, append_assoc, append-nil, inl, ⊎_elim, ◌⊎◌}
-use Rattle.std.specs.Prelude.{Option, Some, None, count_by, not, is_some, ◌||◌, ◌==◌}
-use Rattle.std.specs.List.{list_any, filter}
+use Rattle.std.proofs.Common.{◌≡◌, ℕ, zero, suc, ◌+◌, ◌-◌, ◌*◌, ◌<◌, ◌≤◌, Bool, true, false, cond, List, [], ◌∷◌, ◌++◌, length, refl, sym, ap, subst, ◌∙◌, arith, append_assoc, append-nil, inl, ⊎_elim, ◌⊎◌}
+use Rattle.std.specs.Prelude.{None, count_by, not, is_some, ◌||◌, ◌==◌}
+use Rattle.std.specs.List.{list_any}
 use Rattle.std.proofs.lemmas.List.Elements.{filter-append}
 use Rattle.std.proofs.lemmas.List.Sums.{sum_by_push}
 use Rattle.qc_types.specs.declared.names.TableName.{TableName}
 use Rattle.qc_types.specs.declared.options.Options.{Options}
-use Rattle.qc_types.specs.Blocks.{least_block, raised}
 use Rattle.qc_key.specs.Hash.{hash}
 use Rattle.qc_laws.proofs.history.Events.{cache_push, present_push}
 use Rattle.qc_laws.proofs.history.Serials.{neither}
@@ -19,8 +18,8 @@ use Rattle.qc_model.specs.Cache.{cache, is_run, is_start}
 use Rattle.qc_model.specs.Cache.{Entry as Cached}
 use Rattle.qc_model.specs.Cache.{without as cached_without}
 use Rattle.qc_model.specs.Choice.{has_key, start_count}
-use Rattle.qc_model.specs.Journal.{Journal, event_count, is_by, present}
-use Rattle.qc_model.specs.Licence.{MayStart, LacksRoom, region_words, unit_words, words_of_bytes}
+use Rattle.qc_model.specs.Journal.{Journal, event_count, is_by}
+use Rattle.qc_model.specs.Licence.{MayStart, region_words, unit_words}
 use Rattle.qc_model.specs.Session.{answer}
 use Rattle.qc_tiles.specs.declared.blocks.Tile.{Tile}
 use Rattle.qc_tiles.specs.declared.blocks.Block.{Block}
@@ -36,8 +35,7 @@ use Rattle.qc_turn.specs.Views.{idle_of, of_seat}
 use Rattle.qc_turn.specs.Seats.{Held, holder, words, taken, IsHeld, SameHolder, MayRelease, with_value, with_ranges}
 use Rattle.qc_turn.proofs.Holders.{taken_is, number_is, same_value, held_value, follows_on, of_seat_else}
 use Rattle.qc_sound.specs.PlainServer.{PlainServer, blocks_of, listed_tasks}
-use Rattle.qc_sound.specs.Moment.{Moment, at_rest}
-use Rattle.qc_sound.specs.Sound.{IsSound}
+use Rattle.qc_sound.specs.Moment.{at_rest}
 use Rattle.qc_sound.specs.parts.Journal.{reserved}
 use Rattle.qc_sound.specs.parts.Memory.{blocks_in_use}
 use Rattle.qc_sound.specs.parts.Tasks.{IsSeat, SeatTaskIsSound}
@@ -53,14 +51,14 @@ use Rattle.qc_core.specs.declared.hands.Hand.{Hand}
 use Rattle.qc_core.specs.declared.takes.Taken.{Taken}
 use Rattle.qc_core.specs.declared.parts.Parts.{Parts}
 use Rattle.qc_core.specs.contracts.server.ServerKept.TheImpl.{ghosts}
-use Rattle.qc_core.specs.Whole.{Named, plain, tasks_of, with_event, IsWhole, Sound}
+use Rattle.qc_core.specs.Whole.{plain, tasks_of, with_event, IsWhole, Sound}
 use Rattle.qc_core.specs.KeptLaws.{tasks_same}
-use Rattle.qc_core.specs.Calls.{IsNext, HasSpare, HasMoreRoom}
+use Rattle.qc_core.specs.Calls.{IsNext, HasMoreRoom}
 use Rattle.qc_core.specs.Connects.{is_connected}
 use Rattle.qc_core.specs.Leaves.{table_blocks}
 use Rattle.qc_core.specs.Allocates.{Prunes, PrunesMany}
 use Rattle.qc_core.specs.Starts.{TakesOne, Takes, IsShortOf, MayBegin, HasStartRoom, AddsFill, needs_for, without_block}
-use Rattle.qc_core.specs.Takes.{holds, starts, next_of, IsStarting, KeepsRoom, MayTake, TakesAll, Stops}
+use Rattle.qc_core.specs.Takes.{holds, starts, next_of, IsStarting, MayTake, TakesAll, Stops}
 use Rattle.qc_core.specs.Texts.{MayStore, HasStored}
 use Rattle.qc_core.specs.Adds.{MayAdd, IsAdded, HoldsBlocks, HoldsText, HoldsNothing}
 use Rattle.qc_core.proofs.Adding.{block_within, text_held, may_add, names, added_whole, added_others, added_alone, adds_so}

@@ -2,10 +2,7 @@
 use Rattle.std.specs.Prelude.{◌≡◌, ℕ, ◌+◌, ◌-◌, ◌*◌, ◌^◌, ◌<◌, ◌≤◌, true, List, [], ◌∷◌, ◌++◌, length, slice_get, Some, None, Contains}
 use Rattle.qc_types.specs.declared.names.TableName.{TableName}
 use Rattle.qc_types.specs.Blocks.{least_block, raised}
-use Rattle.qc_key.specs.Hash.{hash}
 use Rattle.qc_model.specs.declared.events.Event.{Event}
-use Rattle.qc_model.specs.declared.events.Event.TheVariants as event
-use Rattle.qc_model.specs.declared.events.How.TheVariants as how
 use Rattle.qc_model.specs.declared.events.Who.{Who}
 use Rattle.qc_model.specs.Choice.{start_count}
 use Rattle.qc_model.specs.Licence.{MayStart, LacksRoom, unit_words, words_of_bytes}

@@ -1,7 +1,5 @@
 -- Blocks move down, with their words.
-use Rattle.std.specs.Prelude.{◌≡◌, ◌≢◌, ℕ, zero, suc, ◌+◌, ◌<◌, ◌≤◌, List, [], ◌∷◌, length, slice_index, option_map, Some, None, if◌then◌else◌}
-use Rattle.qc_model.specs.declared.events.Who.{Who}
-use Rattle.qc_model.specs.declared.events.Event.TheVariants as event
+use Rattle.std.specs.Prelude.{◌≡◌, ℕ, zero, suc, ◌+◌, ◌<◌, ◌≤◌, List, [], ◌∷◌, length, slice_index, Some, None, if◌then◌else◌}
 use Rattle.qc_tiles.specs.declared.blocks.Move.{Move}
 use Rattle.qc_tiles.specs.declared.blocks.Tile.{Tile}
 use Rattle.qc_tiles.specs.Tiles.{movable, after_move_down}
@@ -13,7 +11,6 @@ use Rattle.qc_turn.specs.Seats.{Held, holder, words, taken, IsHeld, SameHolder}
 use Rattle.qc_turn.specs.Releases.{IsFreeOfOthers}
 use Rattle.qc_turn.specs.Views.{idle_of}
 use Rattle.qc_core.specs.declared.parts.Parts.{Parts}
-use Rattle.qc_core.specs.Whole.{with_event}
 
 -- the block of a move stands where it went, whatever it is for
 abbrev pub shifted_by : Move → Parts → Parts

@@ -1,11 +1,10 @@
 -- What a start under way has in hand: blocks of its tables that no entry names.
-use Rattle.std.specs.Prelude.{◌≡◌, ℕ, ◌+◌, ◌≤◌, true, false, List, [], ◌∷◌, ◌++◌, length, IsPermutation}
+use Rattle.std.specs.Prelude.{◌≡◌, ℕ, ◌+◌, ◌≤◌, true, false, List, ◌++◌, length, IsPermutation}
 use Rattle.std.specs.List.{list_any, AllByRecursion}
 use Rattle.qc_types.specs.declared.names.TableName.{TableName}
 use Rattle.qc_sql.specs.Database.{same_table}
 use Rattle.qc_tiles.specs.declared.blocks.Tile.{Tile}
-use Rattle.qc_tiles.specs.Tiles.{IsTiling, region_words}
-use Rattle.qc_chain.specs.Chains.{AreHandedOut, after_release}
+use Rattle.qc_chain.specs.Chains.{after_release}
 use Rattle.qc_dir.specs.declared.tables.TableBlock.{TableBlock}
 use Rattle.qc_dir.specs.Directory.{is_block_of}
 use Rattle.qc_dir.specs.Keys.{total, bit}

@@ -1,5 +1,5 @@
 -- The blocks of a start are taken, one after another, and the blocks of its own tables are kept for it while entries are pruned.
-use Rattle.std.specs.Prelude.{◌≡◌, ℕ, ◌+◌, ◌^◌, ◌<◌, ◌≤◌, true, List, [], ◌∷◌, ◌++◌, map, length, Option, Some, None, IsPermutation}
+use Rattle.std.specs.Prelude.{◌≡◌, ℕ, ◌+◌, ◌^◌, ◌<◌, ◌≤◌, List, [], ◌∷◌, ◌++◌, map, length, Option, Some, IsPermutation}
 use Rattle.std.specs.List.{AllByRecursion}
 use Rattle.qc_types.specs.declared.names.TableName.{TableName}
 use Rattle.qc_types.specs.declared.options.Options.{Options}
@@ -15,8 +15,8 @@ use Rattle.qc_model.specs.Licence.{LacksRoom, unit_words, words_of_bytes}
 use Rattle.qc_model.specs.Needs.{PruneHasNeed}
 use Rattle.qc_tiles.specs.declared.blocks.Block.{Block}
 use Rattle.qc_tiles.specs.declared.blocks.NoTile.{NoTile}
-use Rattle.qc_tiles.specs.Tiles.{taken, after_take, largest_free}
-use Rattle.qc_chain.specs.Chains.{Chain, after_release}
+use Rattle.qc_tiles.specs.Tiles.{taken, largest_free}
+use Rattle.qc_chain.specs.Chains.{Chain}
 use Rattle.qc_dir.specs.declared.entries.Entry.{Entry}
 use Rattle.qc_dir.specs.declared.tables.TableBlock.{TableBlock}
 use Rattle.qc_dir.specs.Directory.{RemovesEntry}
@@ -26,7 +26,7 @@ use Rattle.qc_core.specs.declared.hands.Hand.{Hand}
 use Rattle.qc_core.specs.declared.takes.Taken.{Taken}
 use Rattle.qc_core.specs.declared.parts.Parts.{Parts}
 use Rattle.qc_core.specs.Whole.{Named, IsWhole}
-use Rattle.qc_core.specs.Leaves.{table_blocks, own_blocks, has_task, free_chain, left_by}
+use Rattle.qc_core.specs.Leaves.{table_blocks, has_task, left_by}
 use Rattle.qc_core.specs.Allocates.{Prunes, PrunesMany, LacksTile}
 use Rattle.qc_core.specs.Hands.{own_in, AreSorted, IsInHand}
 use Rattle.qc_core.specs.Starts.{TakesOne, Takes, IsShortOf, needs_for}

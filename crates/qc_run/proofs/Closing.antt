@@ -1,22 +1,21 @@
 -- From the sessions and what the last seat gave, the whole.
-use Rattle.std.proofs.Common.{◌≡◌, ◌≢◌, ℕ, zero, suc, ◌+◌, ◌-◌, ◌<◌, ◌≤◌, ◌==◌, Bool, true, false, List, [], ◌∷◌, ◌++◌, length, map, take, Option, Some, None, refl, sym, ap, ◌∙◌, subst, arith, append_assoc, take_all, get_or, true≢false, eqb, eq-eqb, eqb-true}
+use Rattle.std.proofs.Common.{◌≡◌, ◌≢◌, ℕ, zero, suc, ◌+◌, ◌-◌, ◌<◌, ◌≤◌, ◌==◌, Bool, true, false, List, [], ◌∷◌, ◌++◌, length, map, Option, Some, None, refl, sym, ap, ◌∙◌, subst, arith, take_all, get_or, true≢false, eqb, eq-eqb, eqb-true}
 use lib.ListN.{length-map}
 use Rattle.std.specs.Prelude.{IfSome, ◌||◌}
 use mathlib.Core.Option.{some}
 use lib.ListN.{get_elem?}
-use Rattle.std.specs.List.{All, AllZip}
+use Rattle.std.specs.List.{AllZip}
 use Rattle.qc_types.specs.declared.options.Options.{Options}
 use Rattle.qc_sql.specs.Words.{is_among}
 use Rattle.qc_model.specs.declared.events.Event.{Event}
 use Rattle.qc_model.specs.declared.reports.Ending.{Ending}
-use Rattle.qc_model.specs.declared.reports.ReportLine.{ReportLine}
 use Rattle.qc_model.specs.declared.reports.SessionReport.{SessionReport}
 use Rattle.qc_model.specs.declared.reports.Script.{Script}
 use Rattle.qc_model.specs.Agrees.{Agrees, commands_of, inputs_from, inputs_of, whole_machine}
 use Rattle.qc_model.specs.Journal.{Journal, events_of}
 use Rattle.qc_model.specs.Licence.{IsLawful}
 use Rattle.qc_model.specs.Needs.{HasNeeds}
-use Rattle.qc_model.specs.Session.{State, starting}
+use Rattle.qc_model.specs.Session.{starting}
 use Rattle.qc_laws.specs.runs.Runs.{HasEnded, HaveEnded, IsClosed, Position, Runs, StartsWith, numbers, own, stand}
 use Rattle.qc_laws.specs.runs.Runs as runs
 use Rattle.qc_laws.proofs.runs.Steps.{of_seat_is}
@@ -33,7 +32,6 @@ use Rattle.qc_core.specs.declared.parts.Parts.{Parts}
 use Rattle.qc_core.specs.Whole.{IsSomewhereSound}
 use Rattle.qc_sound.proofs.Needs.{needs_are}
 use Rattle.qc_serve.specs.declared.connecting.Receipt.{Receipt}
-use Rattle.qc_serve.specs.declared.session.Session.{Session}
 use Rattle.qc_serve.specs.Going.{as_fixed, number_of, position_of, seen_by}
 use Rattle.qc_serve.specs.Leaving.{HasLeft}
 use Rattle.qc_serve.specs.Logs.{logged_line}

@@ -1,5 +1,5 @@
 -- The names of columns in the journal of a sound server are short.
-use Rattle.std.proofs.Common.{◌≡◌, zero, suc, ◌<◌, Bool, true, List, [], ◌∷◌, length, arith}
+use Rattle.std.proofs.Common.{◌≡◌, zero, suc, Bool, true, List, [], ◌∷◌, arith}
 use Rattle.std.specs.List.{list_all, All}
 use Rattle.std.proofs.lemmas.Bool.{and_parts}
 use Rattle.qc_sql.specs.declared.tables.Column.{Column}
@@ -9,7 +9,6 @@ use Rattle.qc_types.specs.declared.options.Options.{Options}
 use Rattle.qc_model.specs.declared.events.Event.{Event}
 use Rattle.qc_model.specs.declared.events.Event.TheVariants as event
 use Rattle.qc_model.specs.declared.reports.SessionReport.{SessionReport}
-use Rattle.qc_model.specs.Journal.{Journal}
 use Rattle.qc_laws.specs.runs.Runs.{report_of}
 use Rattle.qc_laws.specs.sizes.Names.{is_short}
 use Rattle.qc_laws.specs.sizes.Replies.{is_bounded_column, is_bounded_kind, is_bounded_operation}

@@ -1,5 +1,5 @@
 -- Seats are split off, and sessions begin there.
-use Rattle.std.proofs.Common.{◌≡◌, ℕ, ◌+◌, ◌<◌, ◌≤◌, List, [], ◌∷◌, ◌++◌, length, take, drop, refl, sym, ap, ◌∙◌, subst, arith, append-nil, length-append, length-take, drop_of_length-le, Option, None}
+use Rattle.std.proofs.Common.{◌≡◌, ℕ, ◌+◌, ◌<◌, ◌≤◌, List, [], ◌∷◌, ◌++◌, length, take, drop, refl, sym, ap, ◌∙◌, subst, arith, length-append, length-take, drop_of_length-le, Option}
 use Rattle.std.specs.Prelude.{slice_index_or}
 use Rattle.std.specs.List.{AllZip}
 use Rattle.std.proofs.lemmas.List.{take_more}
@@ -21,7 +21,7 @@ use Rattle.qc_serve.specs.declared.session.Session.{Session}
 use Rattle.qc_serve.specs.Connecting.{HasBegun}
 use Rattle.qc_serve.specs.Going.{number_of, seen_by}
 use Rattle.qc_run.specs.declared.slots.Slot.{Slot}
-use Rattle.qc_run.specs.Opens.{AreOpen, HasSplit, IsFirst, IsOpen, IsOpening}
+use Rattle.qc_run.specs.Opens.{AreOpen, HasSplit, IsOpen, IsOpening}
 use Rattle.qc_run.specs.Slots.{new_slot}
 use Rattle.qc_run.proofs.Lists.{zip_push}
 

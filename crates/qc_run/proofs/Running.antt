@@ -1,7 +1,6 @@
 -- From sessions that have begun to sessions that were served.
-use Rattle.std.proofs.Common.{◌≡◌, ◌≢◌, ℕ, zero, suc, ◌+◌, ◌<◌, ◌≤◌, Bool, true, List, [], ◌∷◌, ◌++◌, length, map, take, drop, reverse, Option, Some, None, refl, sym, ap, ◌∙◌, subst, arith, append-nil, append_assoc, length-append, take_all, drop_of_length-le, eqb, eq-eqb, eqb-true, true≢false, false, length-set, length-take}
-use lib.ListN.{length-map}
-use Rattle.std.specs.Prelude.{IfSome, OnOk, Result, Ok, slice_index_or, slice_set}
+use Rattle.std.proofs.Common.{◌≡◌, ℕ, zero, suc, ◌+◌, ◌<◌, ◌≤◌, List, [], ◌∷◌, ◌++◌, length, map, take, drop, Option, Some, refl, sym, ap, ◌∙◌, subst, arith, append-nil, drop_of_length-le, length-take}
+use Rattle.std.specs.Prelude.{IfSome, slice_index_or}
 use Rattle.std.specs.List.{All, AllZip}
 use Rattle.qc_types.specs.declared.options.Options.{Options}
 use Rattle.qc_model.specs.declared.events.Event.{Event}
@@ -23,7 +22,7 @@ use Rattle.qc_serve.specs.Leaving.{HasLeft}
 use Rattle.qc_run.specs.declared.slots.Slot.{Slot}
 use Rattle.qc_run.specs.Inputs.{HasAnswered}
 use Rattle.qc_run.specs.declared.outcomes.Outcome.{Outcome}
-use Rattle.qc_run.specs.Meets.{AreOutcomes, HasMet, IsOutcomeOf, MayBeMet, MayMeet, kept_of, receipt_of, report_of}
+use Rattle.qc_run.specs.Meets.{AreOutcomes, HasMet, IsOutcomeOf, MayBeMet, kept_of, receipt_of, report_of}
 use Rattle.qc_run.specs.Opens.{AreOpen, IsOpen}
 use Rattle.qc_run.specs.Ran.{HaveServed}
 use Rattle.qc_run.specs.Slots.{IsServed, MayServe}

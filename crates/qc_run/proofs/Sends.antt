@@ -4,7 +4,7 @@ use denote.Builtin.{u32, u64}
 use denote.Struct.Field.{u64-field}
 use denote.Param.Send.{IsSend, IsSync, sendable, view_send}
 use denote.Param.SendFields.{declared_send, as_row_send}
-use Rattle.std.proofs.Crossing.{crosses, Box-send}
+use Rattle.std.proofs.Crossing.{crosses}
 use Rattle.std.proofs.Crossing as std
 use Rattle.qc_turn.proofs.seat.Seat.TheSendSync as seat
 use Rattle.qc_turn.proofs.turn.Turn.TheSendSync as turn

@@ -13,7 +13,7 @@ use Rattle.qc_model.specs.declared.events.Event.{Event}
 use Rattle.qc_model.specs.declared.reports.Ending.{Ending}
 use Rattle.qc_model.specs.declared.reports.Ending.TheVariants as ending
 use Rattle.qc_model.specs.declared.reports.ReportLine.{ReportLine}
-use Rattle.qc_model.specs.Agrees.{commands_of, ending_of, then_commands, whole_machine}
+use Rattle.qc_model.specs.Agrees.{commands_of, then_commands, whole_machine}
 use Rattle.qc_laws.specs.runs.Cuts.{Takes}
 use Rattle.qc_laws.proofs.runs.Composes.{answered}
 use Rattle.qc_laws.proofs.runs.Cutting.{cuts_none, cuts_one, takes_all, takes_more, takes_one}
@@ -22,7 +22,6 @@ use Rattle.qc_core.specs.declared.parts.Parts.{Parts}
 use Rattle.qc_wire.specs.Commands.{ReadsCommand}
 use Rattle.qc_serve.specs.declared.ending.End.{End}
 use Rattle.qc_serve.specs.declared.ending.End.TheVariants as end
-use Rattle.qc_serve.specs.declared.execution.Executed.{Executed}
 use Rattle.qc_serve.specs.declared.execution.Executed.TheVariants as executed
 use Rattle.qc_serve.specs.declared.session.Session.{Session}
 use Rattle.qc_serve.specs.declared.sinks.Piece.{Piece}

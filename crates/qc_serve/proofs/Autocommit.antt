@@ -7,7 +7,7 @@ use Rattle.qc_sql.specs.declared.statements.Setting.TheVariants as setting
 use Rattle.qc_sql.specs.Database.{Name}
 use Rattle.qc_model.specs.declared.events.Who.{Who}
 use Rattle.qc_model.specs.Journal.{Journal}
-use Rattle.qc_model.specs.Machine.{Given, ended_with, ok_reply, other, set_autocommit}
+use Rattle.qc_model.specs.Machine.{ended_with, ok_reply, other, set_autocommit}
 use Rattle.qc_model.specs.Session.{State, with_transaction}
 use Rattle.qc_model.specs.Settings.{is_autocommit, set_to, with}
 use Rattle.qc_steps.specs.Statements.{switched}

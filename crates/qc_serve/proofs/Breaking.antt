@@ -1,5 +1,5 @@
 -- A session ends at a command.
-use Rattle.std.proofs.Common.{◌≡◌, ℕ, ◌+◌, ◌-◌, ◌<◌, ◌≤◌, List, [], ◌∷◌, ◌++◌, length, take, refl, sym, ap, ◌∙◌, subst, arith, append-nil, inl, inr, Option, Some, None, Result, Ok, Err, OnErr}
+use Rattle.std.proofs.Common.{◌≡◌, ℕ, ◌+◌, ◌-◌, ◌≤◌, List, [], ◌∷◌, ◌++◌, length, take, refl, sym, ap, ◌∙◌, subst, arith, append-nil, inl, inr, Option, Some, None, Result, Ok, Err, OnErr}
 use Rattle.std.specs.Prelude.{◌⊎◌, MatchOption, map}
 use lib.Seq.{take-append-le}
 use Rattle.qc_types.specs.declared.options.Options.{Options}
@@ -28,8 +28,8 @@ use Rattle.qc_serve.specs.declared.execution.Executed.{Executed}
 use Rattle.qc_serve.specs.declared.log.Logged.{Logged}
 use Rattle.qc_serve.specs.declared.session.Session.{Session}
 use Rattle.qc_serve.specs.declared.sinks.Piece.{Piece}
-use Rattle.qc_serve.specs.Executed.{HasEnded, HasEventLine, IsReplied, Leaves, MustEnd, Quits, SendsPart}
-use Rattle.qc_serve.specs.Going.{DoesOne, IsAtRest, MayAnswer, Stops, number_of, position_of, seen_by, standing_of}
+use Rattle.qc_serve.specs.Executed.{HasEnded, HasEventLine, Leaves, MustEnd, Quits, SendsPart}
+use Rattle.qc_serve.specs.Going.{DoesOne, Stops, number_of, position_of, seen_by, standing_of}
 use Rattle.qc_serve.specs.Leaving.{HasLeft}
 use Rattle.qc_serve.specs.Logs.{DropsLocal, Lines, kept_line, logged, logged_event, logged_line}
 use Rattle.qc_serve.specs.Seats.{GoesOn, SeatRests}

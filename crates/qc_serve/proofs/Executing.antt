@@ -1,5 +1,5 @@
 -- Each statement was answered.
-use Rattle.std.proofs.Common.{◌≡◌, ℕ, ◌+◌, true, false, List, length, refl, sym, ap, ◌∙◌, subst, None, Ok, Err, Result, true≢false}
+use Rattle.std.proofs.Common.{◌≡◌, ℕ, ◌+◌, true, false, List, length, refl, sym, ◌∙◌, None, Ok, Err, Result, true≢false}
 use Rattle.std.specs.Prelude.{MatchResult}
 use Rattle.qc_types.specs.declared.sql_error.SqlError.{SqlError}
 use Rattle.qc_types.specs.declared.totals.Totals.{Totals}
@@ -16,7 +16,7 @@ use Rattle.qc_model.specs.declared.events.Event.{Event}
 use Rattle.qc_model.specs.declared.events.Event.TheVariants as event
 use Rattle.qc_model.specs.declared.events.Who.{Who}
 use Rattle.qc_model.specs.Journal.{Journal}
-use Rattle.qc_model.specs.Machine.{Given, begun, changed_form, ended_with, ok_reply, other, refused, set_autocommit, used}
+use Rattle.qc_model.specs.Machine.{begun, changed_form, ended_with, ok_reply, other, refused, set_autocommit, used}
 use Rattle.qc_model.specs.Session.{State, arrived, base, with_transaction}
 use Rattle.qc_model.specs.Settings.{is_autocommit, set_to}
 use Rattle.qc_laws.specs.fits.Sound.{changes_tables}

@@ -1,5 +1,5 @@
 -- Whose the event is that a command gives, and whose the next state.
-use Rattle.std.proofs.Common.{◌≡◌, ℕ, Bool, true, false, cond, List, [], ◌∷◌, refl, sym, subst, Option, None, Some, Result, Ok, Err, eq-eqb}
+use Rattle.std.proofs.Common.{◌≡◌, ℕ, Bool, true, false, cond, List, [], ◌∷◌, refl, subst, Option, None, Some, Result, Ok, Err, eq-eqb}
 use Rattle.std.specs.Prelude.{◌&&◌, not}
 use Rattle.qc_types.specs.declared.names.TableName.{TableName}
 use Rattle.qc_types.specs.declared.sql_error.SqlError.{SqlError}
@@ -10,7 +10,6 @@ use Rattle.qc_sql.specs.Database.{Name, Tables, apply, tables_of}
 use Rattle.qc_sql.specs.Effects.{Effect, effect}
 use Rattle.qc_model.specs.declared.events.Event.{Event}
 use Rattle.qc_model.specs.declared.events.Event.TheVariants as event
-use Rattle.qc_model.specs.declared.events.How.TheVariants as how
 use Rattle.qc_model.specs.declared.events.Who.{Who}
 use Rattle.qc_model.specs.declared.reports.Word.TheVariants as word
 use Rattle.qc_model.specs.Agrees.{word_of}

@@ -1,7 +1,6 @@
 -- What came under the turn is what the machine gives.
 use Rattle.std.specs.Prelude.{IfOk, option_map}
-use Rattle.std.proofs.Common.{◌≡◌, ℕ, ◌+◌, Bool, true, false, List, [], ◌∷◌, ◌++◌, length, refl, sym, ap, ◌∙◌, subst, Option, None, Some, Result, Ok, Err, true≢false}
-use Rattle.qc_types.specs.declared.sql_error.SqlError.{SqlError}
+use Rattle.std.proofs.Common.{◌≡◌, ℕ, ◌+◌, true, false, List, length, refl, sym, ap, ◌∙◌, subst, Option, None, Result, true≢false}
 use Rattle.qc_types.specs.declared.totals.Totals.{Totals}
 use Rattle.qc_sql.specs.declared.replies.Reply.{Reply}
 use Rattle.qc_sql.specs.declared.statements.Statement.{Statement}
@@ -9,10 +8,8 @@ use Rattle.qc_sql.specs.declared.statements.Statement.TheVariants as statement
 use Rattle.qc_sql.specs.Effects.{effect}
 use Rattle.qc_sql.specs.Errors.{table_full, write_conflict}
 use Rattle.qc_sql.specs.Packets.{packets}
-use Rattle.qc_laws.specs.fits.Sound.{changes_tables}
 use Rattle.qc_model.specs.declared.events.Event.{Event}
 use Rattle.qc_model.specs.declared.events.Event.TheVariants as event
-use Rattle.qc_model.specs.declared.events.How.{How}
 use Rattle.qc_model.specs.declared.events.How.TheVariants as how
 use Rattle.qc_model.specs.declared.events.Who.{Who}
 use Rattle.qc_model.specs.Journal.{Journal}
@@ -27,7 +24,6 @@ use Rattle.qc_serve.specs.declared.rows.RowsEnd.{RowsEnd}
 use Rattle.qc_serve.specs.declared.rows.RowsEnd.TheVariants as rows
 use Rattle.qc_serve.specs.declared.forms.FormsEnd.{FormsEnd}
 use Rattle.qc_serve.specs.declared.forms.FormsEnd.TheVariants as forms
-use Rattle.qc_laws.specs.sizes.Replies.{FitsError}
 use Rattle.qc_serve.specs.Ends.{EndsAs, FormsAs, FormsFit, HasFittingError, IsGiven, RowsAs, RowsFit, ended_reply, forms_reply, forms_state, rows_reply}
 use Rattle.qc_trx.specs.SnapshotStates.{SnapshotState}
 use Rattle.qc_turn.specs.declared.turn.Turn.{Turn}

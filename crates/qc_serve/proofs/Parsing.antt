@@ -21,7 +21,7 @@ use Rattle.qc_model.specs.declared.reports.Word.{Word}
 use Rattle.qc_model.specs.declared.reports.Word.TheVariants as word
 use Rattle.qc_model.specs.Agrees.{line, who_of, whole_machine, word_of}
 use Rattle.qc_model.specs.Journal.{Journal, before}
-use Rattle.qc_model.specs.Machine.{ExecutesStatement, ExecutesText, Gives, Given, Local, begun, changed_form, ended_with, set_autocommit}
+use Rattle.qc_model.specs.Machine.{ExecutesStatement, ExecutesText, Gives, Given, Local, begun}
 use Rattle.qc_model.specs.Session.{State, arrived, base, with_transaction}
 use Rattle.qc_model.specs.Settings.{set_to}
 use Rattle.qc_laws.specs.runs.Runs.{HasItsEvent, HasNoEvent, Position, own}

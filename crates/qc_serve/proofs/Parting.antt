@@ -1,5 +1,5 @@
 -- A seat connects, and leaves.
-use Rattle.std.proofs.Common.{◌≡◌, ℕ, ◌+◌, ◌-◌, ◌<◌, ◌≤◌, Bool, true, false, cond, not, List, [], ◌∷◌, refl, sym, ap, ◌∙◌, subst, arith, inl, inr, rules}
+use Rattle.std.proofs.Common.{◌≡◌, ℕ, ◌-◌, ◌<◌, Bool, true, false, cond, not, List, [], ◌∷◌, refl, sym, ap, ◌∙◌, subst, arith, inl, inr, rules}
 use Rattle.std.specs.Prelude.{◌==◌, ◌||◌}
 use Rattle.std.specs.List.{list_any, filter}
 use Rattle.std.proofs.lemmas.List.Folds.{list_any-append}
@@ -15,11 +15,11 @@ use Rattle.qc_turn.specs.declared.task.Task.TheVariants as task
 use Rattle.qc_turn.specs.declared.task.ListedTask.{ListedTask}
 use Rattle.qc_turn.specs.Releases.{Follows, SpellsReleased}
 use Rattle.qc_turn.specs.Rules.{ContentRule}
-use Rattle.qc_turn.specs.Seats.{Held, IsHeld, IsSeatOf, MayRelease, SameHolder, StaysSeat, holder, taken, view, words}
+use Rattle.qc_turn.specs.Seats.{Held, IsHeld, MayRelease, SameHolder, StaysSeat, holder, taken, view, words}
 use Rattle.qc_turn.specs.Steps.{Taken}
 use Rattle.qc_turn.specs.Tasks.{IsListed, blocks_in, is_stream, listed_for, own, released_blocks, released_task, task_in}
 use Rattle.qc_turn.specs.Views.{after_release, base_of, content_of, idle_of, with_holding, with_word_set}
-use Rattle.qc_turn.specs.Words.{StartsWith, word_seats}
+use Rattle.qc_turn.specs.Words.{StartsWith}
 use Rattle.qc_turn.proofs.Holders.{follows_refl}
 use Rattle.qc_core.specs.contracts.server.ServerKept.TheImpl.{ghosts}
 use Rattle.qc_core.specs.declared.parts.Parts.{Parts}
@@ -29,8 +29,8 @@ use Rattle.qc_core.specs.Strikes.{rested}
 use Rattle.qc_core.specs.Whole.{tasks_of}
 use Rattle.qc_serve.proofs.Books.{rested_books}
 use Rattle.qc_serve.proofs.Seating.{same_seat, seat_events}
-use Rattle.qc_serve.specs.Leaving.{HasLeft, HasLetGo, IsApart, IsStranger, MayLetGo}
-use Rattle.qc_serve.specs.Seats.{GoesOn, IsIdle, IsSameSeat, SeatRests}
+use Rattle.qc_serve.specs.Leaving.{HasLetGo, IsApart, IsStranger, MayLetGo}
+use Rattle.qc_serve.specs.Seats.{GoesOn, IsIdle, IsSameSeat}
 
 -- ---- the list of the connected
 

@@ -1,5 +1,5 @@
 -- The pieces of a reply go out while the seat has the task of its event.
-use Rattle.std.proofs.Common.{◌≡◌, ◌⊎◌, ℕ, ◌+◌, Bool, true, false, List, [], ◌∷◌, ◌++◌, length, take, refl, sym, ap, ◌∙◌, subst, arith, inl, inr, length-append, Option, None, Some, true≢false}
+use Rattle.std.proofs.Common.{◌≡◌, ℕ, ◌+◌, true, false, List, [], ◌∷◌, ◌++◌, length, take, sym, ap, ◌∙◌, subst, arith, inl, inr, length-append, Option, None, Some, true≢false}
 use Rattle.std.specs.Prelude.{MatchOption}
 use Rattle.qc_types.specs.declared.names.TableName.{TableName}
 use Rattle.qc_types.specs.declared.options.Options.{Options}
@@ -12,7 +12,6 @@ use Rattle.qc_model.specs.declared.events.Event.TheVariants as event
 use Rattle.qc_model.specs.declared.events.How.TheVariants as how
 use Rattle.qc_model.specs.declared.events.Who.{Who}
 use Rattle.qc_model.specs.declared.reports.ReportLine.{ReportLine}
-use Rattle.qc_model.specs.declared.reports.Word.{Word}
 use Rattle.qc_model.specs.declared.reports.Word.TheVariants as word
 use Rattle.qc_model.specs.Agrees.{who_of, whole_machine, word_of}
 use Rattle.qc_model.specs.Journal.{Journal, before}

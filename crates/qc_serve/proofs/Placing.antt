@@ -1,6 +1,6 @@
 -- A select's event at its place, and the state in which the select is validated there.
-use Rattle.std.proofs.Common.{◌≡◌, ℕ, ◌+◌, ◌*◌, ◌^◌, ◌<◌, ◌≤◌, Bool, true, false, List, [], ◌∷◌, ◌++◌, length, take, refl, sym, ap, ◌∙◌, subst, arith, append_assoc, length-append, Option, None, Some, Result, Ok, Err, inr, true≢false, cond, eq-eqb}
-use Rattle.std.specs.Prelude.{IfSome, IsTrue, MatchOption, is_some, map, option_map, reverse, ◌==◌, ◌||◌, if◌then◌else◌}
+use Rattle.std.proofs.Common.{◌≡◌, ℕ, ◌+◌, ◌*◌, ◌≤◌, Bool, true, false, List, [], ◌∷◌, ◌++◌, length, refl, sym, ap, ◌∙◌, subst, arith, append_assoc, length-append, Option, None, Some, Result, Ok, inr, true≢false, cond, eq-eqb}
+use Rattle.std.specs.Prelude.{IfSome, IsTrue, MatchOption, option_map, reverse, ◌==◌, ◌||◌, if◌then◌else◌}
 use Rattle.std.specs.List.{list_all}
 use Rattle.std.proofs.lemmas.Bool.{and_from, and_parts}
 use Rattle.std.proofs.lemmas.List.Folds.{list_all-append}
@@ -32,7 +32,7 @@ use Rattle.qc_model.specs.declared.reports.Word.TheVariants as word
 use Rattle.qc_model.specs.Agrees.{fill_ends, line, who_of, whole_machine, word_of}
 use Rattle.qc_model.specs.Cache.{is_prune}
 use Rattle.qc_model.specs.Choice.{Allows}
-use Rattle.qc_model.specs.Journal.{Journal, before, event_count, events_of, is_by, operations, present}
+use Rattle.qc_model.specs.Journal.{Journal, before, events_of, is_by, operations}
 use Rattle.qc_model.specs.Licence.{IsLawful, unit_words, words_of_bytes}
 use Rattle.qc_model.specs.Machine.{Executes, ExecutesText, Local, local, local_text}
 use Rattle.qc_model.specs.Needs.{HasOwnNeeds, leading_needs}
@@ -43,11 +43,9 @@ use Rattle.qc_laws.proofs.history.Events.{lawful_prefix}
 use Rattle.qc_laws.proofs.runs.Steps.{before_it, one_more}
 use Rattle.qc_laws.proofs.runs.Whole.{own_count}
 use Rattle.qc_trx.specs.SnapshotStates.{SnapshotState, after_arrival, after_sight}
-use Rattle.qc_turn.specs.declared.seat.Seat.{Seat}
 use Rattle.qc_turn.specs.declared.turn.Turn.{Turn}
 use Rattle.qc_turn.specs.Seats.{view}
 use Rattle.qc_turn.proofs.Tasks.{starts_trans}
-use Rattle.qc_core.specs.contracts.server.ServerKept.TheImpl.{ghosts}
 use Rattle.qc_core.specs.declared.parts.Parts.{Parts}
 use Rattle.qc_select.specs.declared.selected.Selected.{Selected}
 use Rattle.qc_select.specs.declared.selected.Selected.TheVariants as selected
@@ -57,12 +55,11 @@ use Rattle.qc_select.proofs.Arriving as arriving
 use Rattle.qc_select.proofs.Pruned.{present_stays}
 use Rattle.qc_steps.specs.Sound.{IsFitAt, IsFitIn, IsFitState, IsPast, IsSound}
 use Rattle.qc_steps.proofs.States.{fit_arrived, fit_more}
-use Rattle.qc_serve.specs.declared.log.Logged.{Logged}
 use Rattle.qc_serve.specs.declared.session.Session.{Session}
 use Rattle.qc_serve.specs.declared.sinks.Piece.{Piece}
 use Rattle.qc_serve.specs.Executed.{HasEventLine, MustEnd}
 use Rattle.qc_serve.specs.Going.{DoesOne, IsAtRest, as_fixed, next_who, number_of, position_of, seen_by}
-use Rattle.qc_serve.specs.Logs.{logged, logged_event}
+use Rattle.qc_serve.specs.Logs.{logged}
 use Rattle.qc_serve.specs.Querying.{HasDecided, arrives, arrives_at, word_of_selected}
 use Rattle.qc_serve.specs.Seats.{GoesOn, SeatRests, next_of}
 use Rattle.qc_serve.specs.Sent.{SendsFrontOf}

@@ -1,6 +1,6 @@
 -- What is sent of a select that was decided.
-use Rattle.std.proofs.Common.{◌≡◌, ◌⊎◌, inl, inr, ℕ, ◌+◌, ◌*◌, ◌^◌, ◌<◌, ◌≤◌, Bool, true, false, List, [], ◌∷◌, ◌++◌, length, take, refl, sym, ap, ◌∙◌, subst, arith, append-nil, append_assoc, Option, None, Some, Result, Ok, Err}
-use Rattle.std.specs.Prelude.{MatchOption, find, is_some, not, option_map, ◌==◌, ◌&&◌, if◌then◌else◌}
+use Rattle.std.proofs.Common.{◌≡◌, ◌⊎◌, inl, inr, ℕ, ◌+◌, ◌^◌, ◌<◌, Bool, true, false, List, [], ◌∷◌, ◌++◌, length, refl, sym, ap, ◌∙◌, subst, arith, append-nil, append_assoc, Option, None, Some, Result, Ok, Err}
+use Rattle.std.specs.Prelude.{MatchOption, not, option_map, ◌==◌, ◌&&◌, if◌then◌else◌}
 use Rattle.std.specs.List.{concat}
 use Rattle.std.proofs.lemmas.Bool.{and_parts}
 use Rattle.std.proofs.lemmas.Slice.Eq.{bytes_eq-Decides}
@@ -15,20 +15,18 @@ use Rattle.qc_sql.specs.declared.statements.Statement.{Statement}
 use Rattle.qc_sql.specs.declared.statements.Statement.TheVariants as statement
 use Rattle.qc_sql.specs.Database.{Database}
 use Rattle.qc_sql.specs.Grammar.{ParseFault, head_of, meaning, trimmed}
-use Rattle.qc_sql.specs.Packets.{packet_list, packets}
+use Rattle.qc_sql.specs.Packets.{packets}
 use Rattle.qc_sql.specs.Rows.{Rows}
 use Rattle.qc_sql.specs.Rules.{asks, select_tables}
 use Rattle.qc_model.specs.declared.events.Event.{Event}
 use Rattle.qc_model.specs.declared.events.How.TheVariants as how
 use Rattle.qc_model.specs.declared.events.Reason.{Reason}
-use Rattle.qc_model.specs.declared.events.Reason.TheVariants as reason
 use Rattle.qc_model.specs.declared.reports.Word.TheVariants as word
 use Rattle.qc_model.specs.Agrees.{fill_ends}
 use Rattle.qc_model.specs.Cache.{Entry, cache}
 use Rattle.qc_model.specs.Choice.{Allows, IsNoRoom, answering, has_key, is_asked, is_visible, plain_reason, start_count}
 use Rattle.qc_model.specs.Journal.{Journal, present}
-use Rattle.qc_model.specs.Machine.{refused}
-use Rattle.qc_model.specs.Session.{State, Transaction, answer, answer_packets, arrived, base, flags_of, key_of_text, opened, rows_reply, select_reply, snapshot_of, snapshot_taken, status_of, uses_rows, with_transaction}
+use Rattle.qc_model.specs.Session.{State, Transaction, answer, answer_packets, arrived, base, flags_of, key_of_text, opened, select_reply, snapshot_of, snapshot_taken, status_of, uses_rows, with_transaction}
 use Rattle.qc_laws.specs.history.Answers.{AnswersText, CanBeKeyed, IsKeyOfRows, packets_of}
 use Rattle.qc_laws.specs.history.Seen.{IsPlace}
 use Rattle.qc_laws.specs.runs.Runs.{own}
@@ -40,29 +38,26 @@ use Rattle.qc_laws.proofs.sizes.Selects.{select_errors_fit, select_rows_fit}
 use Rattle.qc_trx.specs.SnapshotStates.{SnapshotState, after_arrival}
 use Rattle.qc_eval.specs.Plans.{PlanView}
 use Rattle.qc_turn.specs.declared.seat.Seat.{Seat}
-use Rattle.qc_turn.specs.declared.task.Task.{Task}
 use Rattle.qc_turn.specs.declared.task.Task.TheVariants as task
 use Rattle.qc_turn.specs.declared.turn.Turn.{Turn}
-use Rattle.qc_turn.specs.Bytes.{bytes_of}
 use Rattle.qc_turn.specs.Seats.{view}
 use Rattle.qc_core.specs.contracts.server.ServerKept.TheImpl.{ghosts}
 use Rattle.qc_core.specs.declared.hits.Hit.{Hit}
 use Rattle.qc_core.specs.declared.parts.Parts.{Parts}
 use Rattle.qc_select.specs.declared.selected.Selected.{Selected}
 use Rattle.qc_select.specs.declared.selected.Selected.TheVariants as selected
-use Rattle.qc_select.specs.Selects.{HasPlan, how_of, place_of, planned}
+use Rattle.qc_select.specs.Selects.{place_of, planned}
 use Rattle.qc_select.proofs.NoReasons.{found_test, no_reason}
 use Rattle.qc_steps.proofs.Looking.{place_by_fit}
 use Rattle.qc_steps.proofs.States.{orderly_base}
-use Rattle.qc_steps.specs.Sound.{IsFitState, IsSound}
 use Rattle.qc_serve.specs.declared.log.Logged.{Logged}
 use Rattle.qc_serve.specs.declared.session.Session.{Session}
-use Rattle.qc_serve.specs.Asking.{GoesOnWith, HasTask, Streams, task_of}
+use Rattle.qc_serve.specs.Asking.{HasTask, task_of}
 use Rattle.qc_serve.specs.declared.sinks.Piece.{Piece}
 use Rattle.qc_serve.specs.Executed.{IsReplied, MustEnd}
 use Rattle.qc_serve.specs.Going.{IsAtRest, as_fixed, next_who, number_of, seen_by}
 use Rattle.qc_serve.specs.Logs.{logged}
-use Rattle.qc_serve.specs.Querying.{EndsWith, FillsWith, HasDecided, HasEndedFill, IsPlanned, LacksMemory, MaySend, arrives, arrives_at, bytes_for, is_hit, plan_packets, word_of_selected}
+use Rattle.qc_serve.specs.Querying.{EndsWith, HasDecided, HasEndedFill, IsPlanned, LacksMemory, MaySend, arrives, arrives_at, bytes_for, is_hit, plan_packets, word_of_selected}
 use Rattle.qc_serve.specs.Seats.{GoesOn, SeatRests}
 use Rattle.qc_serve.specs.Sent.{Sends, SendsFrontOf}
 use Rattle.qc_serve.proofs.Parsing.{last_same}

@@ -1,35 +1,31 @@
 -- A SELECT is decided.
-use Rattle.std.proofs.Common.{◌≡◌, ℕ, ◌*◌, ◌^◌, ◌<◌, ◌≤◌, Bool, true, false, List, [], ◌∷◌, ◌++◌, length, refl, sym, ap, ◌∙◌, subst, append-nil, Option, None, Some, Ok}
+use Rattle.std.proofs.Common.{◌≡◌, ℕ, ◌*◌, ◌^◌, ◌<◌, ◌≤◌, Bool, true, false, List, [], ◌∷◌, ◌++◌, refl, sym, ap, ◌∙◌, subst, append-nil, Option, None, Some, Ok}
 use Rattle.std.specs.Prelude.{is_some, slice_index, if◌then◌else◌}
-use Rattle.qc_types.specs.declared.options.Options.{Options}
-use Rattle.qc_sql.specs.declared.session.Asked.{Asked}
 use Rattle.qc_sql.specs.declared.statements.Select.{Select}
 use Rattle.qc_sql.specs.declared.statements.Statement.TheVariants as statement
 use Rattle.qc_sql.specs.Database.{Database}
-use Rattle.qc_sql.specs.Grammar.{head_of, meaning, trimmed}
+use Rattle.qc_sql.specs.Grammar.{meaning, trimmed}
 use Rattle.qc_sql.specs.Rules.{asks}
 use Rattle.qc_model.specs.declared.reports.Word.{Word}
 use Rattle.qc_model.specs.Journal.{Journal}
 use Rattle.qc_model.specs.Session.{State, Transaction, flags_of, key_of_text, opened, snapshot_of, uses_rows, with_transaction}
 use Rattle.qc_laws.specs.history.Answers.{CanBeKeyed}
-use Rattle.qc_trx.specs.SnapshotStates.{SnapshotState, after_arrival, after_sight}
+use Rattle.qc_trx.specs.SnapshotStates.{SnapshotState, after_arrival}
 use Rattle.qc_turn.specs.declared.seat.Seat.{Seat}
 use Rattle.qc_turn.specs.declared.turn.Turn.{Turn}
-use Rattle.qc_turn.specs.Seats.{view}
 use Rattle.qc_core.specs.contracts.server.ServerKept.TheImpl.{ghosts}
 use Rattle.qc_core.specs.declared.parts.Parts.{Parts}
 use Rattle.qc_model.specs.declared.events.Event.{Event}
 use Rattle.qc_select.specs.declared.selected.Selected.{Selected}
-use Rattle.qc_select.specs.Selects.{IsOfText, place_of}
+use Rattle.qc_select.specs.Selects.{place_of}
 use Rattle.qc_steps.specs.Sound.{IsFitIn, IsFitState, IsPast}
 use Rattle.qc_steps.proofs.Looking.{keyed_by}
 use Rattle.qc_serve.specs.declared.session.Session.{Session}
-use Rattle.qc_serve.specs.declared.log.Logged.{Logged}
 use Rattle.qc_serve.specs.Asking.{LooksOn, MayAskAt, MaySelect, Selects}
-use Rattle.qc_serve.specs.Going.{IsAtRest, as_fixed, number_of, seen_by}
+use Rattle.qc_serve.specs.Going.{IsAtRest, number_of, seen_by}
 use Rattle.qc_serve.specs.Logs.{logged}
 use Rattle.qc_serve.specs.Querying.{HasDecided, LacksMemory, arrives, arrives_at, sees_at, word_of_selected}
-use Rattle.qc_serve.specs.Seats.{GoesOn, RestsAgain, SeatRests}
+use Rattle.qc_serve.specs.Seats.{SeatRests}
 
 -- ---- the state in which a select has arrived
 

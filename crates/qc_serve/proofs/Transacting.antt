@@ -1,5 +1,5 @@
 -- Commands that end a transaction, or set a variable, from where the session stood before.
-use Rattle.std.proofs.Common.{◌≡◌, ℕ, ◌≤◌, Bool, true, false, List, [], ◌∷◌, length, refl, sym, ap, ◌∙◌, subst, arith, Option, None, Some, Result, Ok, Err, OnErr}
+use Rattle.std.proofs.Common.{◌≡◌, ℕ, true, false, List, refl, sym, ap, ◌∙◌, subst, arith, Option, None, Result, Ok, Err}
 use Rattle.std.specs.Prelude.{◌&&◌, IfOk, MatchResult, is_ok, not, option_and_then, unwrap_or}
 use Rattle.qc_types.specs.declared.sql_error.SqlError.{SqlError}
 use Rattle.qc_sql.specs.declared.statements.Setting.{Setting}
@@ -26,7 +26,7 @@ use Rattle.qc_serve.specs.Seats.{next_of}
 use Rattle.qc_serve.proofs.Autocommit.{set_on, set_plain, set_refused}
 use Rattle.qc_replies.proofs.Calls.{if_ok}
 use Rattle.qc_serve.proofs.Meeting.{ended_state, ends_give, ends_of}
-use Rattle.qc_serve.proofs.Resting.{SameBut, event_stops, logs_moved, moved_gives, moved_may, moved_stops, moved_tells, rest_ended, rest_with}
+use Rattle.qc_serve.proofs.Resting.{SameBut, event_stops, logs_moved, moved_gives, moved_may, moved_tells, rest_ended, rest_with}
 
 -- ---- ROLLBACK
 

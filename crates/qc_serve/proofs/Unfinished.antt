@@ -1,6 +1,6 @@
 -- An entry that isn't complete was never completed, nor one that was given up.
-use Rattle.std.proofs.Common.{◌≡◌, ℕ, ◌+◌, ◌<◌, Bool, true, false, List, [], ◌∷◌, ◌++◌, refl, sym, ap, ◌∙◌, subst, arith, append_assoc, append-nil, true≢false, eq-eqb, eqb-true, ne_eqb}
-use Rattle.std.specs.Prelude.{Option, Some, None, ◌||◌, not, IsSomeAnd, ◌==◌}
+use Rattle.std.proofs.Common.{◌≡◌, ℕ, ◌+◌, Bool, true, false, List, [], ◌∷◌, ◌++◌, refl, sym, ap, ◌∙◌, subst, arith, append_assoc, append-nil, true≢false, eq-eqb, eqb-true, ne_eqb}
+use Rattle.std.specs.Prelude.{Option, Some, None, ◌||◌, not, IsSomeAnd}
 use Rattle.std.specs.List.{AllByRecursion, list_any}
 use Rattle.qc_types.specs.declared.options.Options.{Options}
 use Rattle.qc_model.specs.declared.events.Event.{Event}
@@ -10,7 +10,6 @@ use Rattle.qc_model.specs.declared.events.How.{How}
 use Rattle.qc_model.specs.declared.events.How.TheVariants as how
 use Rattle.qc_model.specs.declared.events.Who.{Who}
 use Rattle.qc_model.specs.Cache.{Entry, after_event, after_run, cache, completed, entry_of, is_entry, moved, without}
-use Rattle.qc_model.specs.Choice.{start_count}
 use Rattle.qc_model.specs.Journal.{Journal}
 use Rattle.qc_model.specs.Licence.{IsFilling, IsLawful, IsLawfulAfter, IsLicensed}
 use Rattle.qc_laws.specs.history.Runs.{completes, is_completed}

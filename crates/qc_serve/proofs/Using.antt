@@ -1,7 +1,6 @@
 -- A command that shares the database that its event meets: USE, and a statement on rows in a transaction.
-use Rattle.std.proofs.Common.{◌≡◌, ℕ, ◌+◌, ◌≤◌, Bool, true, false, cond, List, [], ◌∷◌, ◌++◌, length, refl, sym, ap, ◌∙◌, subst, arith, length-append, Option, None, Some, Result, Ok, Err, OnOk, true≢false}
-use Rattle.std.specs.Prelude.{IfOk, IsSomeAnd, is_some, not, option_and_then, option_map, unwrap_or}
-use Rattle.qc_types.specs.declared.options.Options.{Options}
+use Rattle.std.proofs.Common.{◌≡◌, ℕ, ◌+◌, Bool, true, false, cond, List, [], ◌∷◌, ◌++◌, length, refl, sym, ap, ◌∙◌, subst, arith, length-append, Option, None, Some, Result, Ok, Err, OnOk, true≢false}
+use Rattle.std.specs.Prelude.{IfOk, IsSomeAnd, is_some, option_and_then, option_map, unwrap_or}
 use Rattle.qc_types.specs.declared.sql_error.SqlError.{SqlError}
 use Rattle.qc_sql.specs.declared.statements.Statement.{Statement}
 use Rattle.qc_sql.specs.declared.statements.Statement.TheVariants as statement
@@ -18,14 +17,14 @@ use Rattle.qc_model.specs.declared.events.How.TheVariants as how
 use Rattle.qc_model.specs.declared.events.Who.{Who}
 use Rattle.qc_model.specs.Journal.{Journal, operations, present}
 use Rattle.qc_model.specs.Licence.{ops_fit}
-use Rattle.qc_model.specs.Machine.{Given, changed_rows, full_table, ok_reply, other, refused, used}
-use Rattle.qc_model.specs.Session.{State, Transaction, arrived, base, opened, own_operations, snapshot_of, snapshot_taken, with_transaction}
+use Rattle.qc_model.specs.Machine.{Given, changed_rows, full_table, ok_reply, refused, used}
+use Rattle.qc_model.specs.Session.{State, Transaction, arrived, base, opened, own_operations, snapshot_of, snapshot_taken}
 use Rattle.qc_trx.specs.SnapshotStates.{MayAdd, SnapshotState, added, in_database, seen_on, with_operations}
-use Rattle.qc_steps.specs.Sound.{AreOwn, IsFitAt, IsFitIn, IsFitState, IsPast, IsSound, arrived_snapshot_state}
+use Rattle.qc_steps.specs.Sound.{AreOwn, IsFitAt, IsFitIn, IsFitState, IsPast, arrived_snapshot_state}
 use Rattle.qc_steps.specs.Statements.{changes_rows, chosen}
 use Rattle.qc_steps.proofs.Choices.{chosen_fits, not_chosen, view_is}
 use Rattle.qc_steps.proofs.Keeping.{added_room, effect_refused, rows_own as rows_are_own}
-use Rattle.qc_steps.proofs.States.{base_is, fit_added, fit_arrived, fit_more, seen_there}
+use Rattle.qc_steps.proofs.States.{base_is, fit_added, fit_arrived, fit_more}
 use Rattle.qc_turn.specs.declared.turn.Turn.{Turn}
 use Rattle.qc_core.specs.declared.parts.Parts.{Parts}
 use Rattle.qc_serve.specs.declared.session.Session.{Session}
@@ -33,7 +32,7 @@ use Rattle.qc_serve.specs.Ends.{Makes}
 use Rattle.qc_serve.specs.Going.{GivesOut, IsAtRest, Logs, Stops, next_who, number_of, rows_given, runs_in_transaction, seen_by}
 use Rattle.qc_serve.proofs.Givens.{IsOf, IsOwn, rows_own, used_own}
 use Rattle.qc_serve.proofs.Meeting.{run_of}
-use Rattle.qc_serve.proofs.Resting.{Meets, decided_on, event_of, event_stops, fit_taken, gives_out, journal_of, logs_moved, past_later, rest_with}
+use Rattle.qc_serve.proofs.Resting.{decided_on, event_of, event_stops, fit_taken, gives_out, journal_of, logs_moved, past_later, rest_with}
 use Rattle.qc_replies.proofs.Calls.{if_ok}
 
 -- what is so of the event of such a command

@@ -1,14 +1,11 @@
 -- Worked rows: what goes out, and what is taken of an input.
-use Rattle.std.proofs.Common.{◌≡◌, List, ℕ, [], ◌∷◌, ◌++◌, refl, Option, Some, None}
+use Rattle.std.proofs.Common.{◌≡◌, List, ℕ, [], ◌∷◌, ◌++◌, refl, Some}
 use Rattle.qc_model.specs.declared.reports.Ending.TheVariants as ending
-use Rattle.qc_model.specs.declared.reports.ReportLine.{ReportLine}
 use Rattle.qc_model.specs.declared.reports.Word.TheVariants as word
 use Rattle.qc_model.specs.Agrees.{commands_of}
 use Rattle.qc_sql.specs.declared.commands.Command.TheVariants as command
 use Rattle.qc_turn.specs.declared.task.Task.TheVariants as task
-use Rattle.qc_serve.specs.declared.log.Logged.{Logged}
-use Rattle.qc_serve.specs.declared.sinks.Piece.{Piece}
-use Rattle.qc_serve.specs.Logs.{DropsLocal, kept_line, logged}
+use Rattle.qc_serve.specs.Logs.{kept_line, logged}
 use Rattle.qc_serve.specs.Sent.{Sends, SendsFrontOf, bytes_of, piece}
 use Rattle.qc_serve.specs.Served.{TakesOf, replies_of}
 

@@ -1,5 +1,5 @@
 -- A session asks the cache, and decides a SELECT.
-use Rattle.std.specs.Prelude.{◌≡◌, ℕ, ◌+◌, ◌*◌, ◌<◌, ◌≤◌, ◌^◌, ◌&&◌, ◌||◌, Bool, not, is_none, is_some, if◌then◌else◌, true, false, List, [], ◌∷◌, ◌++◌, length, take, Option, Some, None, Result, Ok, Err, option_map, slice_index}
+use Rattle.std.specs.Prelude.{◌≡◌, ℕ, ◌+◌, ◌*◌, ◌<◌, ◌≤◌, ◌&&◌, ◌||◌, Bool, not, is_none, is_some, if◌then◌else◌, true, false, List, [], ◌∷◌, ◌++◌, length, take, Option, Some, None, Result, Ok, Err, option_map, slice_index}
 use Rattle.std.specs.List.{list_all}
 use Rattle.qc_types.specs.declared.options.Options.{Options}
 use Rattle.qc_sql.specs.declared.statements.Select.{Select}
@@ -23,7 +23,7 @@ use Rattle.qc_turn.specs.declared.task.Task.{Task}
 use Rattle.qc_turn.specs.declared.task.Task.TheVariants as task
 use Rattle.qc_turn.specs.declared.turn.Turn.{Turn}
 use Rattle.qc_turn.specs.Seats.{Held, IsSeatOf, MayRelease, holder, view, with_ranges}
-use Rattle.qc_turn.specs.Tasks.{is_stream, listed_for, own}
+use Rattle.qc_turn.specs.Tasks.{listed_for, own}
 use Rattle.qc_turn.specs.Words.{word_seats}
 use Rattle.qc_core.specs.contracts.server.ServerKept.TheImpl.{ghosts}
 use Rattle.qc_core.specs.declared.hits.Hit.{Hit}

@@ -1,6 +1,6 @@
 -- What a session's methods do.
 use Rattle.std.specs.List.{AllByRecursion}
-use Rattle.std.specs.Prelude.{◌≡◌, ℕ, ◌+◌, ◌*◌, ◌<◌, ◌≤◌, Bool, true, not, ◌||◌, Option, is_some, List, [], ◌∷◌, ◌++◌, length, map, Ok, Err, MatchResult}
+use Rattle.std.specs.Prelude.{◌≡◌, ℕ, ◌+◌, ◌*◌, ◌<◌, ◌≤◌, Bool, true, not, ◌||◌, Option, is_some, List, [], ◌∷◌, ◌++◌, length, map, Ok, MatchResult}
 use Rattle.qc_types.specs.declared.options.Options.{Options}
 use Rattle.qc_types.specs.declared.totals.Totals.{Totals}
 use Rattle.qc_sql.specs.declared.commands.Command.{Command}

@@ -1,6 +1,6 @@
 -- A session answers a query.
 use Rattle.std.specs.List.{concat}
-use Rattle.std.specs.Prelude.{◌≡◌, ℕ, ◌≤◌, Bool, true, false, List, [], ◌∷◌, ◌++◌, length, map, take, Option, Some, None, Result, Ok, Err, IsSome, if◌then◌else◌}
+use Rattle.std.specs.Prelude.{◌≡◌, ℕ, Bool, true, false, List, [], ◌∷◌, ◌++◌, map, take, Option, Some, None, Ok, Err, if◌then◌else◌}
 use Rattle.qc_sql.specs.declared.replies.Reply.TheVariants as reply
 use Rattle.qc_sql.specs.declared.session.Flags.{Flags}
 use Rattle.qc_sql.specs.declared.statements.Select.{Select}
@@ -13,7 +13,7 @@ use Rattle.qc_model.specs.declared.reports.Word.{Word}
 use Rattle.qc_model.specs.declared.reports.Word.TheVariants as word
 use Rattle.qc_model.specs.Journal.{present}
 use Rattle.qc_model.specs.Machine.{refused}
-use Rattle.qc_model.specs.Session.{State, answer_packets, flags_of, key_of_text, status_of, uses_rows}
+use Rattle.qc_model.specs.Session.{answer_packets, flags_of, key_of_text, status_of, uses_rows}
 use Rattle.qc_laws.specs.history.Answers.{CanBeKeyed}
 use Rattle.qc_laws.specs.history.Runs.{IsStarted}
 use Rattle.qc_laws.specs.sizes.Replies.{FitsError, FitsRows}

@@ -1,4 +1,4 @@
-use Rattle.std.proofs.Common.{◌≡◌, ℕ, ◌+◌, ◌<◌, ◌≤◌, ◌^◌, length, refl, sym, ap, ◌∙◌, arith}
+use Rattle.std.proofs.Common.{◌+◌, ◌<◌, length, ap, arith}
 use Rattle.qc_turn.specs.Seats.{words}
 use Rattle.qc_turn.proofs.Holders.{same_on}
 use Rattle.qc_core.proofs.Carrying.{carry_start, carry_reads, carry_writes, carry_on}

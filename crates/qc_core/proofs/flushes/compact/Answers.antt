@@ -1,4 +1,4 @@
-use Rattle.std.proofs.Common.{◌≡◌, sym, ap, subst, ◌∙◌}
+use Rattle.std.proofs.Common.{sym}
 use Rattle.qc_core.proofs.Flushing.{compacts_start, compacts_on, compacts_end, may_carry, less}
 use Rattle.qc_core.proofs.flushes.compact.Goals as goal
 

@@ -1,5 +1,4 @@
-use Rattle.std.proofs.Common.{◌≡◌, ◌≤◌, ◌<◌, ℕ, arith, sym, ap, subst, ◌∙◌}
-use Rattle.qc_key.specs.Hash.{hash}
+use Rattle.std.proofs.Common.{arith, sym, subst, ◌∙◌}
 use Rattle.qc_chain.specs.Chains.{Ranged}
 use Rattle.qc_turn.specs.Views.{idle_of}
 use Rattle.qc_turn.specs.Seats.{words, holder}

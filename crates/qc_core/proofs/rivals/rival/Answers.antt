@@ -1,4 +1,4 @@
-use Rattle.std.proofs.Common.{◌≡◌, sym, ap, subst, ◌∙◌, Option, Some, refl}
+use Rattle.std.proofs.Common.{◌≡◌, sym, subst, ◌∙◌, Option, Some, refl}
 use Rattle.std.specs.Option.{IsSome}
 use Rattle.qc_dir.specs.declared.entries.Entry.{Entry}
 use Rattle.qc_dir.specs.Directory.{entry_at}

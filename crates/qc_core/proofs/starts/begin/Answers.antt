@@ -1,16 +1,14 @@
-use Rattle.std.proofs.Common.{◌≡◌, ℕ, ◌+◌, ◌*◌, ◌++◌, List, [], ◌∷◌, length, sym, ap, subst, ◌∙◌}
+use Rattle.std.proofs.Common.{ℕ, ◌+◌, ◌++◌, List, [], ◌∷◌, length, sym, ap, subst, ◌∙◌}
 use Rattle.qc_types.specs.declared.names.TableName.{TableName}
 use Rattle.qc_model.specs.declared.events.Event.TheVariants as event
 use Rattle.qc_model.specs.declared.events.How.TheVariants as how
-use Rattle.qc_model.specs.Choice.{start_count}
 use Rattle.qc_turn.specs.declared.task.Task.TheVariants as task
-use Rattle.qc_turn.specs.Tasks.{listed_for, own}
+use Rattle.qc_turn.specs.Tasks.{own}
 use Rattle.qc_turn.specs.Seats.{holder, words, with_value}
 use Rattle.qc_turn.proofs.Holders.{same_on, same_value}
 use Rattle.qc_core.specs.declared.hands.Hand.{Hand}
 use Rattle.qc_core.specs.declared.parts.Parts.{Parts}
 use Rattle.qc_core.specs.declared.starts.Ready.{Ready}
-use Rattle.qc_core.specs.Whole.{tasks_of}
 use Rattle.qc_core.specs.Starts.{AddsFill, needs_for, without_block}
 use Rattle.qc_core.specs.Takes.{MayTake, next_of, TakesAll, Stops}
 use Rattle.qc_core.proofs.Starting.{taking, holds_blocks, holds_nothing}

@@ -1,4 +1,4 @@
-use Rattle.std.proofs.Common.{◌≡◌, ℕ, refl, ap, subst, ◌∙◌}
+use Rattle.std.proofs.Common.{◌≡◌, ℕ, refl, ap, subst}
 use Rattle.qc_chain.specs.Chains.{Ranged}
 use Rattle.qc_turn.specs.Tasks.{listed_for}
 use Rattle.qc_turn.specs.Seats.{holder, with_ranges}

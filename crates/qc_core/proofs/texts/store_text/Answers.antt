@@ -1,4 +1,4 @@
-use Rattle.std.proofs.Common.{◌≡◌, ℕ, ◌+◌, ◌<◌, ◌≤◌, length, arith, ◌∙◌}
+use Rattle.std.proofs.Common.{◌≡◌, ◌+◌, ◌<◌, length, arith, ◌∙◌}
 use Rattle.qc_model.specs.Licence.{words_of_bytes}
 use Rattle.qc_chain.proofs.Calls.{words_are}
 use Rattle.qc_core.proofs.Storing.{storing_start, storing_free, storing_on, stored_all}

@@ -1,4 +1,4 @@
-use Rattle.std.proofs.Common.{sym, subst, Some, [], List}
+use Rattle.std.proofs.Common.{subst, Some, [], List}
 use Rattle.qc_serve.specs.declared.sinks.Piece.{Piece}
 use Rattle.qc_serve.specs.Executed.{IsReplied}
 use Rattle.qc_run.proofs.Serving.{ends_at, last_line, was_answered}

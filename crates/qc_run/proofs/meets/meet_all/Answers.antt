@@ -1,15 +1,14 @@
-use Rattle.std.proofs.Common.{◌≡◌, ◌+◌, ◌≤◌, ℕ, true, false, List, [], ◌∷◌, ◌++◌, length, refl, ap, sym, subst, ◌∙◌, arith, length-append, true≢false, Option}
+use Rattle.std.proofs.Common.{◌≡◌, ◌+◌, true, false, List, [], ◌∷◌, length, refl, ap, sym, subst, ◌∙◌, arith, length-append, true≢false, Option}
 use Rattle.std.specs.Prelude.{IfSome}
 use Rattle.qc_model.specs.declared.events.Event.{Event}
 use Rattle.qc_turn.specs.declared.seat.Seat.{Seat}
 use Rattle.qc_turn.specs.Seats.{IsSeatOf, view}
 use Rattle.qc_turn.specs.Views.{after_meet}
-use Rattle.qc_turn.specs.declared.task.Task.TheVariants.{Rest}
 use Rattle.qc_core.specs.contracts.server.ServerKept.TheImpl.{ghosts}
 use Rattle.qc_core.specs.declared.parts.Parts.{Parts}
 use Rattle.qc_run.specs.declared.outcomes.Outcome.{Outcome}
 use Rattle.qc_run.specs.Meets.{HasMetBehind, IsOutcomeOf}
-use Rattle.qc_run.proofs.Meeting.{met_all, met_more, met_none, popped_from}
+use Rattle.qc_run.proofs.Meeting.{met_more, met_none, popped_from}
 use Rattle.qc_run.proofs.meets.meet_all.Goals as goal
 
 pub loop-slot-init : goal.loop-slot-init

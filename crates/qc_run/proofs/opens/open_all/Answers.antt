@@ -1,8 +1,8 @@
-use Rattle.std.proofs.Common.{◌≡◌, ℕ, List, ◌+◌, [], length, refl, ap, sym, subst, ◌∙◌, arith, vec_len, vec_capacity, length-append, ◌∷◌}
-use Rattle.std.proofs.lemmas.Iterator.Consumers.{YieldsList-turn, YieldsList-end}
+use Rattle.std.proofs.Common.{ℕ, [], length, refl, sym, subst, ◌∙◌, length-append, ◌∷◌}
+use Rattle.std.proofs.lemmas.Iterator.Consumers.{YieldsList-turn}
 use Rattle.std.proofs.lemmas.Iterator.Adapters.{YieldsList-from_vec}
 use Rattle.qc_run.specs.Opens.{IsOpening}
-use Rattle.qc_run.proofs.Opening.{are_open, behind_met, may_open, opening_more, opening_none}
+use Rattle.qc_run.proofs.Opening.{may_open, opening_more, opening_none}
 use Rattle.qc_run.proofs.opens.open_all.Goals as goal
 
 pub loop-input-init : goal.loop-input-init

@@ -1,4 +1,4 @@
-use Rattle.std.proofs.Common.{◌≡◌, length}
+use Rattle.std.proofs.Common.{length}
 use Rattle.qc_run.specs.declared.outcomes.Outcome.{Outcome}
 use Rattle.qc_run.proofs.Ordering.{InOrder}
 use Rattle.qc_run.proofs.outcomes.in_order.Given as goal

@@ -1,9 +1,8 @@
-use Rattle.std.proofs.Common.{List, ap, sym, subst, ◌∙◌}
-use Rattle.std.specs.Prelude.{reverse}
+use Rattle.std.proofs.Common.{ap, sym, subst, ◌∙◌}
 use Rattle.qc_model.specs.Agrees.{Agrees, whole_machine}
 use Rattle.qc_model.specs.declared.reports.Report.{Report}
 use Rattle.qc_script.specs.ShortNames.{HasShortNames}
-use Rattle.qc_run.specs.Ran.{HaveReceipts, IsReportOf, receipts_in, reports_in}
+use Rattle.qc_run.specs.Ran.{IsReportOf}
 use Rattle.qc_run.proofs.Closing.{report_agrees}
 use Rattle.qc_run.proofs.Names.{names_are_short}
 use Rattle.qc_run.proofs.script.run_script.Goals as goal

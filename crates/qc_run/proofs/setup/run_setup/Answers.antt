@@ -4,7 +4,7 @@ use Rattle.qc_run.specs.declared.outcomes.Outcome.{Outcome}
 use Rattle.qc_run.specs.declared.slots.Slot.{Slot}
 use Rattle.qc_run.specs.Meets.{IsOutcomeOf}
 use Rattle.qc_run.specs.Opens.{IsOpen}
-use Rattle.qc_run.proofs.Preparing.{fresh_may_connect, handed_split, setup_may_serve, setup_open, setup_prepared, setup_split}
+use Rattle.qc_run.proofs.Preparing.{fresh_may_connect, setup_open, setup_prepared}
 use Rattle.qc_run.proofs.setup.run_setup.Goals as goal
 
 pub connect-requires : goal.connect-requires

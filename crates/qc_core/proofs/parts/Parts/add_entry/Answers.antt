@@ -1,10 +1,9 @@
-use Rattle.std.proofs.Common.{◌≡◌, ℕ, ◌+◌, ◌-◌, ◌*◌, ◌<◌, ◌≤◌, true, false, List, [], ◌∷◌, ◌++◌, length, sym, ap, subst, ◌∙◌, arith, refl}
-use Rattle.std.specs.Prelude.{Some, None}
+use Rattle.std.proofs.Common.{◌≡◌, ℕ, ◌+◌, ◌-◌, ◌*◌, ◌<◌, ◌≤◌, true, false, [], ◌∷◌, ◌++◌, length, sym, ap, subst, ◌∙◌, arith, refl}
+use Rattle.std.specs.Prelude.{None}
 use Rattle.qc_chain.specs.Words.{words_of}
 use Rattle.qc_chain.specs.Chains.{empty_chain, after_append}
 use Rattle.qc_tiles.specs.Tiles.{after_pin}
 use Rattle.qc_dir.specs.declared.entries.Entry.{Entry}
-use Rattle.qc_dir.specs.declared.tables.TableBlock.{TableBlock}
 use Rattle.qc_dir.specs.Directory.{Directory, entry_at, AreFresh, AddsEntry}
 use Rattle.qc_core.specs.declared.parts.Parts.{Parts}
 use Rattle.qc_core.specs.Starts.{fill_of}

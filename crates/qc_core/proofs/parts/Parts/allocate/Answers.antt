@@ -1,6 +1,4 @@
-use Rattle.std.proofs.Common.{◌≡◌, ℕ, refl}
-use Rattle.std.specs.Result.{IfErr}
-use Rattle.qc_core.specs.Allocates.{MayAllocate, IsPruned, LacksTile}
+use Rattle.std.proofs.Common.{refl}
 use Rattle.qc_core.proofs.Allocating.{allocate_ok, allocate_err}
 use Rattle.qc_core.proofs.parts.Parts.allocate.Goals as goal
 

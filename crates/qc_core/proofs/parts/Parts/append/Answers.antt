@@ -1,4 +1,4 @@
-use Rattle.std.proofs.Common.{◌≡◌, ℕ, ◌+◌, ◌<◌, ◌≤◌, [], ◌∷◌, ◌++◌, length, length-append, sym, subst, arith}
+use Rattle.std.proofs.Common.{◌+◌, [], ◌∷◌, ◌++◌, length-append, sym, subst, arith}
 use Rattle.qc_chain.specs.Chains.{Begun, whole_chain}
 use Rattle.qc_core.proofs.Appending.{append_begun}
 use Rattle.qc_core.proofs.parts.Parts.append.Goals as goal

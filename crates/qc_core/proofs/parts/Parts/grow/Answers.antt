@@ -1,11 +1,11 @@
-use Rattle.std.proofs.Common.{◌≡◌, ℕ, ◌+◌, ◌<◌, ◌≤◌, [], ◌∷◌, ◌++◌, length, refl, sym, ap, subst, ◌∙◌, arith}
+use Rattle.std.proofs.Common.{refl, sym, ap, subst, ◌∙◌}
 use Rattle.qc_key.specs.Hash.{hash}
 use Rattle.qc_chain.specs.Chains.{Ranged}
 use Rattle.qc_sound.specs.Moment.{at_rest}
 use Rattle.qc_journal.specs.Room.{Recorded}
 use Rattle.qc_core.specs.Overtaken.{WasOvertaken, IsOvertaken}
-use Rattle.qc_core.proofs.FillTasks.{fill_task, overtaken, entry_filling, entry_gone, may_allocate}
-use Rattle.qc_core.proofs.Growing.{err_short, is_filling, may_append_now, ranges_are, grows_so, stays_so, stays_short, stays_same}
+use Rattle.qc_core.proofs.FillTasks.{fill_task, overtaken, entry_gone, may_allocate}
+use Rattle.qc_core.proofs.Growing.{err_short, is_filling, may_append_now, ranges_are, grows_so, stays_so, stays_short}
 use Rattle.qc_core.proofs.parts.Parts.grow.Goals as goal
 
 pub overtaken-by-requires : goal.overtaken-by-requires

@@ -1,4 +1,4 @@
-use Rattle.std.proofs.Common.{◌<◌, ℕ, sym, ap, subst, ◌∙◌}
+use Rattle.std.proofs.Common.{◌<◌, sym, ap, subst, ◌∙◌}
 use Rattle.qc_tiles.specs.Tiles.{largest_free}
 use Rattle.qc_core.specs.declared.hands.Hand.{Hand}
 use Rattle.qc_core.specs.declared.parts.Parts.{Parts}

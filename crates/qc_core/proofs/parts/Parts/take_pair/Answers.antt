@@ -1,12 +1,9 @@
-use Rattle.std.proofs.Common.{◌≡◌, ℕ, ◌+◌, max, List, [], ◌∷◌, sym, ap, subst, ◌∙◌, arith, refl}
-use Rattle.std.specs.Prelude.{IfOk}
+use Rattle.std.proofs.Common.{◌≡◌, max, List, [], ◌∷◌, sym, ap, subst, ◌∙◌, arith, refl}
 use Rattle.qc_types.specs.Blocks.{raised}
 use Rattle.qc_model.specs.Licence.{unit_words, words_of_bytes}
-use Rattle.qc_tiles.specs.declared.blocks.NoTile.{NoTile}
 use Rattle.qc_tiles.specs.declared.blocks.Tile.{Tile}
 use Rattle.qc_chain.proofs.Calls.{words_are}
 use Rattle.qc_sound.proofs.Handed.{times_append}
-use Rattle.qc_core.specs.declared.parts.Parts.{Parts}
 use Rattle.qc_core.specs.Leaves.{table_blocks}
 use Rattle.qc_core.specs.Takes.{next_of, MayTakeOne, PrunesSome, HasNone, TakesKeeping, Stops}
 use Rattle.qc_core.proofs.Drawing.{may_take_first, may_take_text, pair_so, stops, given_out, err_same}

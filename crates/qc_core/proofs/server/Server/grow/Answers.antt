@@ -1,4 +1,4 @@
-use Rattle.std.proofs.Common.{◌≡◌, subst, ◌∙◌}
+use Rattle.std.proofs.Common.{subst, ◌∙◌}
 use Rattle.qc_core.specs.declared.parts.Parts.{Parts}
 use Rattle.qc_core.specs.Grows.{MayGrowOn, StaysFilling, TellsGrowth}
 use Rattle.qc_core.proofs.server.Server.grow.Goals as goal

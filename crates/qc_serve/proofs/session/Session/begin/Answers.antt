@@ -1,4 +1,4 @@
-use Rattle.std.proofs.Common.{refl, ap, sym, ◌∙◌}
+use Rattle.std.proofs.Common.{refl, ap, ◌∙◌}
 use Rattle.qc_model.specs.Machine.{begun}
 use Rattle.qc_trx.specs.SnapshotStates.{SnapshotState, after_begin}
 use Rattle.qc_serve.specs.Going.{next_who}

@@ -1,7 +1,7 @@
-use Rattle.std.proofs.Common.{refl, ap, sym, ◌∙◌}
+use Rattle.std.proofs.Common.{refl, ap, ◌∙◌}
 use Rattle.qc_trx.specs.SnapshotStates.{SnapshotState}
 use Rattle.qc_serve.proofs.Resting.{or_err}
-use Rattle.qc_serve.proofs.Using.{Sees, kept_out, may_keep, refusal_fits, refused_out, sees, shared_stop, shared_stops}
+use Rattle.qc_serve.proofs.Using.{kept_out, may_keep, refusal_fits, refused_out, sees, shared_stop, shared_stops}
 use Rattle.qc_serve.proofs.session.Session.change_own_rows.Goals as goal
 
 pub keep-requires-clause-may : goal.keep-requires-clause-may

@@ -5,8 +5,7 @@ use Rattle.qc_sql.specs.Keys.{key_bytes}
 use Rattle.qc_sql.specs.Rules.{asks}
 use Rattle.qc_model.specs.Session.{key_of_text}
 use Rattle.qc_select.specs.Selects.{IsOfText}
-use Rattle.qc_serve.proofs.Selecting.{decided, key_lacks, may_decide, turn_lacks}
-use Rattle.qc_serve.proofs.Resting.{or_err}
+use Rattle.qc_serve.proofs.Selecting.{decided, may_decide}
 use Rattle.qc_serve.proofs.session.Session.decide.Goals as goal
 
 pub returns-clause-decided : goal.returns-clause-decided

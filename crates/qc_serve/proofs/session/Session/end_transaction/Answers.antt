@@ -1,4 +1,4 @@
-use Rattle.std.proofs.Common.{refl, ap}
+use Rattle.std.proofs.Common.{refl}
 use Rattle.qc_serve.specs.Ends.{EndsAs}
 use Rattle.qc_serve.specs.Going.{next_who}
 use Rattle.qc_serve.proofs.Resting.{none_stops, or_err, seat_logs}

@@ -1,4 +1,4 @@
-use Rattle.std.proofs.Common.{◌≡◌, List, ℕ, None, true, rules, sym, ◌∙◌}
+use Rattle.std.proofs.Common.{◌≡◌, List, ℕ, None, true, rules}
 use Rattle.qc_steps.specs.Statements.{changes_rows}
 use Rattle.qc_sql.specs.declared.statements.Statement.TheVariants as statement
 use Rattle.qc_types.specs.declared.totals.Totals.{Totals}

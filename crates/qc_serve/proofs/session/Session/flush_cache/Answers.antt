@@ -1,7 +1,6 @@
 use Rattle.std.proofs.Common.{◌≡◌, refl, ap}
 use Rattle.qc_serve.specs.declared.session.Session.{Session}
 use Rattle.qc_model.specs.declared.events.Event.TheVariants as event
-use Rattle.qc_model.specs.Machine.{ok_reply}
 use Rattle.qc_serve.specs.Going.{next_who}
 use Rattle.qc_serve.proofs.Meeting.{event_gives}
 use Rattle.qc_serve.proofs.Resting.{none_stops, or_err, seat_logs}

@@ -1,5 +1,4 @@
 use Rattle.qc_serve.proofs.Meeting.{other_gives}
-use Rattle.std.proofs.Common.{◌≡◌, List, ℕ, refl, sym, ap}
 use Rattle.qc_model.specs.Machine.{ok_reply}
 use Rattle.qc_serve.proofs.session.Session.log_ok.Goals as goal
 

@@ -1,4 +1,4 @@
-use Rattle.std.proofs.Common.{◌≡◌, List, ℕ, None, refl, sym, ap}
+use Rattle.std.proofs.Common.{List, ℕ, None, refl, ap}
 use Rattle.qc_model.specs.Machine.{ok_reply, other}
 use Rattle.qc_model.specs.Session.{with_transaction}
 use Rattle.qc_trx.specs.SnapshotStates.{SnapshotState}

@@ -1,4 +1,4 @@
-use Rattle.std.proofs.Common.{◌≡◌, List, ℕ, Bool, false, refl, sym, ap, ◌∙◌}
+use Rattle.std.proofs.Common.{◌≡◌, List, ℕ, false, sym, ap, ◌∙◌}
 use Rattle.std.specs.Prelude.{◌&&◌, not, unwrap_or}
 use Rattle.qc_sql.specs.declared.session.Flags.{Flags}
 use Rattle.qc_model.specs.Machine.{ok_reply, other, refused, set_autocommit}

@@ -1,4 +1,4 @@
-use Rattle.std.proofs.Common.{◌≡◌, List, ℕ, refl, sym, ap}
+use Rattle.std.proofs.Common.{List, ℕ}
 use Rattle.qc_model.specs.Machine.{ok_reply, refused}
 use Rattle.qc_replies.proofs.Calls.{if_ok}
 use Rattle.qc_serve.specs.Going.{SetsOther, TellsOut}

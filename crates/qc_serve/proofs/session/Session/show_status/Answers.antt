@@ -1,7 +1,6 @@
-use Rattle.std.proofs.Common.{◌≡◌, List, ℕ, refl, sym, ap}
+use Rattle.std.proofs.Common.{◌≡◌, List, ℕ, refl, ap}
 use Rattle.qc_sql.specs.Packets.{packets}
 use Rattle.qc_model.specs.Machine.{status_reply}
-use Rattle.qc_trx.specs.SnapshotStates.{SnapshotState}
 use Rattle.qc_types.specs.declared.totals.Totals.{Totals}
 use Rattle.qc_replies.proofs.Calls.{if_ok}
 use Rattle.qc_serve.specs.declared.session.Session.{Session}

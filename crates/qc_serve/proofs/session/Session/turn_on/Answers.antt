@@ -1,6 +1,6 @@
-use Rattle.std.proofs.Common.{None, true, refl, ap, sym, ◌∙◌}
+use Rattle.std.proofs.Common.{None, true, refl, ap, ◌∙◌}
 use Rattle.qc_trx.specs.SnapshotStates.{SnapshotState}
-use Rattle.qc_model.specs.Session.{State, with_transaction}
+use Rattle.qc_model.specs.Session.{with_transaction}
 use Rattle.qc_serve.specs.Going.{next_who}
 use Rattle.qc_serve.proofs.Meeting.{ends_fit}
 use Rattle.qc_serve.proofs.Resting.{or_err}

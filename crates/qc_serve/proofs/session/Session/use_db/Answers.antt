@@ -1,5 +1,3 @@
-use Rattle.std.proofs.Common.{refl, ap, sym, ◌∙◌}
-use Rattle.qc_trx.specs.SnapshotStates.{SnapshotState}
 use Rattle.qc_serve.proofs.Resting.{or_err}
 use Rattle.qc_serve.proofs.Using.{choice_session, kept_session, shared_stops, use_fits, use_give, use_refuse}
 use Rattle.qc_serve.proofs.session.Session.use_db.Goals as goal
