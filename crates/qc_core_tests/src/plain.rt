@@ -19,11 +19,12 @@ struct PlainEntry {
     text: u32,
 }
 
-/// A task of a seat on the chain of an entry.
+/// A task of a seat on the chain of an entry. A stream that has ended is listed until it is struck off.
 #[derive(Clone, Copy, Debug)]
 struct PlainTask {
     seat: u32,
     serial: u64,
+    ended: bool,
 }
 
 /// A table that an entry names, and its block.
@@ -315,8 +316,18 @@ impl<'a> Plain<'a> {
         None
     }
 
+    fn list_task(&mut self, seat: u32, serial: u64) -> Result<(), AllocError> {
+        self.tasks.push(PlainTask {
+            seat,
+            serial,
+            ended: false,
+        })?;
+        Ok(())
+    }
+
     /// A seat sends a SELECT of which the cache is asked.
     pub(crate) fn select(&mut self, seat: u32, query: usize) -> Result<Choice, AllocError> {
+        self.arrive(seat)?;
         match self.entry_of(query) {
             Some(entry) if entry.complete => self.hit(seat, entry.serial),
             Some(entry) => {
@@ -354,7 +365,7 @@ impl<'a> Plain<'a> {
 
     fn hit(&mut self, seat: u32, serial: u64) -> Result<Choice, AllocError> {
         self.touch(serial)?;
-        self.tasks.push(PlainTask { seat, serial })?;
+        self.list_task(seat, serial)?;
         self.pin(serial, true);
         self.counts.hits = self.counts.hits.wrapping_add(1);
         let line = format!(in self.alloc; "hit {serial}")?;
@@ -366,6 +377,7 @@ impl<'a> Plain<'a> {
         let Some(asked) = self.queries.get(query).copied() else {
             return Ok(Choice::Plain);
         };
+        self.strike_ended(seat)?;
         match self.allocate_all(asked)? {
             Ok((first, text)) => {
                 self.counts.com_select = self.counts.com_select.wrapping_add(1);
@@ -381,7 +393,7 @@ impl<'a> Plain<'a> {
                     serial,
                     block: first,
                 })?;
-                self.tasks.push(PlainTask { seat, serial })?;
+                self.list_task(seat, serial)?;
                 self.pin(serial, true);
                 let line = format!(in self.alloc; "start {serial}")?;
                 self.tell(&line)?;
@@ -422,8 +434,48 @@ impl<'a> Plain<'a> {
         Ok(())
     }
 
+    /// The seat ends its stream.
+    pub(crate) fn end_stream(&mut self, seat: u32) -> Result<(), AllocError> {
+        let mut all = Vec::new(self.alloc);
+        for task in self.tasks.as_slice() {
+            let mut task = *task;
+            if task.seat == seat {
+                task.ended = true;
+            }
+            all.push(task)?;
+        }
+        self.tasks = all;
+        Ok(())
+    }
+
+    /// The first other seat whose stream has ended and is listed still.
+    fn first_ended(&self, own: u32) -> Option<u32> {
+        for task in self.tasks.as_slice() {
+            if task.ended && task.seat != own {
+                return Some(task.seat);
+            }
+        }
+        None
+    }
+
+    /// The streams that other seats have ended are struck off.
+    fn strike_ended(&mut self, own: u32) -> Result<(), AllocError> {
+        for _ in 0..100 {
+            match self.first_ended(own) {
+                Some(seat) => self.rest(seat)?,
+                None => break,
+            }
+        }
+        Ok(())
+    }
+
+    /// A call of the seat's session begins: its own stream has ended, and is struck off where it is listed still.
+    pub(crate) fn arrive(&mut self, seat: u32) -> Result<(), AllocError> {
+        self.rest(seat)
+    }
+
     /// The seat has no task any more.
-    pub(crate) fn rest(&mut self, seat: u32) -> Result<(), AllocError> {
+    fn rest(&mut self, seat: u32) -> Result<(), AllocError> {
         let mut left = Vec::new(self.alloc);
         let mut ended = None;
         for task in self.tasks.as_slice() {
@@ -457,9 +509,7 @@ impl<'a> Plain<'a> {
         let Some(serial) = self.task(seat) else {
             return Ok(());
         };
-        if self.entry(serial).is_none() {
-            return self.rest(seat);
-        }
+        let there = self.entry(serial).is_some();
         let mut bytes = 0u32;
         for packet in packets {
             bytes = bytes.wrapping_add(*packet);
@@ -467,11 +517,21 @@ impl<'a> Plain<'a> {
                 let why = format!(in self.alloc; "toolarge {bytes} {}", self.limit)?;
                 return self.give_up(seat, serial, &why);
             }
-            if !self.grow(serial, bytes.div_ceil(8))? {
+            let words = bytes.div_ceil(8);
+            if self.chain_words(serial) < words {
+                self.strike_ended(seat)?;
+                if !there {
+                    return self.rest(seat);
+                }
+            }
+            if !self.grow(serial, words)? {
                 let largest = self.blocks.largest();
                 let why = format!(in self.alloc; "noroom {} {largest}", self.unit)?;
                 return self.give_up(seat, serial, &why);
             }
+        }
+        if !there {
+            return self.rest(seat);
         }
         self.done(seat, serial, bytes.div_ceil(8))
     }
@@ -616,13 +676,15 @@ impl<'a> Plain<'a> {
     }
 
     /// Blocks move down.
-    pub(crate) fn flush(&mut self) -> Result<(), AllocError> {
+    pub(crate) fn flush(&mut self, seat: u32) -> Result<(), AllocError> {
+        self.strike_ended(seat)?;
         self.blocks.compact()?;
         self.tell("flush")
     }
 
     /// The totals are told.
-    pub(crate) fn status(&mut self) -> Result<(), AllocError> {
+    pub(crate) fn status(&mut self, seat: u32) -> Result<(), AllocError> {
+        self.strike_ended(seat)?;
         let (all, free, words) = self.totals();
         let line = format!(in self.alloc; "status {all} {free} {words}")?;
         self.tell(&line)

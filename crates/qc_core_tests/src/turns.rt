@@ -21,7 +21,7 @@ use qc_core::Server;
 use qc_flow::Fill;
 use qc_model::events::Counters;
 use qc_turn::{Held, Seat, Task, Turn};
-use qc_types::{NoMemory, Options, Steps, Text};
+use qc_types::{NoMemory, Options, Steps, Text, Totals};
 use std::alloc::{AllocError, Global};
 use std::marker::Brand;
 use std::sync::Wait;
@@ -99,7 +99,7 @@ fn table_of(table: u32) -> &'static [u8] {
     }
 }
 
-/// Where the server isn't the plain one: its counters, or one of the last entries.
+/// Where the server isn't the plain one: its counters, the totals of its blocks, or one of the last entries.
 #[tactic(auto, using(crate::proofs::Selecting::somewhere_sound, crate::proofs::Selecting::value_back))]
 fn differences(
     held: &mut Held<'_, Server>,
@@ -127,6 +127,15 @@ fn differences(
     if counts != plain.counts() || queries_in_cache != plain.entries() {
         return String::from_str(alloc, "counters");
     }
+    let Totals {
+        blocks,
+        free_blocks,
+        free_words,
+    } = held.value().totals();
+    let (all, free, words) = plain.totals();
+    if blocks != all || free_blocks != free || free_words != words {
+        return String::from_str(alloc, "totals");
+    }
     for serial in inserts.saturating_sub(60)..=inserts {
         let found = held.value().entry(serial).map(|entry| entry.complete);
         if found != plain.entry(serial) {
@@ -151,7 +160,7 @@ fn judged(
     Ok(found?)
 }
 
-/// Where the events behind those that were compared before, the counters or the last entries aren't those of the plain server.
+/// Where the events behind those that were compared before, the counters, the totals or the last entries aren't those of the plain server.
 #[tactic(auto, using(crate::proofs::Selecting::value_back))]
 fn compare(
     held: &mut Held<'_, Server>,
@@ -349,7 +358,7 @@ fn step_beside<R: Wait>(
     let Task::Rest = other.task() else {
         return Ok(());
     };
-    let step = other_step(plain, dice)?;
+    let step = other_step(plain, other.number(), dice)?;
     made(take_turn(rt, alloc, turn, other, step))
 }
 
@@ -429,13 +438,14 @@ fn next_step<R: Wait, L: Ledger>(
     if dice.below(40) <= 25 {
         select_step(rt, alloc, turn, seat, other, plain, dice, kept, steps)
     } else {
-        let step = other_step(plain, dice)?;
+        let step = other_step(plain, seat.number(), dice)?;
         plain_step(rt, alloc, turn, seat, plain, step)
     }
 }
 
-/// A step that is no SELECT, as the plain server takes it.
-fn other_step(plain: &mut Plain<'_>, dice: &mut Dice) -> Result<Step<'static>, Stop> {
+/// A step of a seat that is no SELECT, as the plain server takes it.
+fn other_step(plain: &mut Plain<'_>, seat: u32, dice: &mut Dice) -> Result<Step<'static>, Stop> {
+    plain.arrive(seat)?;
     match dice.below(14) {
         0..=4 => Ok(Step::Make(change(plain, dice)?)),
         5 => {
@@ -443,7 +453,7 @@ fn other_step(plain: &mut Plain<'_>, dice: &mut Dice) -> Result<Step<'static>, S
             Ok(Step::Reset)
         }
         6 | 7 => {
-            plain.flush()?;
+            plain.flush(seat)?;
             Ok(Step::Flush)
         }
         8 => {
@@ -451,7 +461,7 @@ fn other_step(plain: &mut Plain<'_>, dice: &mut Dice) -> Result<Step<'static>, S
             Ok(Step::Make(drop_or_make(plain, table)?))
         }
         _ => {
-            plain.status()?;
+            plain.status(seat)?;
             Ok(Step::Status)
         }
     }
@@ -493,13 +503,13 @@ fn stream_step(
     ensures { IsResting turn.now seat.new × IsSame seat.old seat.new }
 {
     let whole = streams(turn, seat, kept);
-    let rested = plain.rest(seat.number());
+    let noted = plain.end_stream(seat.number());
     stop_streaming(turn, seat);
-    streamed(alloc, whole, rested)
+    streamed(alloc, whole, noted)
 }
 
-fn streamed(alloc: Global, whole: bool, rested: Result<(), AllocError>) -> Result<String, Stop> {
-    rested?;
+fn streamed(alloc: Global, whole: bool, noted: Result<(), AllocError>) -> Result<String, Stop> {
+    noted?;
     Ok(String::from_str(alloc, if whole { "" } else { "stream" })?)
 }
 
