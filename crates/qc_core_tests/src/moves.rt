@@ -12,9 +12,9 @@ use crate::hall::open;
 use crate::lines::lines_from;
 use crate::selects::{Outcome, has_room, select};
 use crate::stop::Stop;
-use crate::whole::{Filled, begin_fill, fill_whole};
+use crate::whole::{Filled, begin_fill, fill_beside, fill_whole};
 use qc_core::Server;
-use qc_flow::FillStep;
+use qc_flow::{Ended, FillStep};
 use qc_model::events::Counters;
 use qc_turn::{Held, Seat, Task, Turn};
 use qc_types::{Options, Steps, Text};
@@ -32,6 +32,8 @@ pub(crate) enum Move<'a> {
     Ask(&'a str),
     /// A SELECT, whose fill stays open where an entry is begun.
     Begin(&'a str),
+    /// A SELECT that begins an entry. The other seat rests, and makes a step when so many packets are put.
+    Beside(&'a str, u32, Step<'a>),
     /// The stream's bytes are compared with what the SELECT answered, and the stream ends.
     End,
     /// The fill is given up.
@@ -120,11 +122,72 @@ fn filled_told(
     more: String,
     filled: Filled,
 ) -> Result<String, AllocError> {
-    let Filled { packets, last } = filled;
-    match last {
-        FillStep::More => format!(in alloc; "{told}, {more}"),
+    let Filled {
+        packets,
+        last,
+        ended,
+    } = filled;
+    match (last, ended) {
+        (FillStep::More, Some(Ended::Overtaken(by))) => {
+            format!(in alloc; "{told}, {more}, overtaken by {by}")
+        }
+        (FillStep::More, _) => format!(in alloc; "{told}, {more}"),
         _ => format!(in alloc; "{told}, {more}, put {packets}: {last:?}"),
     }
+}
+
+/// A SELECT. Where it begins an entry, that is filled while another seat makes a step.
+#[tactic(auto, using(crate::proofs::Selecting::took_fixed, crate::proofs::Selecting::knows_on))]
+fn ask_beside<R: Wait, L: Ledger>(
+    rt: &R,
+    alloc: Global,
+    turn: &Turn<Server>,
+    seat: &mut Seat<Server>,
+    other: &mut Seat<Server>,
+    text: &[u8],
+    behind: u32,
+    step: Step<'_>,
+    steps: &mut Steps<L>,
+) -> Result<String, Stop>
+    requires { IsResting turn.now seat.old × IsResting turn.now other.old }
+    ensures seat { IsSeatOf turn.now seat.new × IsSame seat.old seat.new }
+    ensures other { IsSeatOf turn.now other.new × IsSame other.old other.new }
+{
+    let mut held = turn.take(rt, seat);
+    let first = held.value().journal().len();
+    let done = select(&mut held, alloc, text, steps);
+    let told = lines_from(alloc, held.value().journal(), first);
+    let next = held.value().journal().len();
+    let Outcome { task, reply } = match done {
+        Ok(outcome) => outcome,
+        Err(stop) => {
+            give_back(held);
+            return Err(stop);
+        }
+    };
+    let Task::Fill(serial) = task else {
+        end_with(held, task);
+        return Err(Stop::Task);
+    };
+    if !has_room(&mut held) {
+        end_with(held, task);
+        return Err(Stop::Blocks);
+    }
+    let options = held.value().options();
+    let fill = begin_fill(held, serial, &options, reply.bytes());
+    let filled = fill_beside(
+        rt,
+        alloc,
+        turn,
+        seat,
+        other,
+        fill,
+        reply.bytes(),
+        behind,
+        step,
+    );
+    let more = rest_told(rt, alloc, turn, seat, next)?;
+    Ok(filled_told(alloc, told?, more, filled)?)
 }
 
 /// The events behind the first so many, in words.
@@ -239,8 +302,44 @@ fn resting_told<R: Wait, L: Ledger>(
         Move::Ask(text) => ask_told(rt, alloc, turn, seat, text.as_bytes(), kept, steps),
         Move::Begin(text) => begin_told(rt, alloc, turn, seat, text.as_bytes(), kept, steps),
         Move::Count => counted(rt, alloc, turn, seat),
-        Move::End | Move::GiveUp => Err(Stop::Task),
+        Move::Beside(_, _, _) | Move::End | Move::GiveUp => Err(Stop::Task),
     }
+}
+
+/// What a move of a seat tells, where another one is there too.
+fn move_beside<R: Wait, L: Ledger>(
+    rt: &R,
+    alloc: Global,
+    turn: &Turn<Server>,
+    seat: &mut Seat<Server>,
+    other: &mut Seat<Server>,
+    next: Move<'_>,
+    kept: &mut Text,
+    steps: &mut Steps<L>,
+) -> Result<String, Stop>
+    requires { IsSeatOf turn.now seat.old × IsSeatOf turn.now other.old }
+    ensures seat { IsSeatOf turn.now seat.new × IsSame seat.old seat.new }
+    ensures other { IsSeatOf turn.now other.new × IsSame other.old other.new }
+{
+    let Move::Beside(text, behind, step) = next else {
+        return move_told(rt, alloc, turn, seat, next, kept, steps);
+    };
+    if let Task::Rest = seat.task() {
+        if let Task::Rest = other.task() {
+            return ask_beside(
+                rt,
+                alloc,
+                turn,
+                seat,
+                other,
+                text.as_bytes(),
+                behind,
+                step,
+                steps,
+            );
+        }
+    }
+    Err(Stop::Task)
 }
 
 /// What the last SELECT of each seat answered.
@@ -267,9 +366,18 @@ fn next_move<R: Wait, L: Ledger>(
     ensures second { IsSeatOf turn.now second.new × IsSame second.old second.new }
 {
     if number == 1 {
-        move_told(rt, alloc, turn, first, next, &mut kept.first, steps)
+        move_beside(rt, alloc, turn, first, second, next, &mut kept.first, steps)
     } else {
-        move_told(rt, alloc, turn, second, next, &mut kept.second, steps)
+        move_beside(
+            rt,
+            alloc,
+            turn,
+            second,
+            first,
+            next,
+            &mut kept.second,
+            steps,
+        )
     }
 }
 

@@ -1,7 +1,7 @@
 use crate::calls::Step::{self, Flush, Join, Make, Part, Pass, Reset, Status};
 use crate::changes::Change::{Database, Row, Table};
 use crate::hall::{join_all, play_all};
-use crate::moves::Move::{self, Ask, Begin, Count, End, GiveUp, Take};
+use crate::moves::Move::{self, Ask, Begin, Beside, Count, End, GiveUp, Take};
 use crate::moves::play_moves;
 use crate::turns::play_random;
 use qc_types::Options;
@@ -392,19 +392,38 @@ const LONG: (&[(u32, Move<'static>)], &[&str]) = (
     ],
 );
 
+/// The same rows. When 70 packets are put, the second block has bytes, and the other seat commits, by the event 95. No event ends the fill.
+const OVERTAKEN: (&[(u32, Move<'static>)], &[&str]) = (
+    &[
+        (1, Take(Join)),
+        (2, Beside("SELECT id FROM t", 70, Make(Row(b"t", 8)))),
+        (2, Ask("SELECT id FROM t")),
+        (2, Take(Status)),
+        (2, Count),
+    ],
+    &[
+        "",
+        "start 1, commit, overtaken by 95",
+        "start 2, done 2",
+        "status 5 1 768",
+        "2 0 2 0 0 1",
+    ],
+);
+
 #[test]
-fn a_reply_of_two_blocks_is_kept(rt: HostRuntime) -> Result<(), Fail> {
-    let (moves, wanted) = LONG;
-    let mut all = Vec::new(rt.alloc());
-    all.extend_from_slice(&BASE)?;
-    for key in 10..100 {
-        all.push((2, Take(Make(Row(b"t", key)))))?;
-    }
-    all.extend_from_slice(moves)?;
-    let told = play_moves(&rt, rt.alloc(), sized(8192), all.as_slice()).map_err(|_| "stopped")?;
-    assert!(rt; told.len() == wanted.len() + 94);
-    for (line, wanted) in told.as_slice()[94..].iter().zip(wanted.iter()) {
-        assert!(rt; line.as_str() == *wanted, "{line} for {wanted}");
+fn replies_of_two_blocks(rt: HostRuntime) -> Result<(), Fail> {
+    for (moves, wanted) in [LONG, OVERTAKEN] {
+        let mut all = Vec::new(rt.alloc());
+        all.extend_from_slice(&BASE)?;
+        for key in 10..100 {
+            all.push((2, Take(Make(Row(b"t", key)))))?;
+        }
+        all.extend_from_slice(moves)?;
+        let told = play_moves(&rt, rt.alloc(), sized(8192), all.as_slice()).map_err(|_| "stopped")?;
+        assert!(rt; told.len() == wanted.len() + 94);
+        for (line, wanted) in told.as_slice()[94..].iter().zip(wanted.iter()) {
+            assert!(rt; line.as_str() == *wanted, "{line} for {wanted}");
+        }
     }
     Ok(())
 }

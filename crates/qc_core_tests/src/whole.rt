@@ -8,10 +8,12 @@ ghost use Rattle.qc_flow.specs.Fills.{IsFillOf};
 ghost use Rattle.qc_core_tests.specs.Seats.{Answers, HasRoom, IsPacket, IsResting, IsSame, KnowsFixed, MayEnd};
 ghost use Rattle.qc_core_tests.specs.Fillings.{CutsOff, IsLeft};
 
+use crate::calls::{Step, take_turn};
 use qc_core::Server;
-use qc_flow::{Fill, FillStep};
+use qc_flow::{Ended, Fill, FillStep};
 use qc_turn::{Held, Seat, Task, Turn};
 use qc_types::Options;
+use std::alloc::Global;
 use std::sync::Wait;
 
 /// The bytes of a packet in front of its payload.
@@ -66,6 +68,8 @@ pub(crate) struct Filled {
     pub(crate) packets: u32,
     /// What became of the last one. `More` where all were stored, and the fill was then ended.
     pub(crate) last: FillStep,
+    /// How it ended then.
+    pub(crate) ended: Option<Ended>,
 }
 
 /// Stores what is left of an entry's answer, packet by packet, and ends its fill. The seat rests then.
@@ -89,13 +93,83 @@ pub(crate) fn fill_whole<R: Wait>(
         packets = packets.saturating_add(1);
         match fill.put(rt, turn, seat, packet) {
             FillStep::More => {}
-            last => return Filled { packets, last },
+            last => {
+                return Filled {
+                    packets,
+                    last,
+                    ended: None,
+                };
+            }
         }
         rest = &rest[packet.len()..];
     }
-    let _ended = fill.end(rt, turn, seat);
+    let ended = fill.end(rt, turn, seat);
     Filled {
         packets,
         last: FillStep::More,
+        ended: Some(ended),
+    }
+}
+
+/// A seat makes its step, where that is due.
+fn step_where<R: Wait>(
+    rt: &R,
+    alloc: Global,
+    turn: &Turn<Server>,
+    seat: &mut Seat<Server>,
+    is_due: bool,
+    step: Step<'_>,
+)
+    requires { IsResting turn.now seat.old }
+    ensures { IsResting turn.now seat.new × IsSame seat.old seat.new }
+{
+    if is_due {
+        let _told = take_turn(rt, alloc, turn, seat, step);
+    }
+}
+
+/// The same as `fill_whole`, but another seat makes a step behind so many packets.
+pub(crate) fn fill_beside<R: Wait>(
+    rt: &R,
+    alloc: Global,
+    turn: &Turn<Server>,
+    seat: &mut Seat<Server>,
+    other: &mut Seat<Server>,
+    fill: Fill,
+    reply: &[u8],
+    behind: u32,
+    step: Step<'_>,
+) -> Filled
+    requires seated { IsSeatOf turn.now seat.old }
+    requires fills { IsFillOf fill seat.old }
+    requires left { IsLeft fill.serial reply.now (view seat.old) }
+    requires other { IsResting turn.now other.old }
+    ensures seat { IsResting turn.now seat.new × IsSame seat.old seat.new }
+    ensures other { IsResting turn.now other.new × IsSame other.old other.new }
+{
+    let mut fill = fill;
+    let mut rest = reply;
+    let mut packets = 0u32;
+    while !rest.is_empty() {
+        step_where(rt, alloc, turn, other, packets == behind, step);
+        let packet = next_packet(rest);
+        packets = packets.saturating_add(1);
+        match fill.put(rt, turn, seat, packet) {
+            FillStep::More => {}
+            last => {
+                return Filled {
+                    packets,
+                    last,
+                    ended: None,
+                };
+            }
+        }
+        rest = &rest[packet.len()..];
+    }
+    let ended = fill.end(rt, turn, seat);
+    Filled {
+        packets,
+        last: FillStep::More,
+        ended: Some(ended),
     }
 }
