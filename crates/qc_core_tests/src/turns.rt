@@ -99,7 +99,7 @@ fn table_of(table: u32) -> &'static [u8] {
     }
 }
 
-/// Where the server isn't the plain one: its counters, the totals of its blocks, or one of the last entries.
+/// Where the server isn't the plain one: its counters, the totals of its blocks, or an entry.
 #[tactic(auto, using(crate::proofs::Selecting::somewhere_sound, crate::proofs::Selecting::value_back))]
 fn differences(
     held: &mut Held<'_, Server>,
@@ -136,7 +136,7 @@ fn differences(
     if blocks != all || free_blocks != free || free_words != words {
         return String::from_str(alloc, "totals");
     }
-    for serial in inserts.saturating_sub(60)..=inserts {
+    for serial in 1..=inserts {
         let found = held.value().entry(serial).map(|entry| entry.complete);
         if found != plain.entry(serial) {
             return format!(in alloc; "entry {serial}");
@@ -160,7 +160,7 @@ fn judged(
     Ok(found?)
 }
 
-/// Where the events behind those that were compared before, the counters, the totals or the last entries aren't those of the plain server.
+/// Where the events behind those that were compared before, the counters, the totals or the entries aren't those of the plain server.
 #[tactic(auto, using(crate::proofs::Selecting::value_back))]
 fn compare(
     held: &mut Held<'_, Server>,
