@@ -4,7 +4,7 @@ use Rattle.std.specs.Prelude.{slice_set}
 use Rattle.qc_model.specs.declared.events.Event.{Event}
 use Rattle.qc_turn.specs.declared.view.MetSeat.{MetSeat}
 use Rattle.qc_turn.specs.Views.{AllMet}
-use Rattle.qc_serve_tests.specs.Players.{HasMet, MeetsOne}
+use Rattle.qc_serve_tests.specs.Players.{HasMet, MeetsMore, MeetsOne}
 
 set_last : {A : Type 0} (xs : List A) (a b : A) → slice_set (xs ++ a ∷ []) (length xs) b ≡ xs ++ b ∷ []
 set_last [] a b = refl
@@ -35,3 +35,26 @@ all_met_one old new all one = subst AllMet (sym one.1) (all_met_more old one.0 a
 
 pub met_length : (old new : List (Option (MetSeat Event))) → MeetsOne old new → length new ≡ length old + 1
 met_length old new one = ap length one.1 ∙ length-append old (Some one.0 ∷ [])
+
+set_among : {A : Type 0} (xs ys : List A) (a b : A) → slice_set ((xs ++ a ∷ []) ++ ys) (length xs) b ≡ xs ++ b ∷ ys
+set_among [] ys a b = refl
+set_among (x ∷ xs) ys a b = ap (λ l. x ∷ l) (set_among xs ys a b)
+
+-- one behind which others were split off and met
+pub met_among : (r0 r1 r2 r3 : List (Option (MetSeat Event))) (n : ℕ) → r1 ≡ r0 ++ None ∷ [] → MeetsMore r1 r2 → n ≡ length r0 + 2 → HasMet n r2 r3 → MeetsMore r0 r3
+met_among r0 r1 r2 r3 n split more is met =
+    let at : n - 2 ≡ length r0 = omega (arith, is) in
+    let grown : r2 ≡ (r0 ++ None ∷ []) ++ more.0 = more.1 ∙ ap (λ l. l ++ more.0) split in
+    let set : r3 ≡ slice_set ((r0 ++ None ∷ []) ++ more.0) (length r0) (Some met.0) = met.1 ∙ (λ i. slice_set (grown i) (at i) (Some met.0)) in
+    (Some met.0 ∷ more.0, set ∙ set_among r0 more.0 None (Some met.0), more.2)
+
+append_none : {A : Type 0} (xs : List A) → xs ≡ xs ++ []
+append_none [] = refl
+append_none (x ∷ xs) = ap (λ l. x ∷ l) (append_none xs)
+
+-- one behind which there is none
+pub met_alone : (r0 r1 r3 : List (Option (MetSeat Event))) (n : ℕ) → r1 ≡ r0 ++ None ∷ [] → n ≡ length r0 + 2 → HasMet n r1 r3 → MeetsMore r0 r3
+met_alone r0 r1 r3 n split is met = met_among r0 r1 r1 r3 n split ([], append_none r1, tt) is met
+
+pub all_met_among : (old new : List (Option (MetSeat Event))) → old ≡ [] → MeetsMore old new → AllMet new
+all_met_among old new none m = subst AllMet (sym (m.1 ∙ ap (λ l. l ++ m.0) none)) m.2

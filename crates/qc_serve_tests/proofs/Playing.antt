@@ -1,5 +1,6 @@
 -- A session behind a command, and behind its end.
-use Rattle.std.proofs.Common.{◌≡◌, ◌≢◌, ℕ, ◌+◌, List, Option, Some, None, refl, sym, ap, ◌∙◌}
+use Rattle.std.proofs.Common.{◌≡◌, ◌≢◌, ℕ, ◌+◌, List, Option, Some, None, refl, sym, ap, ◌∙◌, true≢false}
+use Rattle.std.specs.Prelude.{IfSome, IsSome}
 use Rattle.qc_sql.specs.declared.commands.Command.{Command}
 use Rattle.qc_model.specs.declared.events.Event.{Event}
 use Rattle.qc_turn.specs.declared.seat.Seat.{Seat}
@@ -16,6 +17,7 @@ use Rattle.qc_serve.specs.declared.sinks.Piece.{Piece}
 use Rattle.qc_serve.specs.Connecting.{HasBegun}
 use Rattle.qc_serve.specs.Executed.{Executes}
 use Rattle.qc_serve.specs.Going.{IsAtRest, as_fixed}
+use Rattle.qc_serve.specs.Served.{IsServed}
 use Rattle.qc_serve_tests.specs.Players.{ArePlayers, IsPlayer, Play, Stays, fixed_at, seat_number}
 
 none_some : (x : Option End) (e : End) → x ≡ Some e → x ≢ None
@@ -38,6 +40,18 @@ plays_on t c old new held out before now (executed.Ended e) rest none r =
       player = record { going = λ g. absurd (none_some new.end e h.end g); ended = λ g. h.left.apart };
       number = h.left.number ∙ sym old_number;
       fixed = ap (λ p. p.0) h.breaks.standing;
+    }
+
+-- a session that was served to its end
+pub serves_on : (t : Turn Parts Event) (old new : Session) (input : Option (List ℕ)) (held out : Option (List Piece)) (end : Option End) → IsAtRest t old → IfSome end (IsServed t old new input held out) × IsSome end → Stays t old new
+serves_on t old new input held out None rest s = absurd (true≢false (sym s.1))
+serves_on t old new input held out (Some e) rest s =
+    let d = s.0 in
+    let old_number = rest.rests.number in
+    record {
+      player = record { going = λ g. absurd (none_some new.end e d.end g); ended = λ g. d.left.apart };
+      number = d.left.number ∙ sym old_number;
+      fixed = ap (λ p. p.0) d.standing;
     }
 
 -- a session that has just begun

@@ -10,6 +10,7 @@ use Rattle.qc_turn.specs.declared.seat.Seat.{Seat}
 use Rattle.qc_turn.specs.declared.turn.Turn.{Turn}
 use Rattle.qc_turn.specs.declared.view.MetSeat.{MetSeat}
 use Rattle.qc_turn.specs.Seats.{IsSeatOf, view}
+use Rattle.qc_turn.specs.Views.{AllMet}
 use Rattle.qc_core.specs.contracts.server.ServerKept.TheImpl.{ghosts}
 use Rattle.qc_core.specs.declared.parts.Parts.{Parts}
 use Rattle.qc_serve.specs.declared.session.Session.{Session}
@@ -63,3 +64,7 @@ HasMet n old new = (kept : MetSeat Event) × (new ≡ slice_set old (n - 2) (Som
 -- it has split one off and met it
 abbrev pub MeetsOne : List (Option (MetSeat Event)) → List (Option (MetSeat Event)) → Type 0
 MeetsOne old new = (kept : MetSeat Event) × (new ≡ old ++ Some kept ∷ [])
+
+-- it has split others off and met them
+abbrev pub MeetsMore : List (Option (MetSeat Event)) → List (Option (MetSeat Event)) → Type 0
+MeetsMore old new = (more : List (Option (MetSeat Event))) × (new ≡ old ++ more) × AllMet more

@@ -6,9 +6,19 @@ mod amid;
 #[cfg(test)]
 mod book;
 #[cfg(test)]
+mod broken;
+#[cfg(test)]
+mod crowd;
+#[cfg(test)]
+mod cuts;
+#[cfg(test)]
+mod errors;
+#[cfg(test)]
 mod events;
 #[cfg(test)]
 mod faults;
+#[cfg(test)]
+mod feeds;
 #[cfg(test)]
 mod fills;
 #[cfg(test)]
@@ -17,6 +27,8 @@ mod hall;
 mod hits;
 #[cfg(test)]
 mod players;
+#[cfg(test)]
+mod regions;
 #[cfg(test)]
 mod scenes;
 #[cfg(test)]
@@ -27,5 +39,9 @@ mod snapshots;
 mod texts;
 #[cfg(test)]
 mod told;
+#[cfg(test)]
+mod undone;
+#[cfg(test)]
+mod wanting;
 #[cfg(test)]
 mod watch;

@@ -39,10 +39,16 @@ fn text_of(rt: &impl Abort, alloc: Global, text: &str) -> Text
     must(rt, Text::of(alloc, bytes))
 }
 
-/// The command that a text means: `init d` is COM_INIT_DB, and any other one COM_QUERY.
+/// The command that a text means: `init d` is COM_INIT_DB, `unknown` a byte that is no command, `empty` a payload without bytes, and any other one COM_QUERY.
 pub(crate) fn command_of(rt: &impl Abort, alloc: Global, text: &str) -> Command
     ensures { MayBeSent result }
 {
+    if text == "unknown" {
+        return Command::Unknown(29);
+    }
+    if text == "empty" {
+        return Command::Empty;
+    }
     match text.strip_prefix("init ") {
         Some(name) => Command::InitDb(text_of(rt, alloc, name)),
         None => Command::Query(text_of(rt, alloc, text)),

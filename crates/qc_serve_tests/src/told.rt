@@ -37,6 +37,38 @@ pub(crate) fn line_of(
     Ok(format!(in alloc; "{session}: ended {end:?} | {pieces_told}")?)
 }
 
+/// The replies that went out in pieces, each in words. A reply begins with the packet whose sequence number is 1.
+pub(crate) fn replies_told(alloc: Global, pieces: &[Piece]) -> Result<String, NoMemory> {
+    let mut told = String::new(alloc);
+    let mut reply = Text::of(alloc, b"")?;
+    for piece in pieces {
+        let bytes = piece.bytes.bytes();
+        if bytes.get(3) == Some(&1) {
+            put_answer(alloc, reply.bytes(), &mut told)?;
+            reply = Text::of(alloc, b"")?;
+        }
+        reply.extend(bytes)?;
+    }
+    put_answer(alloc, reply.bytes(), &mut told)?;
+    if told.is_empty() {
+        told.push_str("nothing")?;
+    }
+    Ok(told)
+}
+
+/// Puts a reply in words down, unless it has no bytes.
+fn put_answer(alloc: Global, reply: &[u8], told: &mut String) -> Result<(), NoMemory> {
+    if reply.is_empty() {
+        return Ok(());
+    }
+    if !told.is_empty() {
+        told.push_str(", ")?;
+    }
+    let answer = answer_told(alloc, reply)?;
+    told.push_str(&answer)?;
+    Ok(())
+}
+
 /// A reply in words.
 fn answer_told(alloc: Global, reply: &[u8]) -> Result<String, NoMemory> {
     match read_reply(alloc, reply) {
