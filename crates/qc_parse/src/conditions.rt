@@ -1,6 +1,6 @@
 //! Conditions.
 
-ghost use Rattle.std.specs.Prelude.{◌≡◌, false, IfOk};
+ghost use Rattle.std.specs.Prelude.{◌≡◌, [], ◌∷◌, ◌++◌, false, IfOk};
 ghost use Rattle.qc_sql.specs.declared.statements.Cond.TheVariants as test;
 ghost use Rattle.qc_sql.specs.Reading as meant;
 ghost use Rattle.qc_sql.specs.Grammar as rule;
@@ -153,6 +153,7 @@ fn list_or_range(
 }
 
 /// A test of values, in which at most `depth` calls are open at once.
+#[inline(never)]
 fn test_of_values(alloc: Global, cursor: &mut Cursor<'_>, depth: u8) -> Result<Cond, Or<Halt>>
     ensures { Reads (λ x. x) result (unread cursor.new) (rule.test_of (rule.value_at depth false) (unread cursor.old)) }
 {
@@ -160,10 +161,51 @@ fn test_of_values(alloc: Global, cursor: &mut Cursor<'_>, depth: u8) -> Result<C
     test_behind(alloc, cursor, depth, tested)
 }
 
+/// A test of values, in a box: a condition is large, and what recurs would hold some of them on the stack for each level.
+#[inline(never)]
+fn boxed_test(alloc: Global, cursor: &mut Cursor<'_>, depth: u8) -> Result<Boxed<Cond>, Or<Halt>>
+    ensures { Reads (λ x. x) result (unread cursor.new) (rule.test_of (rule.value_at depth false) (unread cursor.old)) }
+{
+    let test = test_of_values(alloc, cursor, depth)?;
+    Ok(Boxed::new(alloc, test)?)
+}
+
+/// A list with one condition more.
+#[inline(never)]
+fn with_boxed(members: Conds, member: Boxed<Cond>) -> Result<Conds, NoMemory>
+    ensures { IfOk result (λ ms. ms ≡ members ++ member ∷ []) }
+{
+    with_member(members, member.into_inner())
+}
+
+/// NOT of a condition.
+#[inline(never)]
+fn not(alloc: Global, cond: Boxed<Cond>) -> Result<Boxed<Cond>, NoMemory>
+    ensures { IfOk result (λ c. c ≡ test.Not cond) }
+{
+    Boxed::new(alloc, Cond::Not(cond))
+}
+
+/// OR of conditions.
+#[inline(never)]
+fn or(alloc: Global, members: Conds) -> Result<Boxed<Cond>, NoMemory>
+    ensures { IfOk result (λ c. c ≡ test.Or members) }
+{
+    Boxed::new(alloc, Cond::Or(members))
+}
+
+/// AND of conditions.
+#[inline(never)]
+fn and(alloc: Global, members: Conds) -> Result<Boxed<Cond>, NoMemory>
+    ensures { IfOk result (λ c. c ≡ test.And members) }
+{
+    Boxed::new(alloc, Cond::And(members))
+}
+
 /// NOT and what it negates, a condition in brackets, or a test; at most `depth` brackets, NOTs and calls are open at once in it.
 #[tactic(auto, using(crate::proofs::Depth::no_not), unfolding(qc_sql::specs::Grammar::member_at))]
 #[cycle(conditions)]
-fn member(alloc: Global, cursor: &mut Cursor<'_>, depth: u8) -> Result<Cond, Or<Halt>>
+fn member(alloc: Global, cursor: &mut Cursor<'_>, depth: u8) -> Result<Boxed<Cond>, Or<Halt>>
     ensures { Reads (λ x. x) result (unread cursor.new) (rule.member_at depth (unread cursor.old)) }
 {
     if !cursor.at_word(b"NOT") {
@@ -174,12 +216,12 @@ fn member(alloc: Global, cursor: &mut Cursor<'_>, depth: u8) -> Result<Cond, Or<
         return Err(unsupported(alloc, b"nesting"));
     }
     let negated = member(alloc, cursor, depth - 1)?;
-    Ok(Cond::Not(Boxed::new(alloc, negated)?))
+    Ok(not(alloc, negated)?)
 }
 
 /// A condition in brackets, or a test; LIKE isn't supported where another test would be.
 #[cycle(conditions)]
-fn without_not(alloc: Global, cursor: &mut Cursor<'_>, depth: u8) -> Result<Cond, Or<Halt>>
+fn without_not(alloc: Global, cursor: &mut Cursor<'_>, depth: u8) -> Result<Boxed<Cond>, Or<Halt>>
     ensures { Reads (λ x. x) result (unread cursor.new) (rule.without_not_at depth (unread cursor.old)) }
 {
     match brackets_or_test(alloc, cursor, depth) {
@@ -195,11 +237,15 @@ fn without_not(alloc: Global, cursor: &mut Cursor<'_>, depth: u8) -> Result<Cond
 
 #[tactic(auto, using(crate::proofs::Depth::no_bracket), unfolding(qc_sql::specs::Grammar::brackets_or_test_at))]
 #[cycle(conditions)]
-fn brackets_or_test(alloc: Global, cursor: &mut Cursor<'_>, depth: u8) -> Result<Cond, Or<Halt>>
+fn brackets_or_test(
+    alloc: Global,
+    cursor: &mut Cursor<'_>,
+    depth: u8,
+) -> Result<Boxed<Cond>, Or<Halt>>
     ensures { Reads (λ x. x) result (unread cursor.new) (rule.brackets_or_test_at depth (unread cursor.old)) }
 {
     if !cursor.at_sign(b"(") {
-        return test_of_values(alloc, cursor, depth);
+        return boxed_test(alloc, cursor, depth);
     }
     if depth == 0 {
         return too_deep(alloc, cursor);
@@ -209,7 +255,7 @@ fn brackets_or_test(alloc: Global, cursor: &mut Cursor<'_>, depth: u8) -> Result
 
 /// A condition in brackets.
 #[cycle(conditions)]
-fn in_brackets(alloc: Global, cursor: &mut Cursor<'_>, depth: u8) -> Result<Cond, Or<Halt>>
+fn in_brackets(alloc: Global, cursor: &mut Cursor<'_>, depth: u8) -> Result<Boxed<Cond>, Or<Halt>>
     ensures { Reads (λ x. x) result (unread cursor.new) (meant.bracketed (rule.any_of (rule.member_at depth)) (unread cursor.old)) }
 {
     open_bracket(alloc, cursor)?;
@@ -219,38 +265,38 @@ fn in_brackets(alloc: Global, cursor: &mut Cursor<'_>, depth: u8) -> Result<Cond
 
 /// One or more conditions with OR between each two.
 #[cycle(conditions)]
-fn any_of(alloc: Global, cursor: &mut Cursor<'_>, depth: u8) -> Result<Cond, Or<Halt>>
+fn any_of(alloc: Global, cursor: &mut Cursor<'_>, depth: u8) -> Result<Boxed<Cond>, Or<Halt>>
     ensures { Reads (λ x. x) result (unread cursor.new) (rule.any_of (rule.member_at depth) (unread cursor.old)) }
 {
     let first = all_of(alloc, cursor, depth)?;
     if !cursor.at_word(b"OR") {
         return Ok(first);
     }
-    let mut members = with_member(Conds::new(alloc), first)?;
+    let mut members = with_boxed(Conds::new(alloc), first)?;
     'ors: while cursor.at_word(b"OR") {
         cursor.pass();
         let (so_far, next) = beside(members, all_of(alloc, cursor, depth))?;
-        members = with_member(so_far, next)?;
+        members = with_boxed(so_far, next)?;
     }
-    Ok(Cond::Or(members))
+    Ok(or(alloc, members)?)
 }
 
 /// One or more members with AND between each two.
 #[cycle(conditions)]
-fn all_of(alloc: Global, cursor: &mut Cursor<'_>, depth: u8) -> Result<Cond, Or<Halt>>
+fn all_of(alloc: Global, cursor: &mut Cursor<'_>, depth: u8) -> Result<Boxed<Cond>, Or<Halt>>
     ensures { Reads (λ x. x) result (unread cursor.new) (rule.all_of (rule.member_at depth) (unread cursor.old)) }
 {
     let first = member(alloc, cursor, depth)?;
     if !cursor.at_word(b"AND") {
         return Ok(first);
     }
-    let mut members = with_member(Conds::new(alloc), first)?;
+    let mut members = with_boxed(Conds::new(alloc), first)?;
     'ands: while cursor.at_word(b"AND") {
         cursor.pass();
         let (so_far, next) = beside(members, member(alloc, cursor, depth))?;
-        members = with_member(so_far, next)?;
+        members = with_boxed(so_far, next)?;
     }
-    Ok(Cond::And(members))
+    Ok(and(alloc, members)?)
 }
 
 /// A condition, from its front.
@@ -258,5 +304,6 @@ fn all_of(alloc: Global, cursor: &mut Cursor<'_>, depth: u8) -> Result<Cond, Or<
 pub fn condition(alloc: Global, cursor: &mut Cursor<'_>) -> Result<Cond, Or<Halt>>
     ensures { Reads (λ x. x) result (unread cursor.new) (rule.condition (unread cursor.old)) }
 {
-    any_of(alloc, cursor, MOST_OPEN)
+    let condition = any_of(alloc, cursor, MOST_OPEN)?;
+    Ok(condition.into_inner())
 }
