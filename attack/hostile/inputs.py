@@ -204,12 +204,20 @@ def in_a_condition(depth):
     return b"SELECT id FROM t WHERE " + b"(" * (depth // 2) + b"CONCAT(" * (depth - depth // 2) + b"id" + b")" * (depth - depth // 2) + b" IS NOT NULL" + b")" * (depth // 2)
 
 
+def alternatives(depth):
+    return b"SELECT id FROM t WHERE " + b"(id = 8 OR " * depth + b"id = 7" + b")" * depth
+
+
+def joined_texts(depth):
+    return b"SELECT " + b"CONCAT(''," * depth + b"id" + b")" * depth + b" FROM t"
+
+
 def deleted(depth):
     return b"DELETE FROM t WHERE " + b"(" * depth + b"id = 8" + b")" * depth
 
 
 # Each form, and its answer where 64 are open.
-FORMS = [(brackets, [[b"7"]]), (nots, [[b"7"]]), (both, [[b"7"]]), (calls, [[b"1"]]), (in_a_condition, [[b"7"]]), (deleted, "ok")]
+FORMS = [(brackets, [[b"7"]]), (nots, [[b"7"]]), (both, [[b"7"]]), (calls, [[b"1"]]), (in_a_condition, [[b"7"]]), (alternatives, [[b"7"]]), (joined_texts, [[b"7"]]), (deleted, "ok")]
 
 
 def nested():
