@@ -1,4 +1,5 @@
-//! Conditions.
+//! Conditions. A condition is large, and what recurs holds something of the stack for each of 64 levels: so it gives conditions in boxes, and what
+//! holds them by themselves stands in functions that don't recur.
 
 ghost use Rattle.std.specs.Prelude.{◌≡◌, [], ◌∷◌, ◌++◌, false, IfOk};
 ghost use Rattle.qc_sql.specs.declared.statements.Cond.TheVariants as test;
@@ -161,7 +162,7 @@ fn test_of_values(alloc: Global, cursor: &mut Cursor<'_>, depth: u8) -> Result<C
     test_behind(alloc, cursor, depth, tested)
 }
 
-/// A test of values, in a box: a condition is large, and what recurs would hold some of them on the stack for each level.
+/// A test of values, in a box.
 #[inline(never)]
 fn boxed_test(alloc: Global, cursor: &mut Cursor<'_>, depth: u8) -> Result<Boxed<Cond>, Or<Halt>>
     ensures { Reads (λ x. x) result (unread cursor.new) (rule.test_of (rule.value_at depth false) (unread cursor.old)) }

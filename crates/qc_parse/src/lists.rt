@@ -65,6 +65,7 @@ pub fn open_bracket(alloc: Global, cursor: &mut Cursor<'_>) -> Result<(), Or<Hal
 }
 
 /// Takes the closing bracket behind what stands inside.
+#[inline(never)]
 pub fn closed<T: Drop>(cursor: &mut Cursor<'_>, inside: T) -> Result<T, Halt>
     ensures { Takes (λ x. x) result (unread cursor.new) (meant.closes inside (unread cursor.old)) }
 {
