@@ -167,6 +167,7 @@ fn a_fill_with_a_rival_breaks_off(rt: HostRuntime) -> Result<(), Fail> {
             }],
             4,
         ),
+        Two("SHOW STATUS LIKE 'Qcache%'"),
         Two("SELECT id FROM t"),
         Rejoin,
         One("init d"),
@@ -185,6 +186,7 @@ fn a_fill_with_a_rival_breaks_off(rt: HostRuntime) -> Result<(), Fail> {
         "
 2: rows 7 status 2 | at rest
 1: ended WriteFault | 5 33 9 at fill 1
+2: rows Qcache_free_blocks,1; Qcache_free_memory,1048576; Qcache_hits,0; Qcache_inserts,1; Qcache_lowmem_prunes,0; Qcache_not_cached,1; Qcache_queries_in_cache,0; Qcache_total_blocks,1 status 2 | at rest
 2: rows 7 status 2 | 5 33 9 6 9 at fill 2
 1: begins
 1: ok 0 status 2 | at rest
@@ -192,7 +194,8 @@ fn a_fill_with_a_rival_breaks_off(rt: HostRuntime) -> Result<(), Fail> {
 run 1 5 start 1
 run 2 2 plain rival 1
 gone 1 ended
-run 2 3 start 2
+run 2 3 status 1 1 1048576
+run 2 4 start 2
 done 2
 run 1 6 other
 run 1 7 hit 2
@@ -350,6 +353,17 @@ const LOST: &[(&str, u64, &str, &str, u64)] = &[
     ),
 ];
 
+/// Behind a command: how many SELECTs weren't kept, how many blocks are free, and how many blocks there are. A flush moves the block of the entry's text.
+fn counts_behind(text: &str) -> (u8, u8, u8) {
+    if text == "FLUSH QUERY CACHE" {
+        (0, 1, 4)
+    } else if text == "SELECT 1" || text.starts_with("SELECT SQL_NO_CACHE") {
+        (1, 2, 5)
+    } else {
+        (0, 2, 5)
+    }
+}
+
 /// A command whose reply is lost has its event all the same; the entry still hits.
 #[test]
 fn replies_of_other_commands_are_lost(rt: HostRuntime) -> Result<(), Fail> {
@@ -359,6 +373,7 @@ fn replies_of_other_commands_are_lost(rt: HostRuntime) -> Result<(), Fail> {
                 One("SELECT id FROM t"),
                 broken_off(*wants, text, *put),
                 Two("SELECT id FROM t"),
+                Two("SHOW STATUS LIKE 'Qcache%'"),
                 Rejoin,
                 One("init d"),
                 One("SELECT id FROM t"),
@@ -370,18 +385,21 @@ fn replies_of_other_commands_are_lost(rt: HostRuntime) -> Result<(), Fail> {
                 steps: &steps,
             };
             let front = front_of(*wants || !text.starts_with("SELECT"));
+            let (uncached, free, blocks) = counts_behind(text);
             let last = next.saturating_add(1);
             let wanted = format!(in rt.alloc();
                 "
 1: rows 7 status 2 | 5 33 9 6 9 at fill 1
 1: ended {end} | {pieces}{front}
 2: rows 7 status 2 | 62 at stream 1
+2: rows Qcache_free_blocks,{free}; Qcache_free_memory,1047040; Qcache_hits,1; Qcache_inserts,1; Qcache_lowmem_prunes,0; Qcache_not_cached,{uncached}; Qcache_queries_in_cache,1; Qcache_total_blocks,{blocks} status 2 | at rest
 1: begins
 1: ok 0 status 2 | at rest
 1: rows 7 status 2 | 62 at stream 1 again
 run 1 5 start 1
 done 1
 {event}run 2 2 hit 1
+run 2 3 status {blocks} {free} 1047040
 run 1 {next} other
 run 1 {last} hit 1
 "

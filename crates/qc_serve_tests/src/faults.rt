@@ -198,6 +198,8 @@ const LOST: &[Step<'static>] = &[
     Rejoin,
     One("init d"),
     One("SELECT id FROM t"),
+    Two("SHOW STATUS LIKE 'Qcache%'"),
+    Two("SELECT id FROM t"),
 ];
 
 const AFTER_LOSSES: &str = "
@@ -217,6 +219,8 @@ const AFTER_LOSSES: &str = "
 1: begins
 1: ok 0 status 2 | at rest
 1: rows 7; 8; 9 status 2 | 5 33 9 3*6 9 at fill 2
+2: rows Qcache_free_blocks,2; Qcache_free_memory,1047040; Qcache_hits,1; Qcache_inserts,2; Qcache_lowmem_prunes,0; Qcache_not_cached,1; Qcache_queries_in_cache,1; Qcache_total_blocks,5 status 2 | at rest
+2: rows 7; 8; 9 status 2 | 74 at stream 2
 commit 1 5
 run 1 6 other
 run 1 7 start 1
@@ -232,6 +236,8 @@ commit 1 15
 run 1 16 other
 run 1 17 start 2
 done 2
+run 2 2 status 5 2 1047040
+run 2 3 hit 2
 ";
 
 /// A command whose reply is lost was done all the same, and what wasn't committed ends with its session.

@@ -1,5 +1,4 @@
-use Rattle.std.proofs.Common.{rules, ◌≡◌, ◌+◌, ◌-◌, ◌++◌, ◌∷◌, [], length, None, Some, ap}
-use Rattle.std.specs.Prelude.{slice_set}
+use Rattle.std.proofs.Common.{rules, ◌≡◌, ◌+◌, ◌++◌, ◌∷◌, [], length, None, ap}
 use Rattle.qc_model.specs.declared.events.Event.{Event}
 use Rattle.qc_core.specs.declared.parts.Parts.{Parts}
 use Rattle.qc_turn.specs.declared.view.View.{View}
