@@ -178,6 +178,14 @@ fn aggregates(rt: HostRuntime) {
 }
 
 #[test]
+fn whole_columns(rt: HostRuntime) {
+    is_empty(
+        &rt,
+        &differences(&rt, rt.alloc(), PLAIN, table::WHOLE_COLUMNS),
+    );
+}
+
+#[test]
 fn orders(rt: HostRuntime) {
     is_empty(&rt, &differences(&rt, rt.alloc(), PLAIN, table::ORDERS));
 }
@@ -286,6 +294,14 @@ fn few_combinations_are_walked(rt: HostRuntime) {
     is_empty(
         &rt,
         &large_differences(&rt, rt.alloc(), Shown::Rows, large::FEW_WALKED),
+    );
+}
+
+#[test]
+fn words_of_bits(rt: HostRuntime) {
+    is_empty(
+        &rt,
+        &large_differences(&rt, rt.alloc(), Shown::Rows, large::WORDS),
     );
 }
 

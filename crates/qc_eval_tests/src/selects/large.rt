@@ -10,6 +10,8 @@
 //! m      from 1 to 32
 //! n      from 1 to 33
 //! q      from 1 to 256
+//! k63, k64, k65
+//!        from 1 to 63, to 64, to 65
 //! wide (a BIGINT PRIMARY KEY, b BIGINT, and so on to p)
 //!     no rows
 //! long (id BIGINT PRIMARY KEY, body VARCHAR(65535) NOT NULL)
@@ -61,6 +63,40 @@ SELECT 1 FROM n a, n b, n c, n d, n e, n f, n g, nope h
     1146 No such table: d.nope
 SELECT 1 FROM n a, n b, n c, n d, n e, n f, n g, n h, n i
     1116 Too many tables
+"#;
+
+/// Aggregates over rows whose bits begin, end or stand alone in a word of 64.
+pub const WORDS: &str = r#"
+SELECT COUNT(*), SUM(id), MIN(id), MAX(id) FROM k63 WHERE id <> 7
+    COUNT(*), SUM(id), MIN(id), MAX(id): 62, 2009, 1, 63
+SELECT COUNT(*), SUM(id), MIN(id), MAX(id) FROM k64 WHERE id <> 7
+    COUNT(*), SUM(id), MIN(id), MAX(id): 63, 2073, 1, 64
+SELECT COUNT(*), SUM(id), MIN(id), MAX(id) FROM k65 WHERE id <> 7
+    COUNT(*), SUM(id), MIN(id), MAX(id): 64, 2138, 1, 65
+SELECT COUNT(*), COUNT(id), SUM(id) FROM k63
+    COUNT(*), COUNT(id), SUM(id): 63, 63, 2016
+SELECT COUNT(*), COUNT(id), SUM(id) FROM k64
+    COUNT(*), COUNT(id), SUM(id): 64, 64, 2080
+SELECT COUNT(*), COUNT(id), SUM(id) FROM k65
+    COUNT(*), COUNT(id), SUM(id): 65, 65, 2145
+SELECT COUNT(*), SUM(id) FROM k65 WHERE id > 64
+    COUNT(*), SUM(id): 1, 65
+SELECT COUNT(*), SUM(id) FROM k64 WHERE id > 64
+    COUNT(*), SUM(id): 0, NULL
+SELECT COUNT(*), MIN(id), MAX(id) FROM q WHERE id > 63 AND id <> 64
+    COUNT(*), MIN(id), MAX(id): 192, 65, 256
+SELECT COUNT(*), MIN(id), MAX(id) FROM q WHERE id >= 65 AND id <= 128 AND id <> 128
+    COUNT(*), MIN(id), MAX(id): 63, 65, 127
+SELECT COUNT(*), MIN(id), MAX(id) FROM q WHERE id > 64 AND id < 66
+    COUNT(*), MIN(id), MAX(id): 1, 65, 65
+SELECT COUNT(*), SUM(id) FROM q WHERE id BETWEEN 128 AND 129
+    COUNT(*), SUM(id): 2, 257
+SELECT COUNT(*), SUM(id) FROM q WHERE id = 256
+    COUNT(*), SUM(id): 1, 256
+SELECT COUNT(*), SUM(id) FROM q WHERE id > 256
+    COUNT(*), SUM(id): 0, NULL
+SELECT COUNT(*), SUM(id) FROM q WHERE id BETWEEN 200 AND 100
+    COUNT(*), SUM(id): 0, NULL
 "#;
 
 /// Selects of 2^40 combinations that end at once, since few of these are walked.

@@ -1414,6 +1414,82 @@ SELECT SUM(name) FROM t ORDER BY nope
     1235 Not supported: SUM of text
 "#;
 
+/// Aggregates of columns of numbers, where a condition compares such columns with numbers or says more.
+pub const WHOLE_COLUMNS: &str = r#"
+; with no condition
+SELECT COUNT(*), COUNT(v), SUM(v), MIN(v), MAX(v) FROM t
+    COUNT(*), COUNT(v), SUM(v), MIN(v), MAX(v): 6, 4, 5, -5, 5
+SELECT COUNT(*), COUNT(id), SUM(id), MIN(id), MAX(id) FROM e
+    COUNT(*), COUNT(id), SUM(id), MIN(id), MAX(id): 0, 0, NULL, NULL, NULL
+; each relation, and its number on either side
+SELECT COUNT(*), COUNT(id), SUM(id) FROM t WHERE v = 5
+    COUNT(*), COUNT(id), SUM(id): 2, 2, 5
+SELECT COUNT(*), SUM(id), MIN(v) FROM t WHERE v <> 5
+    COUNT(*), SUM(id), MIN(v): 2, 2, -5
+SELECT COUNT(*), SUM(id), MAX(v) FROM t WHERE v < 0
+    COUNT(*), SUM(id), MAX(v): 1, -2, -5
+SELECT COUNT(*), SUM(id), MAX(v) FROM t WHERE v <= 0
+    COUNT(*), SUM(id), MAX(v): 2, 2, 0
+SELECT COUNT(*), SUM(id), MIN(v) FROM t WHERE v > 0
+    COUNT(*), SUM(id), MIN(v): 2, 5, 5
+SELECT COUNT(*), SUM(id), MIN(v) FROM t WHERE v >= 0
+    COUNT(*), SUM(id), MIN(v): 3, 9, 0
+SELECT COUNT(*), SUM(id), MAX(v) FROM t WHERE 0 > v
+    COUNT(*), SUM(id), MAX(v): 1, -2, -5
+SELECT COUNT(*), SUM(id), MIN(v) FROM t WHERE 0 <= v
+    COUNT(*), SUM(id), MIN(v): 3, 9, 0
+SELECT COUNT(*), SUM(id), MAX(v) FROM t WHERE v BETWEEN -5 AND 0
+    COUNT(*), SUM(id), MAX(v): 2, 2, 0
+SELECT COUNT(*), SUM(id), MAX(v) FROM t WHERE v BETWEEN 0 AND -5
+    COUNT(*), SUM(id), MAX(v): 0, NULL, NULL
+; joined by AND
+SELECT COUNT(*), SUM(id), MAX(v) FROM t WHERE v > -5 AND v < 5
+    COUNT(*), SUM(id), MAX(v): 1, 4, 0
+SELECT COUNT(*), SUM(id), MAX(v) FROM t WHERE id <> 2 AND id < 4 AND v = 5
+    COUNT(*), SUM(id), MAX(v): 1, 3, 5
+SELECT COUNT(*), SUM(id) FROM t WHERE v = 5 AND v = 0
+    COUNT(*), SUM(id): 0, NULL
+; NULL in all rows that are kept, and none kept
+SELECT COUNT(*), COUNT(v), SUM(v), MIN(v), MAX(v) FROM t WHERE id <> 2 AND id > 4
+    COUNT(*), COUNT(v), SUM(v), MIN(v), MAX(v): 1, 0, NULL, NULL, NULL
+SELECT COUNT(*), COUNT(v), SUM(v), MIN(v), MAX(v) FROM t WHERE v > 5
+    COUNT(*), COUNT(v), SUM(v), MIN(v), MAX(v): 0, 0, NULL, NULL, NULL
+SELECT COUNT(*), COUNT(v), SUM(v), MIN(v), MAX(v) FROM t WHERE id > 7
+    COUNT(*), COUNT(v), SUM(v), MIN(v), MAX(v): 0, 0, NULL, NULL, NULL
+; the ends of 64 bits
+SELECT COUNT(*), SUM(v), SUM(u), MAX(v), MIN(u) FROM o.t WHERE v >= 9223372036854775807
+    COUNT(*), SUM(v), SUM(u), MAX(v), MIN(u): 2, 18446744073709551614, -18446744073709551616, 9223372036854775807, -9223372036854775808
+SELECT COUNT(*) FROM o.t WHERE v > 9223372036854775807
+    COUNT(*): 0
+SELECT COUNT(*) FROM o.t WHERE u <= -9223372036854775808
+    COUNT(*): 2
+SELECT COUNT(*) FROM o.t WHERE u < -9223372036854775808
+    COUNT(*): 0
+SELECT SUM(id), MIN(id), MAX(id) FROM o.t WHERE id <> 0
+    SUM(id), MIN(id), MAX(id): -1, -9223372036854775808, 9223372036854775807
+SELECT SUM(id) FROM o.t WHERE id > -9223372036854775808
+    SUM(id): 9223372036854775807
+; with what whole columns don't tell
+SELECT COUNT(*), SUM(v), MIN(name) FROM t WHERE v > 0
+    COUNT(*), SUM(v), MIN(name): 2, 10, ''
+SELECT COUNT(*), COUNT(name) FROM t WHERE v > 0
+    COUNT(*), COUNT(name): 2, 1
+SELECT COUNT(*), SUM(v) FROM t WHERE v > 0 AND name = ''
+    COUNT(*), SUM(v): 1, 5
+SELECT COUNT(*), SUM(v) FROM t WHERE v > 0 OR v < 0
+    COUNT(*), SUM(v): 3, 5
+SELECT COUNT(*), SUM(v) FROM t WHERE v > 0 AND 1 = 0
+    COUNT(*), SUM(v): 0, NULL
+SELECT COUNT(*), SUM(v) FROM t WHERE v > 0 AND 1 = 1
+    COUNT(*), SUM(v): 2, 10
+SELECT COUNT(*), SUM(v) FROM t WHERE v = NULL
+    COUNT(*), SUM(v): 0, NULL
+SELECT COUNT(*), SUM(a.v) FROM t a, s b WHERE a.v > 0
+    COUNT(*), SUM(a.v): 10, 50
+SELECT LENGTH(SUM(v)), CONCAT(COUNT(*), '-', MAX(v)) FROM t WHERE v > 0
+    LENGTH(SUM(v)), CONCAT(COUNT(*), '-', MAX(v)): 2, '2-5'
+"#;
+
 /// ORDER BY.
 pub const ORDERS: &str = r#"
 ; one column, NULL lowest, equal ones by the key

@@ -146,6 +146,9 @@ pub fn large(rt: &impl Abort, alloc: Global) -> Database {
     for (name, count) in [("e", 0), ("two", 2), ("m", 32), ("n", 33), ("q", 256)] {
         database = with_count(rt, alloc, &database, name, count);
     }
+    for (name, count) in [("k63", 63), ("k64", 64), ("k65", 65)] {
+        database = with_count(rt, alloc, &database, name, count);
+    }
     with_long(rt, alloc, &database)
 }
 
