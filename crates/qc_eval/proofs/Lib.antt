@@ -17,6 +17,8 @@ pub mod Spans
 pub mod Gathers
 pub mod Leads
 pub mod KeptRows
+pub mod LaneSteps
+pub mod LaneFolds
 pub mod Stages
 pub mod Rows
 pub mod Plans

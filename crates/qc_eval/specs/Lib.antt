@@ -20,3 +20,4 @@ pub mod Plans
 pub mod Truths
 pub mod Ranges
 pub mod Alone
+pub mod Lanes

@@ -9,7 +9,9 @@ mod gathering;
 mod hope;
 mod item;
 mod joined;
+mod lane_totals;
 mod leading;
+mod masks;
 mod matching;
 mod operand;
 mod plan;
@@ -24,6 +26,7 @@ mod texts;
 mod totals;
 mod truth;
 mod values;
+mod window;
 
 pub use matching::{RowNumbers, matching_rows};
 pub use plan::Plan;

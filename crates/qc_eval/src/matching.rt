@@ -97,7 +97,7 @@ fn rows_in<L: Ledger>(
 }
 
 /// Between which rows of the only table those stand that may pass.
-fn range_in<L: Ledger>(
+pub fn range_in<L: Ledger>(
     tables: &[TableVersion],
     filters: &[Tests],
     sides: &mut Sides,

@@ -1,3 +1,4 @@
 pub mod Ahead
 pub mod BitSteps
 pub mod Extremes
+pub mod Counts

@@ -2,7 +2,7 @@
 
 ghost use Rattle.std.specs.Prelude.{◌≡◌, ◌≤◌, ◌^◌, ℕ, ◌&&◌, count_ones, length};
 ghost use Rattle.std.specs.List.{sum_by};
-ghost use Rattle.qc_lane.specs.Lanes.{is_set};
+ghost use Rattle.qc_lane.specs.Lanes.{is_set, masked, words_for, EndsAt};
 
 /// Leaves only the bits that are set in both. Linear in how many words there are.
 pub fn mask_and(other: &[u64], out: &mut [u64])
@@ -17,7 +17,8 @@ pub fn mask_and(other: &[u64], out: &mut [u64])
 /// How many bits are set. Linear in how many words there are.
 pub fn mask_count(mask: &[u64]) -> u64
     requires { length mask.now ≤ 2 ^ 20 }
-    ensures { result ≡ sum_by count_ones mask.now }
+    ensures bits { result ≡ sum_by count_ones mask.now }
+    ensures values { (xs : _) → length mask.now ≡ words_for (length xs) → EndsAt mask.now (length xs) → result ≡ length (masked mask.now xs) }
 {
     let mut count = 0;
     for word in mask {
