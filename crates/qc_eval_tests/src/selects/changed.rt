@@ -201,6 +201,19 @@ const CHANGES: &[(&[&[Row<'static>]], &str)] = &[
         ],
         "SELECT * FROM n\n    a, k, b, c: 'x', 7, 30, 7 | 'y', 8, 31, 8 | 'x', 9, 2, 2\n",
     ),
+    // Rows that are there beside one that isn't: between them, and behind them.
+    (
+        &[&[("n", "'x',7,10,3"), ("n", "'z',6,1,1"), ("n", "'x',9,12,4")]],
+        "SELECT * FROM n\n    a, k, b, c: 'z', 6, 1, 1 | 'x', 7, 10, 3 | 'y', 8, 1, 1 | 'x', 9, 12, 4\n",
+    ),
+    (
+        &[&[("n", "'x',7,10,3"), ("n", "'z',10,1,1")]],
+        "SELECT * FROM n\n    a, k, b, c: 'x', 7, 10, 3 | 'y', 8, 1, 1 | 'x', 9, 2, 2 | 'z', 10, 1, 1\n",
+    ),
+];
+
+/// The same where rows come between others, or have other texts.
+const PLACED: &[(&[&[Row<'static>]], &str)] = &[
     // One row in front of all, and rows between others, one after another.
     (
         &[
@@ -257,15 +270,6 @@ const CHANGES: &[(&[&[Row<'static>]], &str)] = &[
     (
         &[&[("e", "4")], &[("e", "0")], &[("e", "-3"), ("e", "2")]],
         "SELECT * FROM e\n    id: -3 | 0 | 2 | 4\n",
-    ),
-    // Rows that are there beside one that isn't: between them, and behind them.
-    (
-        &[&[("n", "'x',7,10,3"), ("n", "'z',6,1,1"), ("n", "'x',9,12,4")]],
-        "SELECT * FROM n\n    a, k, b, c: 'z', 6, 1, 1 | 'x', 7, 10, 3 | 'y', 8, 1, 1 | 'x', 9, 12, 4\n",
-    ),
-    (
-        &[&[("n", "'x',7,10,3"), ("n", "'z',10,1,1")]],
-        "SELECT * FROM n\n    a, k, b, c: 'x', 7, 10, 3 | 'y', 8, 1, 1 | 'x', 9, 2, 2 | 'z', 10, 1, 1\n",
     ),
 ];
 
@@ -400,6 +404,32 @@ fn a_version_stays_where_rows_are_put(rt: HostRuntime) {
 }
 
 #[test]
+fn rows_that_are_placed(rt: HostRuntime) {
+    let alloc = rt.alloc();
+    for (lists, wanted) in PLACED {
+        let mut database = at_first(&rt, alloc);
+        for rows in *lists {
+            change(&rt, alloc, &mut database, *rows);
+        }
+        is_empty(&rt, &differences_on(&rt, alloc, &database, PLAIN, *wanted));
+    }
+}
+
+#[test]
+fn a_snapshot_stays_where_rows_are_placed(rt: HostRuntime) {
+    let alloc = rt.alloc();
+    for (lists, wanted) in PLACED {
+        let mut database = at_first(&rt, alloc);
+        let shared = must(&rt, database.share());
+        for rows in *lists {
+            change(&rt, alloc, &mut database, *rows);
+        }
+        is_empty(&rt, &differences_on(&rt, alloc, &shared, PLAIN, AT_FIRST));
+        is_empty(&rt, &differences_on(&rt, alloc, &database, PLAIN, *wanted));
+    }
+}
+
+#[test]
 fn rows_that_are_taken_out(rt: HostRuntime) {
     let alloc = rt.alloc();
     for (table, keys, wanted) in DELETIONS {
@@ -489,7 +519,7 @@ fn rows_come_between_others(rt: HostRuntime) {
     for _ in 0..210 {
         let row = must(&rt, scattered_row(alloc, key));
         change(&rt, alloc, &mut database, &[("s", row.as_str())]);
-        key = key * 7 % 211;
+        key = key.wrapping_mul(7) % 211;
     }
     is_empty(
         &rt,
