@@ -525,8 +525,8 @@ fn rows_come_between_others(rt: HostRuntime) {
         &rt,
         &differences_on(&rt, alloc, &database, PLAIN, SCATTERED),
     );
-    for seventh in (1..31).rev() {
-        delete(&rt, alloc, &mut database, "s", &[7 * seventh]);
+    for seventh in (1..31i64).rev() {
+        delete(&rt, alloc, &mut database, "s", &[seventh.wrapping_mul(7)]);
     }
     is_empty(&rt, &differences_on(&rt, alloc, &database, PLAIN, THINNED));
 }
