@@ -49,15 +49,45 @@ def ends_with(wanted):
     return test
 
 
+def said(reply):
+    """What a reply says: its rows as texts, the text of its error, or ok."""
+    told = read_reply(reply)
+    return told[2] if told[0] == "rows" else told[3] if told[0] == "error" else told[0]
+
+
+def compare(number, lines, wanted):
+    """The answers of a session's lines, each of which has to be there; None stands for any answer."""
+    if len(lines) != len(wanted):
+        raise Wrong("session %d has %d answers in place of %d" % (number, len(lines), len(wanted)))
+    for (_, _, reply), answer in zip(lines, wanted):
+        if answer is not None and said(reply) != answer:
+            raise Wrong("session %d is answered %.300r and should be %.300r" % (number, said(reply), answer))
+
+
 def answers(*wanted):
-    """What the last commands of session 1 are answered: rows as texts, or the text of an error."""
+    """What the last commands of session 1 are answered."""
     def test(report):
-        lines = read_report(report).sessions[1][1]
-        for (_, _, reply), answer in zip(lines[-len(wanted):], wanted):
-            told = read_reply(reply)
-            said = told[2] if told[0] == "rows" else told[3] if told[0] == "error" else told[0]
-            if said != answer:
-                raise Wrong("the answer is %r and should be %r" % (said, answer))
+        compare(1, read_report(report).sessions[1][1][-len(wanted):], wanted)
+    return test
+
+
+def all_answers(wanted, counters=None):
+    """What all commands of all sessions are answered, by the sessions' numbers, and the counters, where they are given."""
+    def test(report):
+        told = read_report(report)
+        if sorted(told.sessions) != sorted(wanted):
+            raise Wrong("the sessions are %s" % sorted(told.sessions))
+        for number, (_, lines) in told.sessions.items():
+            compare(number, lines, wanted[number])
+        if counters is not None and told.counters != counters:
+            raise Wrong("the counters are %s and should be %s" % (told.counters, counters))
+    return test
+
+
+def each(*tests):
+    def test(report):
+        for one in tests:
+            one(report)
     return test
 
 
@@ -69,6 +99,13 @@ def words_are(wanted):
         if not wanted(told):
             raise Wrong("the words are %s" % told)
     return test
+
+
+def status_rows(free_blocks, free_memory, hits, inserts, prunes, not_cached, queries, blocks):
+    """The rows of SHOW STATUS."""
+    values = {"free_blocks": free_blocks, "free_memory": free_memory, "hits": hits, "inserts": inserts, "lowmem_prunes": prunes, "not_cached": not_cached,
+              "queries_in_cache": queries, "total_blocks": blocks}
+    return [[b"Qcache_" + name.encode(), b"%d" % value] for name, value in values.items()]
 
 
 # Long lines and empty ones
@@ -298,7 +335,8 @@ def combinations():
     yield Input("2^40 combinations and more, LIMIT 3", lambda: script(33, b"LIMIT 3"), test=answers(b"Too many row combinations"))
     yield Input("2^40 combinations and more, LIMIT 0", lambda: script(33, b"LIMIT 0"), test=answers(b"Too many row combinations"))
     yield Input("nine sources", lambda: script(32, b", t LIMIT 3"), test=answers(b"Too many tables"))
-    yield Input("64 sessions, 2^40 combinations", crowd_of_combinations, test=words_are(lambda told: told.get("start", 0) + told.get("hit", 0) + told.get("plain", 0) == 64))
+    told = {0: ["ok"] * 8, **{number: ["ok", rows] for number in range(1, 65)}}
+    yield Input("64 sessions, 2^40 combinations", crowd_of_combinations, test=each(all_answers(told), words_are(lambda words: words.get("start", 0) + words.get("hit", 0) + words.get("plain", 0) == 64)))
 
 
 def crowd_of_combinations():
@@ -322,13 +360,130 @@ def tables(reading):
     return b"".join(lines)
 
 
+def answers_of_tables(reading, status):
+    """What session 1 is answered there."""
+    rows = [[[b"%d" % number]] for number in range(1, reading + 1)]
+    return all_answers({1: ["ok"] * (2 + 2 * TABLES) + rows + rows + [status, b"Not supported: key change", "ok", "ok", b"Unknown database: d"]})
+
+
 def many_tables():
+    """Each entry has a table, a result and a text of a block of 512 bytes each; behind them is one free block."""
     small = ["--size", "67108864", "--unit", "512"]
-    yield Input("10,000 tables, 500 of them read twice", lambda: tables(500), words=small, test=words_are(lambda told: told.get("hit") == 500), judged=True)
-    yield Input("10,000 tables, 500 of them read twice, little room", lambda: tables(500), words=["--size", "65536", "--unit", "512"], test=words_are(lambda told: told.get("start") == 1000), judged=True)
-    yield Input("10,000 tables, all read twice", lambda: tables(TABLES), words=small, test=words_are(lambda told: told.get("hit") == TABLES and told.get("start") == TABLES))
+
+    def read_twice(reading):
+        status = status_rows(1, 67_108_864 - 3 * 512 * reading, reading, reading, 0, 0, reading, 3 * reading + 1)
+        return each(answers_of_tables(reading, status), words_are(lambda told: told.get("hit") == reading and told.get("start") == reading))
+
+    never_kept = each(answers_of_tables(500, None), words_are(lambda told: told.get("start") == 1000))
+    yield Input("10,000 tables, 500 of them read twice", lambda: tables(500), words=small, test=read_twice(500), judged=True)
+    yield Input("10,000 tables, 500 of them read twice, little room", lambda: tables(500), words=["--size", "65536", "--unit", "512"], test=never_kept, judged=True)
+    yield Input("10,000 tables, all read twice", lambda: tables(TABLES), words=small, test=read_twice(TABLES))
+
+
+# A full table
+
+FULL = 1_048_576
+IS_FULL = b"Table is full: d.t"
+COUNT = b"query SELECT COUNT(*) FROM t\n"
+STATUS = b"query SHOW STATUS LIKE 'Qcache%'\n"
+LAST = b"query SELECT id FROM t WHERE id >= 1048576\n"
+
+# So many sessions insert a row each in a transaction, and then read all rows so often, which takes a while.
+WRITERS = 4
+SCAN = b"query SELECT COUNT(*) FROM t WHERE LENGTH(id) = 3\n"
+SCANS = 3
+
+
+def inserted(*keys):
+    return b"query INSERT INTO t VALUES " + b",".join(b"(%d)" % key for key in keys) + b"\n"
+
+
+def table_of(rows):
+    """A setup part with a table of so many rows, whose keys count from 1, and with an entry that holds their number; and its answers."""
+    parts = [range(first, min(first + 10_000, rows + 1)) for first in range(1, rows + 1, 10_000)]
+    script = b"setup\nquery CREATE DATABASE d\ninit d\nquery CREATE TABLE t (id BIGINT PRIMARY KEY)\n" + b"".join(inserted(*keys) for keys in parts) + COUNT
+    return script, ["ok"] * (3 + len(parts)) + [[[b"%d" % rows]]]
+
+
+def full_tables():
+    full, filled_up = table_of(FULL)
+    count = [[b"%d" % FULL]]
+
+    # Outside of a transaction; and in one, which goes on and makes room for a row.
+    setup = full + inserted(FULL + 1) + COUNT + STATUS
+    session = b"init d\n" + COUNT + b"query BEGIN\n" + inserted(FULL + 1) + COUNT + b"query DELETE FROM t WHERE id = 1\n" + inserted(FULL + 1, FULL + 2) + inserted(FULL + 1) + COUNT + (
+        b"query COMMIT\n" + COUNT + b"query SELECT id FROM t WHERE id < 3 OR id > 1048575\n" + STATUS)
+    told = {0: filled_up + [IS_FULL, count, status_rows(2, 1_047_040, 1, 1, 0, 0, 1, 5)],
+            1: ["ok", count, "ok", IS_FULL, count, "ok", IS_FULL, "ok", count, "ok", count, [[b"2"], [b"1048576"], [b"1048577"]], status_rows(2, 1_046_016, 2, 4, 0, 1, 2, 7)]}
+    yield Input("a full table, a row more, and one in a transaction that makes room", lambda: setup + b"session 1\n" + session, test=all_answers(told, (5, 2, 4, 1, 0, 2)))
+
+    # In a transaction that is open beside another session, which changes nothing either.
+    first = b"session 1\ninit d\nquery BEGIN\n" + inserted(FULL + 1) + COUNT + inserted(FULL + 2) + b"query COMMIT\n" + COUNT
+    second = b"session 2\ninit d\n" + COUNT + inserted(FULL + 1) + COUNT
+    told_both = {0: filled_up, 1: ["ok", "ok", IS_FULL, count, IS_FULL, "ok", count], 2: ["ok", count, IS_FULL, count]}
+    yield Input("a full table, a row more in a transaction, beside a session that hits", lambda: full + first + second, test=all_answers(told_both, (2, 3, 2, 0, 0, 2)))
+
+    # A row has room, and several transactions insert one, on snapshots where it has.
+    almost, almost_filled = table_of(FULL - 1)
+    writers = b"".join(b"session %d\ninit d\nquery BEGIN\n" % number + inserted(FULL + number) + SCAN * SCANS + b"query COMMIT\n" + COUNT + LAST for number in range(1, WRITERS + 1))
+    yield Input("a table that COMMITs would overfill", lambda: almost + writers, test=each(one_commit_fills(almost_filled), counters_are_the_journals))
+
+
+def one_commit_fills(setup):
+    """The row of one session is committed. Of the others, those whose INSERT has its place before are refused at COMMIT, and their transaction is over; those behind it, at the INSERT."""
+    def test(report):
+        told = read_report(report)
+        commits = [event for event in told.journal if event.kind == "commit" and event.session != 0]
+        if len(commits) != 1:
+            raise Wrong("%d sessions have committed" % len(commits))
+        commit, refused_at_commit = commits[0], 0
+        wanted = {0: setup}
+        for number in range(1, WRITERS + 1):
+            lines = told.sessions[number][1]
+            has_room = lines[2][0] < commit.number
+            is_refused = has_room and number != commit.session
+            refused_at_commit += is_refused
+            wanted[number] = ["ok", "ok", "ok" if has_room else IS_FULL] + [[[b"900"]]] * SCANS + [IS_FULL if is_refused else "ok", [[b"%d" % FULL]], [[b"%d" % (FULL + commit.session)]]]
+            if [read_reply(reply)[-1] for _, _, reply in lines[3:3 + SCANS] + lines[-2:]] != [3] * SCANS + [2] * 2:
+                raise Wrong("session %d isn't in a transaction up to its COMMIT" % number)
+        all_answers(wanted)(report)
+        if refused_at_commit == 0:
+            raise Wrong("no session was refused at COMMIT")
+    return test
+
+
+def counters_are_the_journals(report):
+    """The counters by the journal of a run whose entries are all on one table, which each commit changes."""
+    told = read_report(report)
+    kinds = [event.kind for event in told.journal]
+    entries = set()
+    for event in told.journal:
+        if event.kind == "start":
+            entries.add(event.fields[2])
+        elif event.kind == "commit":
+            entries.clear()
+        elif event.kind in ("toolarge", "goneroom", "ended", "prune"):
+            entries.discard(event.fields[0])
+    starts, plains = kinds.count("start"), kinds.count("plain")
+    errors = sum(event.kind == "plain" and event.fields[2].startswith("error") for event in told.journal)
+    counters = (starts + plains, kinds.count("hit"), starts, plains - errors, kinds.count("prune"), len(entries))
+    if told.counters != counters:
+        raise Wrong("the counters are %s and should be %s" % (told.counters, counters))
+
+
+# No database
+
+def no_database():
+    """Each statement that names a table is refused, and the sessions go on."""
+    session = b"session 1\n" + b"".join(b"query %s\n" % text for text in (
+        b"SELECT id FROM t", b"INSERT INTO t VALUES (7)", b"UPDATE t SET id = 1", b"DELETE FROM t", b"TRUNCATE t", b"CREATE TABLE t (id BIGINT PRIMARY KEY)", b"DROP TABLE t", b"SELECT 1",
+        b"BEGIN", b"SELECT id FROM t", b"INSERT INTO t VALUES (7)", b"COMMIT")) + TABLE + b"query SELECT id FROM t\n" * 2
+    other = b"session 2\nquery SELECT id FROM t\nquery SELECT 7\n"
+    none = b"No database selected"
+    told = {1: [none] * 7 + [[[b"1"]], "ok", none, none, "ok"] + ["ok"] * 4 + [[[b"7"]]] * 2, 2: [none, [[b"7"]]]}
+    yield Input("no database, and then one", lambda: session + other, test=all_answers(told, (6, 1, 1, 2, 0, 1)), judged=True)
 
 
 def inputs():
-    for part in long_lines, empty_lines, raw_bytes, megabytes, nested, combinations, many_tables:
+    for part in long_lines, empty_lines, raw_bytes, megabytes, nested, combinations, many_tables, full_tables, no_database:
         yield from part()
