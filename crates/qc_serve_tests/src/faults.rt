@@ -13,7 +13,7 @@ pub(crate) const PUTS_OF_A_HIT: &[(u64, &str)] = &[
     (3, "2*512 at stream 1"),
 ];
 
-/// Where a put of a hit fails, or wants memory, a front of the reply went out, with all pieces before that put; the Hit is the session's last event; the entry still
+/// Where a put of a hit fails, a front of the reply went out, and where it wants memory, pieces of these lengths; the Hit is the session's last event; the entry still
 /// hits, the totals are as before, and there is one hit more.
 #[test]
 fn a_hit_breaks_off(rt: HostRuntime) -> Result<(), Fail> {
