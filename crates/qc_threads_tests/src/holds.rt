@@ -52,7 +52,7 @@ impl Way {
 }
 
 /// Waits until a number is this one or a higher one. False where the wait met its limit.
-fn rises_to(number: &AtomicU64, wanted: u64) -> bool {
+pub fn rises_to(number: &AtomicU64, wanted: u64) -> bool {
     for load in 0..MOST_LOADS {
         if number.load(Ordering::SeqCst) >= wanted {
             return true;

@@ -1,10 +1,43 @@
 //! As many sessions as there may be, of one command each.
 
+use crate::holds::rises_to;
 use crate::runs::{must, run, same};
 use qc_app::{Ended, Ending, Event, Report, SessionReport, Word};
-use qc_serve::{Receipt, Ungated};
+use qc_core::Server;
+use qc_serve::{Gate, Moment, Receipt, Ungated};
+use qc_turn::Seat;
 use std::alloc::{AllocError, Global};
 use std::process::Abort;
+use std::sync::atomic::{AtomicBool, AtomicU64, Ordering};
+
+/// A gate that holds each session up before its command until all 64 have come there. It keeps whether a wait met its limit, and then holds nobody up.
+#[derive(Drop)]
+struct Crowd {
+    come: AtomicU64,
+    met_limit: AtomicBool,
+}
+
+impl Crowd {
+    fn new() -> Crowd {
+        Crowd {
+            come: AtomicU64::new(0),
+            met_limit: AtomicBool::new(false),
+        }
+    }
+
+    fn has_met_limit(&self) -> bool {
+        self.met_limit.load(Ordering::SeqCst)
+    }
+}
+
+impl Gate for Crowd {
+    fn pass(&self, _at: &Seat<Server>, _session: u8, _moment: Moment) {
+        let _before = self.come.fetch_add(1, Ordering::SeqCst);
+        if !self.has_met_limit() && !rises_to(&self.come, 64) {
+            self.met_limit.store(true, Ordering::SeqCst);
+        }
+    }
+}
 
 /// The answer to the session that makes a database.
 const MADE: &[u8] = b"\x07\x00\x00\x01\x00\x01\x00\x02\x00\x00\x00";
@@ -62,11 +95,8 @@ fn are_all_there(rt: &impl Abort, report: &Report, receipts: &[Receipt]) {
     }
 }
 
-#[test]
-fn sixty_four_sessions(rt: HostRuntime) {
-    let alloc = rt.alloc();
-    let script = must(&rt, script(alloc));
-    let (ended, _out) = must(&rt, run(&rt, alloc, "run", &script, &Ungated));
+/// Asserts that a run of the 64 sessions succeeded, and that all of them are there.
+fn has_all(rt: &impl Abort, ended: Ended) {
     let Ended {
         status,
         report,
@@ -74,12 +104,30 @@ fn sixty_four_sessions(rt: HostRuntime) {
         server: _,
         receipts,
     } = ended;
-    same(&rt, status, 0u8);
+    same(rt, status, 0u8);
     let Some(report) = report else {
         panic!(rt; "no report");
     };
     let Some(receipts) = receipts else {
         panic!(rt; "no receipts");
     };
-    are_all_there(&rt, &report, receipts.items());
+    are_all_there(rt, &report, receipts.items());
+}
+
+#[test]
+fn sixty_four_sessions(rt: HostRuntime) {
+    let alloc = rt.alloc();
+    let script = must(&rt, script(alloc));
+    let (ended, _out) = must(&rt, run(&rt, alloc, "run", &script, &Ungated));
+    has_all(&rt, ended);
+}
+
+#[test]
+fn sixty_four_sessions_at_the_same_time(rt: HostRuntime) {
+    let alloc = rt.alloc();
+    let gate = Crowd::new();
+    let script = must(&rt, script(alloc));
+    let (ended, _out) = must(&rt, run(&rt, alloc, "run", &script, &gate));
+    assert!(rt; !gate.has_met_limit(), "a wait met its limit");
+    has_all(&rt, ended);
 }
