@@ -1,6 +1,6 @@
 -- The blocks of a start, one after another.
-use Rattle.std.proofs.Common.{◌≡◌, ℕ, zero, suc, ◌+◌, ◌<◌, ◌≤◌, eqb, eq-eqb, Bool, true, false, List, [], ◌∷◌, ◌++◌, map, length, take, drop, get_or, refl, sym, ap, subst, ◌∙◌, arith, append_assoc, length-append}
-use Rattle.std.specs.Prelude.{◌||◌, Option, Result, Ok, Err, IfOk}
+use Rattle.std.proofs.Common.{◌≡◌, ℕ, zero, suc, ◌+◌, ◌<◌, ◌≤◌, eqb, eq-eqb, Bool, true, false, List, [], ◌∷◌, ◌++◌, map, length, take, drop, get_or, refl, sym, ap, subst, ◌∙◌, arith, append_assoc, append-nil, length-append}
+use Rattle.std.specs.Prelude.{◌||◌, Option, Contains, Result, Ok, Err, IfOk}
 use Rattle.std.specs.Result.{IfErr, IsErrAnd}
 use Rattle.std.specs.List.{AllByRecursion}
 use Rattle.std.proofs.lemmas.List.{map-append, take_all, take-append-drop}
@@ -23,12 +23,13 @@ use Rattle.qc_core.specs.declared.parts.Parts.{Parts}
 use Rattle.qc_core.specs.Leaves.{table_blocks}
 use Rattle.qc_core.specs.Hands.{IsInHand}
 use Rattle.qc_core.specs.Starts.{TakesOne, Takes, needs_for}
-use Rattle.qc_core.specs.Takes.{holds, starts, next_of, IsStarting, KeepsRoom, MayTakeOne, PrunesSome, HasNone, TakesKeeping, MayTake, TakesTables, HaveSizes, TakesPair, TakesAll, Stops}
+use Rattle.qc_core.specs.Takes.{holds, starts, next_of, IsStarting, KeepsRoom, MayTakeOne, PrunesSome, HasNone, TakesKeeping, GivesBlocks, MayTake, TakesTables, HaveSizes, TakesPair, TakesAll, Stops}
 use Rattle.qc_core.proofs.FillTasks.{pruned_after}
 use Rattle.qc_core.proofs.Handing.{hand_takes, hand_few}
 use Rattle.qc_core.proofs.Keeping.{reheld}
 use Rattle.qc_core.proofs.GivingBack.{held_out, given_whole}
 use Rattle.qc_core.proofs.Leaving.{release_append}
+use Rattle.qc_core.proofs.TheirBlocks.{push_only, gives_on}
 
 -- ---- needs that a start has
 
@@ -97,9 +98,17 @@ pub record Drawing (next : Option Event) (words : List ℕ) (missing : List Tabl
   pub starting : IsStarting next words (drop n missing) [] hand now
   pub tables : hand.tables ≡ before.tables
   pub room : KeepsRoom old now
+  pub gives : GivesBlocks (take n missing) blocks before hand old now
 
 pub drawing_start : (missing : List TableName) (bytes : ℕ) (hand : Hand) (s : Parts) (u : MayTake missing bytes hand s) → Drawing (next_of missing bytes hand s u) u.words missing 0 hand hand s s
-drawing_start missing bytes hand s u = record { blocks = []; takes = refl; starting = u.starting; tables = refl; room = λ k low. low }
+drawing_start missing bytes hand s u = record {
+  blocks = [];
+  takes = refl;
+  starting = u.starting;
+  tables = refl;
+  room = λ k low. low;
+  gives = record { given = []; named = refl; taken = refl; only = λ all h. subst (λ (ts : List TableBlock). AllByRecursion (Contains ts) (hand.fresh ++ s.dir.tables)) (sym (append-nil all)) h };
+}
 
 abbrev pub may_take_table : (next : Option Event) (words : List ℕ) (t : TableName) (rest : List TableName) (hand : Hand) (s : Parts) → IsStarting next words (t ∷ rest) [] hand s → ((j : Journal) → PruneHasNeed s.options j least_block next) → MayTakeOne least_block hand s
 may_take_table next words t rest hand s st needs = record { next = next; words = words; missing = t ∷ rest; others = []; starting = st; least = omega arith; needs = needs; few = omega arith; small = tt }
@@ -152,6 +161,15 @@ module _ (next : Option Event) (words : List ℕ) (missing : List TableName) (n 
     starting = table_in_hand next words t (drop (n + 1) missing) after new b k.starting (omega (arith, k.small));
     tables = k.tables ∙ d.tables;
     room = λ j low. k.room j (d.room j low);
+    gives =
+        let x : TableBlock = record { table = t; block = b } in
+        let g = d.gives in
+        record {
+          given = g.given ++ x ∷ [];
+          named = map-append (λ (y : TableBlock). y.table) g.given (x ∷ []) ∙ (ap (λ l. l ++ t ∷ []) g.named ∙ sym (take_at_place missing n t inside is));
+          taken = ap (λ l. l ++ b ∷ []) g.taken ∙ sym (map-append (λ (y : TableBlock). y.block) g.given (x ∷ []));
+          only = λ all h. push_only all g.given x after.fresh new.dir.tables (k.keeps (all ++ g.given) (g.only all h));
+        };
   }
 
   pub draw_room : (after : Hand) (b : Block) (new : Parts) → TakesKeeping least_block next words (t ∷ drop (n + 1) missing) [] hand after now b new → length after.fresh < 8
@@ -168,6 +186,7 @@ draws_all next words missing n before hand old now all d = record {
   starting = subst (λ l. IsStarting next words l [] hand now) (drop_all n missing (omega (arith, all))) d.starting;
   tables = d.tables;
   room = d.room;
+  gives = subst (λ l. GivesBlocks l d.blocks before hand old now) (take_all n missing (omega (arith, all))) d.gives;
 }
 
 -- ---- a need gets none
@@ -305,6 +324,7 @@ module _ (bytes : ℕ) (hand : Hand) (s : Parts) (u : MayTake [] bytes hand s) w
       starting = q.starting;
       tables = q.tables ∙ t.tables;
       room = λ k low. q.room k (t.room k low);
+      keeps = λ all h. q.keeps all (t.keeps all h);
     }
 
 -- ---- all
@@ -331,6 +351,7 @@ all_so missing bytes hand after last s mid new u t taken q =
       starting = subst (λ ts. IsStarting (starts u.who u.number u.key ts) u.words [] (taken.text ∷ taken.first ∷ []) last new) t.tables q.starting;
       tables = q.tables ∙ t.tables;
       room = λ k low. q.room k (t.room k low);
+      gives = gives_on missing t.blocks hand after last s mid new t.gives q.keeps;
     }
 
 -- ---- errors that are passed on

@@ -44,6 +44,7 @@ use Rattle.qc_core.proofs.Striking.{any_in}
 use Rattle.qc_core.proofs.Pruned.{Oldest, may_leave, oldest_of, pruned_whole, names_left, after_plain}
 use Rattle.qc_core.proofs.Pruning.{pruned_one}
 use Rattle.qc_core.proofs.Handing.{hand_keeps, hand_room, hand_few}
+use Rattle.qc_core.proofs.TheirBlocks.{prune_keeps}
 
 -- ---- other tiles under the same server
 
@@ -265,4 +266,5 @@ module _ (need : ℕ) (hand : Hand) (s : Parts) (u : MayTakeOne need hand s) whe
                 let spare : v.journal.spare ≡ s.journal.spare - 1 = ap (λ (x : Parts). x.journal.spare) v_is in
                 let fewer : reserved (cache v.journal.events) ≡ reserved (cache (with_event ev all).journal.events) = ap (λ (x : Parts). reserved (cache x.journal.events)) v_is in
                 omega (arith, low, less, spare, fewer);
+            keeps = prune_keeps hand after s v gone.kept gone.others t.dir.tables gone.hand dirs split;
           }

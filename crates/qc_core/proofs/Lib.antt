@@ -46,6 +46,7 @@ pub mod Committing
 pub mod Handing
 pub mod Sorting
 pub mod Sparing
+pub mod TheirBlocks
 pub mod Keeping
 pub mod Searching
 pub mod GivingBack

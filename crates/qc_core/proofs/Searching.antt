@@ -1,7 +1,7 @@
 -- Prunes for a start until a free block holds a need, and the block that is taken then.
 use Rattle.std.proofs.Common.{◌≡◌, ℕ, zero, suc, ◌+◌, ◌<◌, ◌≤◌, true, false, cond, List, [], ◌∷◌, ◌++◌, map, refl, sym, ap, subst, ◌∙◌, arith, true≢false}
 use Rattle.std.specs.Result.{IfErr, result_ok}
-use Rattle.std.specs.Prelude.{Result, Ok, Err, IfOk, ◌==◌, ◌&&◌, Option, Some, None, find, option_map}
+use Rattle.std.specs.Prelude.{Result, Ok, Err, IfOk, ◌==◌, ◌&&◌, Option, Some, None, Contains, find, option_map}
 use Rattle.std.specs.List.{AllByRecursion}
 use Rattle.std.proofs.lemmas.Option.{none-some}
 use Rattle.qc_types.specs.declared.options.Options.{Options}
@@ -14,6 +14,7 @@ use Rattle.qc_tiles.specs.declared.blocks.Tile.{Tile}
 use Rattle.qc_tiles.specs.Tiles.{taken, after_take, largest_free}
 use Rattle.qc_chain.specs.Chains.{Chained}
 use Rattle.qc_dir.specs.declared.entries.Entry.{Entry}
+use Rattle.qc_dir.specs.declared.tables.TableBlock.{TableBlock}
 use Rattle.qc_dir.specs.Directory.{is_idle, oldest_idle}
 use Rattle.qc_sound.specs.parts.Journal.{reserved}
 use Rattle.qc_sound.proofs.Grounds.{lacks_room}
@@ -30,7 +31,7 @@ use Rattle.qc_core.proofs.Taking.{took}
 use Rattle.qc_core.proofs.Keeping.{held_few, held_low, reheld}
 
 pub none_yet : (need : ℕ) (hand : Hand) (s : Parts) (u : MayTakeOne need hand s) → PrunesSome need u.next u.words u.missing u.others hand hand s s
-none_yet need hand s u = record { count = 0; prunes = refl; starting = u.starting; tables = refl; room = λ k low. low }
+none_yet need hand s u = record { count = 0; prunes = refl; starting = u.starting; tables = refl; room = λ k low. low; keeps = λ all h. h }
 
 module _ (need : ℕ) (hand now : Hand) (old s : Parts) (u : MayTakeOne need hand old) (p : PrunesSome need u.next u.words u.missing u.others hand now old s) where
   pub options_stay : s.options ≡ old.options
@@ -57,6 +58,7 @@ module _ (need : ℕ) (hand now : Hand) (old s : Parts) (u : MayTakeOne need han
     starting = q.starting;
     tables = q.tables ∙ p.tables;
     room = λ k low. q.room k (p.room k low);
+    keeps = λ all h. q.keeps all (p.keeps all h);
   }
 
   -- no entry is left to prune
@@ -113,6 +115,7 @@ module _ (need : ℕ) (hand now : Hand) (old s : Parts) (u : MayTakeOne need han
         room = λ k low.
             let same : new.journal ≡ s.journal = ap (λ (x : Parts). x.journal) server in
             subst (λ j. reserved (cache j.events) + k < j.spare) (sym same) (p.room k low);
+        keeps = λ all h. subst (λ (ts : List TableBlock). AllByRecursion (Contains all) (now.fresh ++ ts)) (sym (ap (λ (x : Parts). x.dir.tables) server)) (p.keeps all h);
       }
 
   pub takes_ok : (r : Result Block NoTile) (tiles : List Tile) → result_ok r ≡ taken need s.tiles → tiles ≡ after_take need s.tiles → IfOk r (λ b. TakesKeeping need u.next u.words u.missing u.others hand now old b (record s { tiles = tiles }))

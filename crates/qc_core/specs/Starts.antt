@@ -1,6 +1,6 @@
 -- What a start needs of the region, and in which order.
-use Rattle.std.specs.Prelude.{◌≡◌, ℕ, ◌+◌, ◌*◌, ◌^◌, ◌<◌, ◌≤◌, true, false, List, [], ◌∷◌, ◌++◌, map, length, is_none, Some}
-use Rattle.std.specs.List.{filter}
+use Rattle.std.specs.Prelude.{◌≡◌, ℕ, ◌+◌, ◌*◌, ◌^◌, ◌<◌, ◌≤◌, true, false, List, [], ◌∷◌, ◌++◌, map, length, is_none, Some, Contains}
+use Rattle.std.specs.List.{filter, AllByRecursion}
 use Rattle.qc_key.specs.Hash.{hash}
 use Rattle.qc_model.specs.declared.events.Who.{Who}
 use Rattle.qc_model.specs.declared.events.Event.TheVariants as event
@@ -21,6 +21,7 @@ use Rattle.qc_core.specs.declared.starts.Started.{Started}
 use Rattle.qc_core.specs.declared.starts.Begun.{Begun as Answer}
 use Rattle.qc_core.specs.declared.starts.Begun.TheVariants as begun
 use Rattle.qc_core.specs.Whole.{with_event}
+use Rattle.qc_core.specs.Leaves.{table_blocks}
 use Rattle.qc_core.specs.Allocates.{PrunesMany, LacksTile}
 use Rattle.qc_types.specs.declared.names.TableName.{TableName}
 use Rattle.qc_types.specs.declared.options.Options.{Options}
@@ -108,6 +109,13 @@ pub record AddsFill (seat serial : ℕ) (key : List ℕ) (tables : List TableNam
 
 -- ---- the call
 
+-- The block of each table is the one that it had, or, of these tables that had none, the one of these that was taken for it, in their order.
+pub record HaveTheirBlocks (missing : List TableName) (blocks : List Block) (old new : List TableBlock) : Type 0 where
+  pub given : List TableBlock
+  pub named : map (λ b. b.table) given ≡ missing
+  pub taken : blocks ≡ table_blocks given
+  pub only : AllByRecursion (Contains (old ++ given)) new
+
 -- The blocks were taken, the entry was added, and the event pushed. The ranges are its chain.
 pub record Starts (seat : ℕ) (who : Who) (key : List ℕ) (tables : List TableName) (old new : Parts) (before after : Ranged) (b : Started) : Type 0 where
   pub serial : b.serial ≡ start_count old.journal.events + 1
@@ -118,6 +126,7 @@ pub record Starts (seat : ℕ) (who : Who) (key : List ℕ) (tables : List Table
   pub mid : Parts
   pub takes : Takes (needs_of old.options old.dir.tables tables key) old (blocks ++ first ∷ text ∷ []) mid
   pub adds : AddsFill seat b.serial key tables first text mid new
+  pub kept : HaveTheirBlocks (without_block old.dir.tables tables) blocks old.dir.tables new.dir.tables
   pub events : new.journal.events ≡ mid.journal.events ++ event.Run who (how.Start b.serial key tables) ∷ []
   pub ranges : after ≡ record { blocks = first ∷ []; bytes = 8 * first.words; room = before.room }
 

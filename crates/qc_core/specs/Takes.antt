@@ -1,5 +1,5 @@
 -- The blocks of a start are taken, one after another, and the blocks of its own tables are kept for it while entries are pruned.
-use Rattle.std.specs.Prelude.{◌≡◌, ℕ, ◌+◌, ◌^◌, ◌<◌, ◌≤◌, List, [], ◌∷◌, ◌++◌, map, length, Option, Some, IsPermutation}
+use Rattle.std.specs.Prelude.{◌≡◌, ℕ, ◌+◌, ◌^◌, ◌<◌, ◌≤◌, List, [], ◌∷◌, ◌++◌, map, length, Option, Some, Contains, IsPermutation}
 use Rattle.std.specs.List.{AllByRecursion}
 use Rattle.qc_types.specs.declared.names.TableName.{TableName}
 use Rattle.qc_types.specs.declared.options.Options.{Options}
@@ -44,6 +44,21 @@ pub record IsStarting (next : Option Event) (words : List ℕ) (missing : List T
   pub hand : IsInHand mine missing s.dir.tables
   pub small : AllByRecursion (λ b. b.block.words ≤ 127) mine.fresh
 
+-- the blocks of tables, in the hand and in the directory, are some of these
+abbrev pub HasOnly : List TableBlock → Hand → Parts → Type 0
+HasOnly all hand s = AllByRecursion (Contains all) (hand.fresh ++ s.dir.tables)
+
+-- no table got another block
+abbrev pub KeepsBlocks : Hand → Hand → Parts → Parts → Type 0
+KeepsBlocks before after old new = (all : List TableBlock) → HasOnly all before old → HasOnly all after new
+
+-- The tables with these names got these blocks, in their order, and no other table got another one.
+pub record GivesBlocks (names : List TableName) (blocks : List Block) (before after : Hand) (old new : Parts) : Type 0 where
+  pub given : List TableBlock
+  pub named : map (λ b. b.table) given ≡ names
+  pub taken : blocks ≡ table_blocks given
+  pub only : (all : List TableBlock) → HasOnly all before old → HasOnly (all ++ given) after new
+
 -- there is as much room for events, beside those that entries may still have
 abbrev pub KeepsRoom : Parts → Parts → Type 0
 KeepsRoom old new = (k : ℕ) → reserved (cache old.journal.events) + k < old.journal.spare → reserved (cache new.journal.events) + k < new.journal.spare
@@ -86,6 +101,7 @@ pub record PrunesKeeping (need : ℕ) (next : Option Event) (words : List ℕ) (
   pub starting : IsStarting next words missing others after new
   pub tables : after.tables ≡ before.tables
   pub room : KeepsRoom old new
+  pub keeps : KeepsBlocks before after old new
 
 -- some entries went, one after another
 pub record PrunesSome (need : ℕ) (next : Option Event) (words : List ℕ) (missing : List TableName) (others : List Block) (before after : Hand) (old new : Parts) : Type 0 where
@@ -94,6 +110,7 @@ pub record PrunesSome (need : ℕ) (next : Option Event) (words : List ℕ) (mis
   pub starting : IsStarting next words missing others after new
   pub tables : after.tables ≡ before.tables
   pub room : KeepsRoom old new
+  pub keeps : KeepsBlocks before after old new
 
 -- No free block holds the need, and no entry is left that is complete and without users: a run without room is licensed.
 pub record HasNone (need : ℕ) (s : Parts) (e : NoTile) : Type 0 where
@@ -108,6 +125,7 @@ pub record TakesKeeping (need : ℕ) (next : Option Event) (words : List ℕ) (m
   pub starting : IsStarting next words missing (block ∷ others) after new
   pub tables : after.tables ≡ before.tables
   pub room : KeepsRoom old new
+  pub keeps : KeepsBlocks before after old new
 
 -- ---- all needs
 
@@ -135,6 +153,7 @@ pub record TakesTables (next : Option Event) (words : List ℕ) (missing : List 
   pub starting : IsStarting next words [] [] after new
   pub tables : after.tables ≡ before.tables
   pub room : KeepsRoom old new
+  pub gives : GivesBlocks missing blocks before after old new
 
 -- the blocks have the words that were asked for, and at most 63 more
 pub record HaveSizes (options : Options) (bytes : ℕ) (taken : Taken) : Type 0 where
@@ -150,6 +169,7 @@ pub record TakesPair (next : Option Event) (words : List ℕ) (bytes : ℕ) (bef
   pub starting : IsStarting next words [] (taken.text ∷ taken.first ∷ []) after new
   pub tables : after.tables ≡ before.tables
   pub room : KeepsRoom old new
+  pub keeps : KeepsBlocks before after old new
 
 -- all blocks of the start were
 pub record TakesAll (next : Option Event) (words : List ℕ) (missing : List TableName) (bytes : ℕ) (before after : Hand) (old : Parts) (taken : Taken) (new : Parts) : Type 0 where
@@ -159,6 +179,7 @@ pub record TakesAll (next : Option Event) (words : List ℕ) (missing : List Tab
   pub starting : IsStarting next words [] (taken.text ∷ taken.first ∷ []) after new
   pub tables : after.tables ≡ before.tables
   pub room : KeepsRoom old new
+  pub gives : GivesBlocks missing blocks before after old new
 
 -- One of the needs got no block. Some blocks were given back then, and these are held still.
 pub record Stops (next : Option Event) (words : List ℕ) (needs : List ℕ) (held : List Block) (old new : Parts) (e : NoTile) : Type 0 where

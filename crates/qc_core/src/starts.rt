@@ -1,6 +1,6 @@
 //! Entries begin.
 
-ghost use Rattle.std.specs.Prelude.{◌≡◌, ◌+◌, ◌*◌, ◌^◌, ◌<◌, ◌≤◌, List, [], ◌∷◌, ◌++◌, length, IfOk, OnOk, OnErr};
+ghost use Rattle.std.specs.Prelude.{◌≡◌, ◌+◌, ◌*◌, ◌^◌, ◌<◌, ◌≤◌, List, [], ◌∷◌, ◌++◌, length, IsPermutation, IfOk, OnOk, OnErr};
 ghost use Rattle.std.specs.Result.{IfErr};
 ghost use Rattle.qc_model.specs.declared.events.Event.TheVariants as event;
 ghost use Rattle.qc_model.specs.declared.events.How.TheVariants as how;
@@ -287,6 +287,7 @@ fn finish(
     ensures serial { result.serial ≡ serial }
     ensures place { result.place ≡ length held.new.value.journal.events }
     ensures adds { AddsFill (holder held.old).number serial key tables taken.first taken.text held.old.value held.new.value }
+    ensures blocks { IsPermutation held.new.value.dir.tables (hand.fresh ++ held.old.value.dir.tables) }
     ensures events { held.new.value.journal.events ≡ held.old.value.journal.events ++ event.Run who (how.Start serial key tables) ∷ [] }
     ensures ranges { held.new.ranges ≡ record { blocks = taken.first ∷ []; bytes = 8 * taken.first.words; room = held.old.ranges.room } }
     ensures listed { listed_for (holder held.old).number (tasks_of held.new.value) ≡ own (holder held.old).number (task.Fill serial) (taken.first ∷ []) }
@@ -310,6 +311,7 @@ fn put_in(
     ensures stands { MayRelease held.new × SameHolder held.old held.new }
     ensures place { result ≡ length held.new.value.journal.events }
     ensures adds { AddsFill (holder held.old).number serial key tables taken.first taken.text held.old.value held.new.value }
+    ensures blocks { IsPermutation held.new.value.dir.tables (hand.fresh ++ held.old.value.dir.tables) }
     ensures events { held.new.value.journal.events ≡ held.old.value.journal.events ++ event.Run who (how.Start serial key tables) ∷ [] }
     ensures ranges { held.new.ranges ≡ record { blocks = taken.first ∷ []; bytes = 8 * taken.first.words; room = held.old.ranges.room } }
     ensures listed { listed_for (holder held.old).number (tasks_of held.new.value) ≡ own (holder held.old).number (task.Fill serial) (taken.first ∷ []) }

@@ -1,4 +1,4 @@
-use Rattle.std.proofs.Common.{ℕ, ◌+◌, ◌++◌, List, [], ◌∷◌, length, sym, ap, subst, ◌∙◌}
+use Rattle.std.proofs.Common.{ℕ, ◌+◌, ◌++◌, List, [], ◌∷◌, length, refl, sym, ap, subst, ◌∙◌}
 use Rattle.qc_types.specs.declared.names.TableName.{TableName}
 use Rattle.qc_model.specs.declared.events.Event.TheVariants as event
 use Rattle.qc_model.specs.declared.events.How.TheVariants as how
@@ -12,6 +12,7 @@ use Rattle.qc_core.specs.declared.starts.Ready.{Ready}
 use Rattle.qc_core.specs.Starts.{AddsFill, needs_for, without_block}
 use Rattle.qc_core.specs.Takes.{MayTake, next_of, TakesAll, Stops}
 use Rattle.qc_core.proofs.Starting.{taking, holds_blocks, holds_nothing}
+use Rattle.qc_core.proofs.TheirBlocks.{their_blocks}
 use Rattle.qc_core.proofs.starts.begin.Goals as goal
 
 pub take_blocks-requires : goal.take_blocks-requires
@@ -73,6 +74,7 @@ returns-in-Ok-clause-begun c =
       mid = x;
       takes = a.takes;
       adds = subst (λ n. AddsFill (holder h).number n c.args.key c.args.tables t.first t.text x c.finish.new.held.value) (sym c.finish.ensures.serial) c.finish.ensures.adds;
+      kept = their_blocks (without_block h.value.dir.tables c.args.tables) a.blocks (record { tables = c.args.tables; fresh = [] }) hand h.value x c.finish.new.held.value.dir.tables refl a.gives c.finish.ensures.blocks;
       events = c.finish.ensures.events ∙ ap (λ n. x.journal.events ++ event.Run c.args.who (how.Start n c.args.key c.args.tables) ∷ []) (sym c.finish.ensures.serial);
       ranges = c.finish.ensures.ranges;
     }

@@ -1,4 +1,5 @@
 use Rattle.std.proofs.Common.{◌≡◌, ℕ, ◌*◌, ◌++◌, List, [], ◌∷◌, length, sym, ap, subst, ◌∙◌}
+use Rattle.std.specs.Prelude.{IsPermutation}
 use Rattle.qc_model.specs.declared.events.Event.TheVariants as event
 use Rattle.qc_model.specs.declared.events.How.TheVariants as how
 use Rattle.qc_turn.specs.declared.task.Task.TheVariants as task
@@ -27,6 +28,9 @@ pub returns-clause-adds : goal.returns-clause-adds
 returns-clause-adds c =
     subst (λ (q : ℕ × Parts). AddsFill q.0 c.args.serial c.args.key c.args.tables c.args.taken.first c.args.taken.text q.1 c.put_in-place.new.held.value)
     (λ i. (number_is c.args.held.now c.store_text.new.held c.store_text.ensures.same i, c.store_text.ensures.value i)) c.put_in-place.ensures.adds
+
+pub returns-clause-blocks : goal.returns-clause-blocks
+returns-clause-blocks c = subst (λ (x : Parts). IsPermutation c.put_in-place.new.held.value.dir.tables (c.args.hand.fresh ++ x.dir.tables)) c.store_text.ensures.value c.put_in-place.ensures.blocks
 
 pub returns-clause-events : goal.returns-clause-events
 returns-clause-events c = c.put_in-place.ensures.events ∙ ap (λ (x : Parts). x.journal.events ++ event.Run c.args.who (how.Start c.args.serial c.args.key c.args.tables) ∷ []) c.store_text.ensures.value

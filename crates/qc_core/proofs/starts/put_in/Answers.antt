@@ -1,7 +1,9 @@
-use Rattle.std.proofs.Common.{ℕ, List, sym, ap, subst, ◌∙◌}
+use Rattle.std.proofs.Common.{ℕ, List, ◌++◌, sym, ap, subst, ◌∙◌}
+use Rattle.std.specs.Prelude.{IsPermutation}
 use Rattle.qc_model.specs.declared.events.Event.TheVariants as event
 use Rattle.qc_model.specs.declared.events.How.TheVariants as how
 use Rattle.qc_chain.specs.Chains.{Ranged}
+use Rattle.qc_dir.specs.declared.tables.TableBlock.{TableBlock}
 use Rattle.qc_core.specs.declared.parts.Parts.{Parts}
 use Rattle.qc_core.specs.Whole.{with_event}
 use Rattle.qc_core.specs.Adds.{MayAdd, IsAdded}
@@ -29,6 +31,14 @@ returns-clause-adds c =
     let a = subst (λ (q : ℕ × List ℕ × Parts). IsAdded q.0 c.args.serial q.1 c.args.hand c.args.taken q.2 new) (λ i. (c.number-seat.ensures i, c.bytes.ensures i, (c.value-2.ensures.value ∙ c.value.ensures.value) i)) c.add_entry.ensures.added in
     let is = c.push.ensures.pushed ∙ ap (with_event (event.Run c.args.who (how.Start c.args.serial c.args.key c.args.tables))) c.value-3.ensures.value in
     put_adds c.args.who c.args.serial c.args.key c.args.tables c.args.hand c.args.taken h c.requires new c.push.new.self c.add_entry.new.ranges a is
+
+pub returns-clause-blocks : goal.returns-clause-blocks
+returns-clause-blocks c =
+    let h = c.args.held.now in
+    let new = c.add_entry.new.self in
+    let a = subst (λ (q : ℕ × List ℕ × Parts). IsAdded q.0 c.args.serial q.1 c.args.hand c.args.taken q.2 new) (λ i. (c.number-seat.ensures i, c.bytes.ensures i, (c.value-2.ensures.value ∙ c.value.ensures.value) i)) c.add_entry.ensures.added in
+    let is = c.push.ensures.pushed ∙ ap (with_event (event.Run c.args.who (how.Start c.args.serial c.args.key c.args.tables))) c.value-3.ensures.value in
+    subst (λ (ts : List TableBlock). IsPermutation ts (c.args.hand.fresh ++ h.value.dir.tables)) (sym (ap (λ (x : Parts). x.dir.tables) is)) a.dir.tables
 
 pub returns-clause-listed : goal.returns-clause-listed
 returns-clause-listed c =
