@@ -38,12 +38,14 @@ fn run<R: Threads + Wait + Sync>(
     Ok((ended, out))
 }
 
-/// The first line of a report that isn't the wanted one.
+/// The number of the first line of a report that isn't the wanted one.
 fn difference(alloc: Global, found: &[u8], wanted: &str) -> Result<String, AllocError> {
     let found = String::from_utf8_lossy(alloc, found)?;
+    let mut number = 0usize;
     for (line, wanted) in found.lines().zip(wanted.lines()) {
+        number = number.wrapping_add(1);
         if line != wanted {
-            return format!(in alloc; "is  {line}\nnot {wanted}");
+            return format!(in alloc; "line {number} is another");
         }
     }
     let lines = found.lines().count();
