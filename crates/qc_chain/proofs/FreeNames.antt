@@ -1,90 +1,131 @@
--- Free names in the order of their numbers.
-use Rattle.std.proofs.Common.{◌≡◌, ℕ, ◌+◌, ◌<◌, ◌≤◌, true, false, List, [], ◌∷◌, ◌++◌, length, set, replicate, refl, sym, ap, ◌∙◌, arith, zero, suc, Option, Some, None}
-use Rattle.std.specs.Prelude.{Contains, slice_get}
-use Rattle.std.specs.List.{AllByRecursion}
-use Rattle.std.proofs.lemmas.Bool.Decides.{nat_tests}
-use Rattle.std.proofs.lemmas.Option.{same_Some, none-some}
-use Rattle.qc_index.specs.declared.keys.Keyed.{Keyed}
-use Rattle.qc_index.specs.Keys.{key_before, is_before}
-use Rattle.qc_index.specs.Ordered.{inserted, first_from, without_first_from}
-use Rattle.qc_index.proofs.Orders.{inserted-last}
+-- The names that no chain has, each once in a list.
+use Rattle.std.proofs.Common.{◌≡◌, ◌≢◌, ℕ, zero, suc, ◌+◌, ◌<◌, ◌≤◌, Bool, true, false, List, [], ◌∷◌, ◌++◌, length, set, get_or, refl, sym, ap, ◌∙◌, inl, inr, Option, Some, None, ◌==◌, arith}
+use Rattle.std.specs.Prelude.{slice_get, Contains}
+use Rattle.std.proofs.lemmas.Option.{slice_get_within}
+use Rattle.std.proofs.lemmas.Bool.{eq-eqb, ne_eqb, cases_eq}
+use Rattle.qc_index.specs.Counts.{bit, count}
+use Rattle.qc_index.proofs.Counting.{total-append, few}
 use Rattle.qc_chain.specs.declared.names.Extent.{Extent}
-use Rattle.qc_chain.specs.declared.members.FreeName.{FreeName}
-use Rattle.qc_chain.specs.Stored.{key_of, free_from}
-use Rattle.qc_chain.proofs.Keys.{none_before_least}
+use Rattle.qc_chain.specs.Stored.{is_empty, is_free}
+use Rattle.qc_chain.proofs.BlockSteps.{all-counted}
 
-abbrev pub name : ℕ → Keyed FreeName
-name n = record { key = key_of n 0; value = record { number = n } }
+pub got_same : {X : Type 0} (xs : List X) (n : ℕ) (v : X) → n < length xs → slice_get (set xs n v) n ≡ Some v
+got_same [] n v h = absurd (omega (arith, h))
+got_same (x ∷ xs) zero v h = refl
+got_same (x ∷ xs) (suc n) v h = got_same xs n v (omega (arith, h))
 
-later : (n m : ℕ) → n ≤ m → key_before (key_of m 0) (key_of n 0) ≡ false
-later n m h = grind (arith, nat_tests)
+pub got_other : {X : Type 0} (xs : List X) (n m : ℕ) (v : X) → (m ≡ n → ⊥) → slice_get (set xs n v) m ≡ slice_get xs m
+got_other [] n m v h = refl
+got_other (x ∷ xs) zero zero v h = absurd (h refl)
+got_other (x ∷ xs) zero (suc m) v h = refl
+got_other (x ∷ xs) (suc n) zero v h = refl
+got_other (x ∷ xs) (suc n) (suc m) v h = got_other xs n m v (λ e. h (ap suc e))
 
-sooner : (n m : ℕ) → n < m → key_before (key_of n 0) (key_of m 0) ≡ true
-sooner n m h = grind (arith, nat_tests)
+-- the list has each free name once, and no other number
+abbrev pub AreNames : List (Option Extent) → List ℕ → Type 0
+AreNames es free = (n : ℕ) → count n free ≡ bit (is_free n es)
 
--- ---- the first free name
+free_slot : (o : Option (Option Extent)) → is_empty o ≡ true → o ≡ Some None
+free_slot None h = absurd (cc h)
+free_slot (Some None) h = refl
+free_slot (Some (Some e)) h = absurd (cc h)
 
--- a name that was free, by its index
-pub record IsTaken (k : ℕ) (es : List (Option Extent)) (e : Extent) (x : Keyed FreeName) (j : ℕ) : Type 0 where
-  pub number : x.value.number ≡ k + j
-  pub free : slice_get es j ≡ Some None
-  pub within : j < length es
-  pub left : without_first_from (key_of 0 0) (free_from k es) ≡ free_from k (set es j (Some e))
+yes : (b : Bool) → 0 < bit b → b ≡ true
+yes true h = refl
+yes false h = absurd (omega (arith, h))
 
-pub taken : (k : ℕ) (es : List (Option Extent)) (e : Extent) (x : Keyed FreeName) → first_from (key_of 0 0) (free_from k es) ≡ Some x → (j : ℕ) × IsTaken k es e x j
-taken k [] e x h = absurd (none-some x h)
-taken k (None ∷ es) e x h =
-    let front : is_before (key_of 0 0) (name k) ≡ false = none_before_least (key_of k 0) in
-    let same : name k ≡ x = same_Some (name k) x (rw front at h) in
-    let none : k + 0 ≡ k = omega arith in
-    (0, record { number = rw none (ap (λ (y : Keyed FreeName). y.value.number) (sym same)); free = refl; within = omega arith; left = rw front refl })
-taken k (Some g ∷ es) e x h =
-    let (j, rest) = taken (k + 1) es e x h in
-    (suc j, record { number = omega (arith, rest.number); free = rest.free; within = omega (arith, rest.within); left = rest.left })
+at_most_one : (b : Bool) → bit b ≤ 1
+at_most_one true = omega arith
+at_most_one false = omega arith
 
-pub any_free : (k : ℕ) (es : List (Option Extent)) → Contains es None → first_from (key_of 0 0) (free_from k es) ≡ None → ⊥
-any_free k [] (i, within, same) h = omega arith
-any_free k (None ∷ es) has h = let front : is_before (key_of 0 0) (name k) ≡ false = none_before_least (key_of k 0) in absurd (cc (rw front at h))
-any_free k (Some g ∷ es) (zero, within, same) h = absurd (cc same)
-any_free k (Some g ∷ es) (suc i, within, same) h = any_free (k + 1) es (i, omega arith, same) h
+pub name-there : (es : List (Option Extent)) (free : List ℕ) (x : ℕ) → AreNames es free → 0 < count x free → slice_get es x ≡ Some None
+name-there es free x h some = free_slot (slice_get es x) (yes (is_free x es) (omega (arith, some, h x)))
 
--- ---- a name given back
+pub count-last : (x : ℕ) (init : List ℕ) → 0 < count x (init ++ x ∷ [])
+count-last x init = let one : bit (x == x) ≡ 1 = rw (eq-eqb x x refl) refl in omega (arith, total-append (λ y. bit (y == x)) init (x ∷ []), one)
 
-in_front : (n k : ℕ) (es : List (Option Extent)) → n < k → inserted (name n) (free_from k es) ≡ name n ∷ free_from k es
-in_front n k [] h = refl
-in_front n k (None ∷ es) h = rw (later n k (omega arith)) refl
-in_front n k (Some g ∷ es) h = in_front n (k + 1) es (omega arith)
+-- a name is taken from the end
+pub names-fewer : (es : List (Option Extent)) (init : List ℕ) (x : ℕ) (e : Extent) → AreNames es (init ++ x ∷ []) → AreNames (set es x (Some e)) init
+names-fewer es init x e h n =
+    let there = name-there es (init ++ x ∷ []) x h (count-last x init) in
+    let sum = total-append (λ y. bit (y == n)) init (x ∷ []) in
+    elim (cases_eq n x) [
+      | inl same ↦ (let one : bit (x == x) ≡ 1 = rw (eq-eqb x x refl) refl in
+          let was : bit (is_free x es) ≡ 1 = rw there refl in
+          let now : bit (is_free x (set es x (Some e))) ≡ 0 = rw (got_same es x (Some e) (slice_get_within es x None there)) refl in
+          rw same (omega (arith, h x, total-append (λ y. bit (y == x)) init (x ∷ []), one, was, now)))
+      | inr other ↦ (let none : bit (x == n) ≡ 0 = rw (ne_eqb x n (λ q. other (sym q))) refl in rw (got_other es x n (Some e) other) (omega (arith, sum, h n, none)))
+    ]
 
-pub given : (k n m : ℕ) (es : List (Option Extent)) (e : Extent) → m ≡ k + n → slice_get es n ≡ Some (Some e) → inserted (name m) (free_from k es) ≡ free_from k (set es n None)
-given k n m [] e is h = absurd (cc h)
-given k zero m (None ∷ es) e is h = absurd (cc h)
-given k zero m (Some g ∷ es) e is h = let same : m ≡ k = omega arith in rw same (in_front k (k + 1) es (omega arith))
-given k (suc n) m (None ∷ es) e is h = rw (sooner k m (omega arith)) (ap (λ xs. name k ∷ xs) (given (k + 1) n m es e (omega arith) h))
-given k (suc n) m (Some g ∷ es) e is h = given (k + 1) n m es e (omega arith) h
+-- it is put there again
+pub names-more : (es : List (Option Extent)) (free : List ℕ) (x : ℕ) (e : Extent) → AreNames es free → slice_get es x ≡ Some (Some e) → AreNames (set es x None) (free ++ x ∷ [])
+names-more es free x e h there n =
+    let sum = total-append (λ y. bit (y == n)) free (x ∷ []) in
+    elim (cases_eq n x) [
+      | inl same ↦ (let one : bit (x == x) ≡ 1 = rw (eq-eqb x x refl) refl in
+          let was : bit (is_free x es) ≡ 0 = rw there refl in
+          let now : bit (is_free x (set es x None)) ≡ 1 = rw (got_same es x None (slice_get_within es x (Some e) there)) refl in
+          rw same (omega (arith, h x, total-append (λ y. bit (y == x)) free (x ∷ []), one, was, now)))
+      | inr other ↦ (let none : bit (x == n) ≡ 0 = rw (ne_eqb x n (λ q. other (sym q))) refl in rw (got_other es x n None other) (omega (arith, sum, h n, none)))
+    ]
 
-pub length-free : (k : ℕ) (es : List (Option Extent)) → length (free_from k es) ≤ length es
-length-free k [] = omega arith
-length-free k (None ∷ es) = omega (arith, length-free (k + 1) es)
-length-free k (Some g ∷ es) = omega (arith, length-free (k + 1) es)
+-- a chain that was begun gets another extent
+pub names-still : (es : List (Option Extent)) (free : List ℕ) (x : ℕ) (e g : Extent) → AreNames es free → slice_get es x ≡ Some (Some e) → AreNames (set es x (Some g)) free
+names-still es free x e g h there n =
+    elim (cases_eq n x) [
+      | inl same ↦ rw (same, got_same es x (Some g) (slice_get_within es x (Some e) there)) (h x ∙ rw there refl)
+      | inr other ↦ rw (got_other es x n (Some g) other) (h n)
+    ]
 
-pub fewer_free : (k n : ℕ) (es : List (Option Extent)) (e : Extent) → slice_get es n ≡ Some (Some e) → length (free_from k es) < length es
-fewer_free k n [] e h = absurd (cc h)
-fewer_free k zero (None ∷ es) e h = absurd (cc h)
-fewer_free k zero (Some g ∷ es) e h = omega (arith, length-free (k + 1) es)
-fewer_free k (suc n) (None ∷ es) e h = omega (arith, fewer_free (k + 1) n es e h)
-fewer_free k (suc n) (Some g ∷ es) e h = omega (arith, fewer_free (k + 1) n es e h)
+-- there are no more free names than numbers
+pub names-fit : (es : List (Option Extent)) (free : List ℕ) → AreNames es free → length free ≤ length es
+names-fit es free h = few (length es) free (λ n. omega (arith, h n, at_most_one (is_free n es))) (all-counted (λ n. n < length es) free (λ n some. slice_get_within es n None (name-there es free n h some)))
+
+-- ---- whether one is free
+
+got_none : (es : List (Option Extent)) (i : ℕ) → i < length es → get_or es i None ≡ None → slice_get es i ≡ Some None
+got_none [] i h e = absurd (omega (arith, h))
+got_none (x ∷ es) zero h e = ap (λ o. Some o) e
+got_none (x ∷ es) (suc i) h e = got_none es i (omega (arith, h)) e
+
+pub some-free : (es : List (Option Extent)) (free : List ℕ) → AreNames es free → Contains es None → free ≡ [] → ⊥
+some-free es free h (i, within, none) empty =
+    let one : bit (is_free i es) ≡ 1 = rw (got_none es i within none) refl in
+    omega (arith, h i, ap (count i) empty, one)
+
+pub none-left : (free : List ℕ) → length free ≡ 0 → free ≡ []
+none-left [] h = refl
+none-left (x ∷ xs) h = absurd (omega (arith, h))
+
+pub first-free : (es : List (Option Extent)) (x : ℕ) (xs : List ℕ) → AreNames es (x ∷ xs) → slice_get es x ≡ Some None
+first-free es x xs h = name-there es (x ∷ xs) x h (let one : bit (x == x) ≡ 1 = rw (eq-eqb x x refl) refl in omega (arith, one))
 
 -- ---- all names free
 
-before_all : (k n m : ℕ) → k + n ≤ m → AllByRecursion (λ y. is_before (key_of m 0) y ≡ true) (free_from k (replicate n None))
-before_all k zero m h = tt
-before_all k (suc n) m h = (sooner k m (omega arith), before_all (k + 1) n m (omega arith))
+pub names-all : (n : ℕ) (es : List (Option Extent)) (free : List ℕ) → AreNames es free → length es ≡ n → AreNames (es ++ None ∷ []) (free ++ n ∷ [])
+names-all n es free h long m =
+    let sum = total-append (λ y. bit (y == m)) free (n ∷ []) in
+    elim (cases_eq m n) [
+      | inl same ↦ (let one : bit (n == n) ≡ 1 = rw (eq-eqb n n refl) refl in
+          let was : bit (is_free n es) ≡ 0 = rw (out es n (omega (arith, long))) refl in
+          let now : bit (is_free n (es ++ None ∷ [])) ≡ 1 = rw (there es n long) refl in
+          rw same (omega (arith, h n, total-append (λ y. bit (y == n)) free (n ∷ []), one, was, now)))
+      | inr other ↦ (let none : bit (n == m) ≡ 0 = rw (ne_eqb n m (λ q. other (sym q))) refl in rw (beside es m (λ q. other (q ∙ long))) (omega (arith, sum, h m, none)))
+    ]
+  where
+    out : (xs : List (Option Extent)) (k : ℕ) → length xs ≤ k → slice_get xs k ≡ None
+    out [] k low = refl
+    out (x ∷ xs) zero low = absurd (omega (arith, low))
+    out (x ∷ xs) (suc k) low = out xs k (omega (arith, low))
 
-free_more : (k n m : ℕ) → m ≡ k + n → free_from k (replicate n None) ++ name m ∷ [] ≡ free_from k (replicate (suc n) None)
-free_more k zero m h = let same : m ≡ k = omega arith in rw same refl
-free_more k (suc n) m h = ap (λ xs. name k ∷ xs) (free_more (k + 1) n m (omega arith))
+    there : (xs : List (Option Extent)) (k : ℕ) → length xs ≡ k → slice_get (xs ++ None ∷ []) k ≡ Some None
+    there [] zero is = refl
+    there [] (suc k) is = absurd (omega (arith, is))
+    there (x ∷ xs) zero is = absurd (omega (arith, is))
+    there (x ∷ xs) (suc k) is = there xs k (omega (arith, is))
 
-pub one_more_free : (n : ℕ) → inserted (name n) (free_from 0 (replicate n None)) ≡ free_from 0 (replicate (n + 1) None)
-one_more_free n =
-    let e : n + 1 ≡ suc n = omega arith in
-    rw e (inserted-last (name n) (free_from 0 (replicate n None)) (before_all 0 n n (omega arith)) ∙ free_more 0 n n (omega arith))
+    beside : (xs : List (Option Extent)) (k : ℕ) → k ≢ length xs → slice_get (xs ++ None ∷ []) k ≡ slice_get xs k
+    beside [] zero ne = absurd (ne refl)
+    beside [] (suc k) ne = refl
+    beside (x ∷ xs) zero ne = refl
+    beside (x ∷ xs) (suc k) ne = beside xs k (λ q. ne (ap suc q))

@@ -10,7 +10,6 @@ use Rattle.qc_tiles.specs.Kept.{tile_at}
 use Rattle.qc_tiles.proofs.Tilings.{tiling_words}
 use Rattle.qc_tiles.proofs.Standing.{in_hand, same_index}
 use Rattle.qc_chain.specs.Chains.{AreHandedOut}
-use Rattle.qc_chain.specs.Stored.{NoneAt, IsAloneFirst}
 
 -- ---- the blocks that are handed out
 
@@ -109,18 +108,6 @@ rest_handed_out words ts b bs tiling h = record { each = others_stay words ts b 
 -- a tiling told by the words of another one
 pub told_by : (words : ℕ) (ts us : List Tile) → IsTiling words ts → IsTiling (region_words ts) us → IsTiling words us
 told_by words ts us h k = subst (λ (n : ℕ). IsTiling n us) (sym (tiling_words words ts h)) k
-
-none_else : (words : ℕ) (ts : List Tile) (b : Block) (bs : List Block) → IsTiling words ts → Contains (handed_out ts) b → (Contains bs b → ⊥) → AllByRecursion (Contains (handed_out ts)) bs → NoneAt b.first bs
-none_else words ts b [] tiling here once h = tt
-none_else words ts b (c ∷ bs) tiling here once h = (
-  λ same. once (rw (same_place words ts b c tiling here h.0 (sym same)) (in_first c bs)),
-  none_else words ts b bs tiling here (λ later. once (behind b c bs later)) h.1,
-)
-
--- of blocks that are handed out no other one stands where the first one does
-pub alone_first : (words : ℕ) (ts : List Tile) (bs : List Block) → IsTiling words ts → AreHandedOut ts bs → IsAloneFirst bs
-alone_first words ts [] tiling h = tt
-alone_first words ts (b ∷ bs) tiling h = none_else words ts b bs tiling h.each.0 h.once.0 h.each.1
 
 pub first_handed_out : (ts : List Tile) (bs : List Block) (b : Block) → AreHandedOut ts bs → slice_get bs 0 ≡ Some b → Contains (handed_out ts) b
 first_handed_out ts [] b h first = absurd (cc first)

@@ -1,5 +1,6 @@
 pub mod Words
 pub mod Chains
 pub mod Ends
-pub mod Pieces
+pub mod Views
+pub mod Listed
 pub mod Stored

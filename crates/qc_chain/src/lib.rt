@@ -1,11 +1,11 @@
 //! Chains of blocks: the memory of a result that is larger than one block, or that is still being made.
 #![tactic(auto)]
 
+mod block_lists;
 mod chains;
-mod members;
 mod names;
 mod ranges;
-mod tables;
+mod walks;
 
 pub use chains::Chains;
 pub use names::{ChainName, Extent, Spot};

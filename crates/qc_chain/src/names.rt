@@ -1,7 +1,5 @@
 //! Names of chains, places in the region, and what a chain has.
 
-use qc_tiles::Block;
-
 /// Names a chain.
 #[derive(Clone, Copy, Debug, PartialEq, Eq)]
 pub struct ChainName {
@@ -27,11 +25,4 @@ pub struct Extent {
     pub words: u32,
     /// Its byte length.
     pub bytes: u32,
-}
-
-/// A block with the number of the chain that it is in.
-#[derive(Clone, Copy, Debug, PartialEq, Eq)]
-pub(crate) struct Piece {
-    pub(crate) chain: u32,
-    pub(crate) block: Block,
 }

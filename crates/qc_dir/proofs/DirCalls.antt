@@ -1,9 +1,7 @@
 -- What the directory's indexes answer.
-use Rattle.std.proofs.Common.{◌≡◌, ℕ, ◌+◌, ◌-◌, ◌<◌, ◌≤◌, true, false, cond, nat_lt, ◌&&◌, List, [], ◌∷◌, ◌++◌, map, length, refl, sym, ap, ◌∙◌, subst, Option, Some, None, ◌==◌, arith}
-use Rattle.std.specs.List.{AllByRecursion, list_any, find, filter}
-use Rattle.std.specs.List.Sorted.{IsPermutation}
+use Rattle.std.proofs.Common.{◌≡◌, ℕ, ◌+◌, ◌<◌, ◌≤◌, true, false, cond, nat_lt, ◌&&◌, List, [], ◌∷◌, map, refl, sym, ap, ◌∙◌, subst, Option, Some, None, ◌==◌, arith}
+use Rattle.std.specs.List.{AllByRecursion, list_any, find}
 use Rattle.std.specs.Option.{IsSomeAnd, MatchOption}
-use Rattle.std.proofs.lemmas.List.Sorted.{IsPermutation-refl, IsPermutation-cons, IsPermutation-trans, IsPermutation-sym, IsPermutation-middle}
 use Rattle.std.proofs.lemmas.Option.{none-some, same_Some}
 use Rattle.std.proofs.lemmas.Bool.Decides.{nat_tests}
 use Rattle.std.proofs.lemmas.Bool.{eq-eqb, ne_eqb, eqb-true, lt-ltb, ltb-true}
@@ -15,62 +13,20 @@ use Rattle.qc_index.specs.declared.keys.Key.{Key}
 use Rattle.qc_dir.specs.declared.entries.Entry.{Entry}
 use Rattle.qc_dir.specs.declared.tables.TableBlock.{TableBlock}
 use Rattle.qc_tiles.specs.Tiles.{moved}
-use Rattle.qc_dir.specs.Directory.{Directory, has_serial, has_hash, entry_at, serials_under, changed, names_table, moved_entry, moved_table, after_shift}
-use Rattle.qc_dir.specs.Keys.{Keys, total, bit, times, same_key, IsAnyUnder}
+use Rattle.qc_dir.specs.Directory.{Directory, has_serial, entry_at, changed, names_table, moved_entry, moved_table, after_shift}
+use Rattle.qc_dir.specs.Keys.{Keys, total, bit, times, IsAnyUnder}
 use Rattle.qc_dir.specs.Slots.{Numbered, IsInOrder, has_number, is_of, number_of, numbered_at, moved_numbered}
-use Rattle.qc_dir.specs.Uses.{placed_text}
-use Rattle.qc_dir.specs.Indexed.{IsDir, hash_key, text_key, numbered_as, numbers_in, entry_times, holding, naming, texts_at}
-use Rattle.qc_dir.proofs.KeyCounts.{same_itself, same_both}
+use Rattle.qc_dir.specs.Uses.{placed_text, texts_at}
+use Rattle.qc_dir.specs.Indexed.{IsDir, numbered_as, numbers_in, entry_times, holding, naming}
 use Rattle.qc_dir.proofs.Names.{same_is, same_itself as same_name}
 use Rattle.qc_dir.proofs.SlotSteps.{each_counted}
 use Rattle.qc_dir.proofs.SlotCalls.{found_at}
-use Rattle.qc_dir.proofs.Totals.{total-map, total-append}
-use Rattle.qc_dir.proofs.EntryTotals.{entry-serial, total-changed, total-changed_one, any-total, some_any, any_some, some_one, bit_true, total-same, total-le}
+use Rattle.qc_dir.proofs.Totals.{total-map}
+use Rattle.qc_dir.proofs.EntryTotals.{only_entry, total-changed_one, any-total, some_any, any_some, some_one, bit_true, total-same}
 use Rattle.qc_dir.proofs.DirSteps.{tables_in, numbered_as-is, number_none, held_counts}
 
 abbrev numbered_key : ℕ → ℕ → Key
 numbered_key major n = record { major = major; minor = n }
-
--- ---- the serials under a hash
-
-abbrev occurs : ℕ → List ℕ → ℕ
-occurs n ns = total (λ m. bit (m == n)) ns
-
-occurs-cut : (n : ℕ) (ns : List ℕ) → 0 < occurs n ns → (low : List ℕ) × (high : List ℕ) × (ns ≡ low ++ n ∷ high)
-occurs-cut n [] h = absurd (omega (arith, h))
-occurs-cut n (m ∷ ms) h =
-    elim (m == n) as (λ v. (m == n) ≡ v → 0 < bit v + occurs n ms → (low : List ℕ) × (high : List ℕ) × (m ∷ ms ≡ low ++ n ∷ high)) [
-      | true ↦ λ e k. let same : m ≡ n = grind (arith, nat_tests) in ([], ms, ap (λ x. x ∷ ms) same)
-      | false ↦ λ e k. later (occurs-cut n ms (omega (arith, k)))
-    ] refl h
-  where
-    later : ((low : List ℕ) × (high : List ℕ) × (ms ≡ low ++ n ∷ high)) → (low : List ℕ) × (high : List ℕ) × (m ∷ ms ≡ low ++ n ∷ high)
-    later cut = (m ∷ cut.0, cut.1, ap (λ xs. m ∷ xs) cut.2)
-
-permutation_from_occurs : (xs ys : List ℕ) → ((n : ℕ) → occurs n xs ≡ occurs n ys) → IsPermutation xs ys
-permutation_from_occurs [] [] same = IsPermutation-refl []
-permutation_from_occurs [] (y ∷ ys) same = absurd (omega (arith, same y, ap bit (eq-eqb y y refl)))
-permutation_from_occurs (x ∷ xs) ys same =
-    let cut = occurs-cut x ys (omega (arith, same x, ap bit (eq-eqb x x refl))) in
-    let rest = permutation_from_occurs xs (cut.0 ++ cut.1) (λ n. omega (arith, same n, ap (λ zs. occurs n zs) cut.2, total-append (λ m. bit (m == n)) cut.0 (x ∷ cut.1), total-append (λ m. bit (m == n)) cut.0 cut.1)) in
-    rw cut.2 (IsPermutation-trans (x ∷ xs) (x ∷ (cut.0 ++ cut.1)) (cut.0 ++ x ∷ cut.1) (IsPermutation-cons x xs (cut.0 ++ cut.1) rest) (IsPermutation-sym (cut.0 ++ x ∷ cut.1) (x ∷ (cut.0 ++ cut.1)) (IsPermutation-middle cut.0 x cut.1)))
-
-occurs-serials : (h n : ℕ) (es : List Entry) → occurs n (serials_under h es) ≡ total (λ e. bit (same_key (numbered_key h n) (hash_key e))) es
-occurs-serials h n [] = refl
-occurs-serials h n (e ∷ es) =
-    elim (has_hash h e) as (λ v. has_hash h e ≡ v → occurs n (map (λ (x : Entry). x.serial) (cond v (e ∷ filter (has_hash h) es) (filter (has_hash h) es))) ≡ bit (same_key (numbered_key h n) (hash_key e)) + total (λ x. bit (same_key (numbered_key h n) (hash_key x))) es) [
-      | true ↦ λ p. omega (arith, occurs-serials h n es, ap bit (same p))
-      | false ↦ λ p. rw (other p) (omega (arith, occurs-serials h n es))
-    ] refl
-  where
-    same : has_hash h e ≡ true → (e.serial == n) ≡ same_key (numbered_key h n) (hash_key e)
-    same p = grind (arith, nat_tests)
-
-    other : has_hash h e ≡ false → same_key (numbered_key h n) (hash_key e) ≡ false
-    other p = grind (arith, nat_tests)
-
-pub candidates-are : (h : ℕ) (serials : List ℕ) (keys : Keys) (es : List Entry) → ((n : ℕ) → occurs n serials ≡ times (numbered_key h n) keys.keys) → ((k : Key) → times k keys.keys ≡ total (λ e. bit (same_key k (hash_key e))) es) → IsPermutation serials (serials_under h es)
-candidates-are h serials keys es given stands = permutation_from_occurs serials (serials_under h es) (λ n. given n ∙ (stands (numbered_key h n) ∙ sym (occurs-serials h n es)))
 
 -- ---- entries on a table
 
@@ -82,15 +38,15 @@ entry_one t n held e once is h =
     rw (eq-eqb e.serial e.serial refl) (omega (arith, u.2 (λ v. numbered_as n v held), one))
 
 -- a table that has a number stands with that, since an entry names it
-pub named_stands : (t : TableName) (n : ℕ) (es : List Entry) (room : ℕ) (held : List Numbered) (hashes named texts : Keys) → IsDir es room held hashes named texts → number_of t held ≡ Some n → (s : ℕ) × (0 < times (numbered_key n s) named.keys)
-named_stands t n es room held hashes named texts d is =
+pub named_stands : (t : TableName) (n : ℕ) (es : List Entry) (room : ℕ) (held : List Numbered) (named : Keys) → IsDir es room held named → number_of t held ≡ Some n → (s : ℕ) × (0 < times (numbered_key n s) named.keys)
+named_stands t n es room held named d is =
     let some : 0 < naming t es = ltb-true 0 (naming t es) (d.blocks t ∙ lt-ltb 0 (holding t held) (held_counts t n held is)) in
     let e = some_one (λ e. bit (names_table t e)) es some in
     let one = entry_one t n held e.0 (d.once t) is (bit_true (names_table t e.0) e.1) in
     (e.0.serial, omega (arith, d.by_name (numbered_key n e.0.serial), e.2 (λ x. entry_times (numbered_key n e.0.serial) held x), one))
 
-pub not_named : (t : TableName) (es : List Entry) (room : ℕ) (held : List Numbered) (hashes named texts : Keys) → IsDir es room held hashes named texts → None ≡ number_of t held → list_any (names_table t) es ≡ false
-not_named t es room held hashes named texts d is = any-total (names_table t) es ∙ (d.blocks t ∙ ap (λ n. nat_lt 0 n) (number_none t held (sym is)))
+pub not_named : (t : TableName) (es : List Entry) (room : ℕ) (held : List Numbered) (named : Keys) → IsDir es room held named → None ≡ number_of t held → list_any (names_table t) es ≡ false
+not_named t es room held named d is = any-total (names_table t) es ∙ (d.blocks t ∙ ap (λ n. nat_lt 0 n) (number_none t held (sym is)))
 
 none_numbered : (n : ℕ) (u : TableName) (hs : List Numbered) → AllByRecursion (λ h. n < h.number) hs → numbered_as n u hs ≡ 0
 none_numbered n u [] all = refl
@@ -133,62 +89,22 @@ entry_names t n s held e rising is some =
         let one : bit (same_table t u.0) ≡ 1 = subst (λ v. bit (same_table t v) ≡ 1) same (ap bit (same_name t)) in
         some_any (same_table t) e.tables (omega (arith, u.2 (λ v. bit (same_table t v)), one))
 
--- the only entry with a serial is the one that counts
-only_entry : (k : Key) (held : List Numbered) (es : List Entry) → ((n : ℕ) → total (λ e. bit (has_serial n e)) es ≤ 1) → 0 < total (λ e. entry_times k held e) es → (e : Entry) × (entry_at k.minor es ≡ Some e) × (0 < entry_times k held e)
-only_entry k held [] once h = absurd (omega (arith, h))
-only_entry k held (x ∷ xs) once h =
-    elim (has_serial k.minor x) as (λ v. has_serial k.minor x ≡ v → (e : Entry) × (cond v (Some x) (entry_at k.minor xs) ≡ Some e) × (0 < entry_times k held e)) [
-      | true ↦ λ p. (x, refl, omega (arith, h, none xs (omega (arith, rw p at (once k.minor)))))
-      | false ↦ λ p. only_entry k held xs (λ n. omega (arith, once n)) (omega (arith, rw p at h))
-    ] refl
-  where
-    none : (ys : List Entry) → total (λ e. bit (has_serial k.minor e)) ys ≡ 0 → total (λ e. entry_times k held e) ys ≡ 0
-    none [] q = refl
-    none (y ∷ ys) q =
-        elim (has_serial k.minor y) as (λ v. bit v + total (λ e. bit (has_serial k.minor e)) ys ≡ 0 → cond v (numbers_in k.major held y.tables) 0 + total (λ e. entry_times k held e) ys ≡ 0) [
-          | true ↦ λ r. absurd (omega (arith, r))
-          | false ↦ λ r. omega (arith, none ys (omega (arith, r)))
-        ] q
-
-pub names_it : (t : TableName) (n : ℕ) (k : Key) (es : List Entry) (room : ℕ) (held : List Numbered) (hashes named texts : Keys) → IsDir es room held hashes named texts → IsInOrder held → number_of t held ≡ Some n → k.major ≡ n → 0 < times k named.keys → IsSomeAnd (entry_at k.minor es) (λ e. names_table t e ≡ true)
-names_it t n k es room held hashes named texts d rising is same some =
-    let e = only_entry k held es d.serials (omega (arith, some, d.by_name k)) in
+pub names_it : (t : TableName) (n : ℕ) (k : Key) (es : List Entry) (room : ℕ) (held : List Numbered) (named : Keys) → IsDir es room held named → IsInOrder held → number_of t held ≡ Some n → k.major ≡ n → 0 < times k named.keys → IsSomeAnd (entry_at k.minor es) (λ e. names_table t e ≡ true)
+names_it t n k es room held named d rising is same some =
+    let e = only_entry k.minor (λ e. entry_times k held e) es d.serials (λ e other. rw other refl) (omega (arith, some, d.by_name k)) in
     rw e.1 (entry_names t n k.minor held e.0 rising is (rw (← same) e.2))
 
 -- an entry that stands with the number of the table
-pub on_table : (t : TableName) (n : ℕ) (es : List Entry) (room : ℕ) (held : List Numbered) (hashes named texts : Keys) (o : Option ℕ) → IsDir es room held hashes named texts → IsInOrder held → number_of t held ≡ Some n → IsAnyUnder n named.keys o
+pub on_table : (t : TableName) (n : ℕ) (es : List Entry) (room : ℕ) (held : List Numbered) (named : Keys) (o : Option ℕ) → IsDir es room held named → IsInOrder held → number_of t held ≡ Some n → IsAnyUnder n named.keys o
     → MatchOption o (list_any (names_table t) es ≡ false) (λ s. IsSomeAnd (entry_at s es) (λ e. names_table t e ≡ true))
-on_table t n es room held hashes named texts None d rising is none = let stands = named_stands t n es room held hashes named texts d is in absurd (omega (arith, none stands.0, stands.1))
-on_table t n es room held hashes named texts (Some s) d rising is some = names_it t n (numbered_key n s) es room held hashes named texts d rising is refl some
+on_table t n es room held named None d rising is none = let stands = named_stands t n es room held named d is in absurd (omega (arith, none stands.0, stands.1))
+on_table t n es room held named (Some s) d rising is some = names_it t n (numbered_key n s) es room held named d rising is refl some
 
 -- ---- texts at a place
 
-pub none_text : (place : ℕ) (texts : Keys) (es : List Entry) → ((k : Key) → times k texts.keys ≡ total (λ e. bit (same_key k (text_key e))) es) → ((n : ℕ) → times (numbered_key place n) texts.keys ≡ 0) → texts_at place es ≡ 0
-none_text place texts es stands empty = none es (each_counted (λ e. e.text.first ≡ place → ⊥) es (λ e counts same.
-    let one : bit (same_key (numbered_key place e.serial) (text_key e)) ≡ 1 = rw (← same, same_itself (text_key e)) refl in
-    omega (arith, stands (numbered_key place e.serial), counts (λ x. bit (same_key (numbered_key place e.serial) (text_key x))), one, empty e.serial)))
-  where
-    none : (xs : List Entry) → AllByRecursion (λ e. e.text.first ≡ place → ⊥) xs → texts_at place xs ≡ 0
-    none [] all = refl
-    none (x ∷ xs) all = let test : (x.text.first == place) ≡ false = ne_eqb x.text.first place all.0 in rw test (omega (arith, none xs all.1))
-
--- the entry of a key with its serial
-pub entry_of : (f : Entry → Key) (k : Key) (es : List Entry) → ((e : Entry) → (f e).minor ≡ e.serial) → ((n : ℕ) → total (λ e. bit (has_serial n e)) es ≤ 1) → 0 < total (λ e. bit (same_key k (f e))) es → (e : Entry) × (entry_at k.minor es ≡ Some e) × (f e ≡ k)
-entry_of f k [] own once h = absurd (omega (arith, h))
-entry_of f k (x ∷ xs) own once h =
-    elim (has_serial k.minor x) as (λ v. has_serial k.minor x ≡ v → (e : Entry) × (cond v (Some x) (entry_at k.minor xs) ≡ Some e) × (f e ≡ k)) [
-      | true ↦ λ p. (x, refl, sym (same_both k (f x) (bit_true (same_key k (f x)) (omega (arith, h, none xs (omega (arith, rw p at (once k.minor))))))))
-      | false ↦ λ p. entry_of f k xs own (λ n. omega (arith, once n)) (omega (arith, h, rw p at (lower x)))
-    ] refl
-  where
-    lower : (y : Entry) → bit (same_key k (f y)) ≤ bit (has_serial k.minor y)
-    lower y = by (f y) (own y)
-      where
-        by : (j : Key) → j.minor ≡ y.serial → bit (same_key k j) ≤ bit (has_serial k.minor y)
-        by j e = rw (← e) (grind (arith, nat_tests))
-
-    none : (ys : List Entry) → total (λ e. bit (has_serial k.minor e)) ys ≡ 0 → total (λ e. bit (same_key k (f e))) ys ≡ 0
-    none ys q = omega (arith, q, total-le (λ e. bit (same_key k (f e))) (λ e. bit (has_serial k.minor e)) ys lower)
+pub some-entry : (P : Entry → Type 0) (o : Option Entry) → IsSomeAnd o P → (e : Entry) × (o ≡ Some e) × P e
+some-entry P None h = absurd h
+some-entry P (Some e) h = (e, refl, h)
 
 pub text_same : (change : Move) (e : Entry) → e.text.first ≡ change.from → (change.from ≡ change.to → ⊥) → moved_entry change (placed_text change.to e) ≡ moved_entry change e
 text_same change e is other =
@@ -197,34 +113,13 @@ text_same change e is other =
 pub text_counts : (change : Move) (es : List Entry) (n : ℕ) (e : Entry) → ((m : ℕ) → total (λ x. bit (has_serial m x)) es ≤ 1) → entry_at n es ≡ Some e → e.text.first ≡ change.from → (change.from ≡ change.to → ⊥) → texts_at change.from (changed n (placed_text change.to) es) + 1 ≡ texts_at change.from es
 text_counts change es n e once at is other = omega (arith, total-changed_one (λ x. bit (x.text.first == change.from)) (placed_text change.to) n es e once at, ap bit (eq-eqb e.text.first change.from is), ap bit (ne_eqb change.to change.from (λ q. other (sym q))))
 
-pub texts-placed : (n first : ℕ) (es : List Entry) (e : Entry) (room room' : ℕ) (held : List Numbered) (hashes named texts between texts' : Keys) → IsDir es room held hashes named texts → entry_at n es ≡ Some e → room' ≡ room
-    → ((k : Key) → times k between.keys + bit (same_key k (text_key e)) ≡ times k texts.keys) → between.room ≡ texts.room + 1
-    → ((k : Key) → times k texts'.keys ≡ times k between.keys + bit (same_key k (numbered_key first n))) → texts'.room + 1 ≡ between.room
-    → IsDir (changed n (placed_text first) es) room' held hashes named texts'
-texts-placed n first es e room room' held hashes named texts between texts' d at rooms one one_room two two_room = record {
-  serials = λ m. rw (total-changed (λ x. bit (has_serial m x)) (placed_text first) n es (λ x. refl)) (d.serials m);
-  once = d.once;
-  few = total-changed (λ x. bit (nat_lt 8 (length x.tables))) (placed_text first) n es (λ x. refl) ∙ d.few;
-  blocks = λ t. rw (total-changed (λ x. bit (names_table t x)) (placed_text first) n es (λ x. refl)) (d.blocks t);
-  by_hash = λ k. d.by_hash k ∙ sym (total-changed (λ x. bit (same_key k (hash_key x))) (placed_text first) n es (λ x. refl));
-  by_text = λ k. omega (arith, one k, rw (← entry-serial n es e at) at (two k), d.by_text k, total-changed_one (λ x. bit (same_key k (text_key x))) (placed_text first) n es e d.serials at);
-  by_name = λ k. d.by_name k ∙ sym (total-changed (λ x. entry_times k held x) (placed_text first) n es (λ x. refl));
-  hash_room = omega (arith, d.hash_room, rooms);
-  text_room = omega (arith, d.text_room, rooms, one_room, two_room);
-  name_room = omega (arith, d.name_room, rooms, total-changed (λ x. 8 - length x.tables) (placed_text first) n es (λ x. refl));
-}
-
-pub moved_dir : (change : Move) (es : List Entry) (room : ℕ) (held new : List Numbered) (hashes named texts : Keys) → IsDir es room held hashes named texts → new ≡ map (moved_numbered change) held → IsDir es room new hashes named texts
-moved_dir change es room held new hashes named texts d is = rw is (record {
+pub moved_dir : (change : Move) (es : List Entry) (room : ℕ) (held new : List Numbered) (named : Keys) → IsDir es room held named → new ≡ map (moved_numbered change) held → IsDir es room new named
+moved_dir change es room held new named d is = rw is (record {
   serials = d.serials;
   once = λ t. rw (total-map (λ h. bit (is_of t h)) (moved_numbered change) held) (d.once t);
   few = d.few;
   blocks = λ t. rw (total-map (λ h. bit (is_of t h)) (moved_numbered change) held) (d.blocks t);
-  by_hash = d.by_hash;
-  by_text = d.by_text;
   by_name = λ k. d.by_name k ∙ total-same (λ e. entry_times k held e) (λ e. entry_times k (map (moved_numbered change) held) e) es (each_counted (λ e. entry_times k held e ≡ entry_times k (map (moved_numbered change) held) e) es (λ e counts. same_times k e));
-  hash_room = d.hash_room;
-  text_room = d.text_room;
   name_room = d.name_room;
 })
   where

@@ -7,12 +7,13 @@ use Rattle.std.proofs.lemmas.Bool.Decides.{nat_tests}
 use Rattle.std.proofs.lemmas.Bool.{eq-eqb}
 use Rattle.qc_types.specs.declared.names.TableName.{TableName}
 use Rattle.qc_sql.specs.Database.{same_table}
+use Rattle.qc_tiles.specs.declared.blocks.Block.{Block}
 use Rattle.qc_dir.specs.declared.entries.Entry.{Entry}
 use Rattle.qc_dir.specs.declared.tables.TableBlock.{TableBlock}
 use Rattle.qc_dir.specs.Directory.{IsDirectory, AreApart, has_serial, is_block_of, names_table}
-use Rattle.qc_dir.specs.Keys.{Keys, total, bit, same_key}
+use Rattle.qc_dir.specs.Keys.{Keys, total, bit}
 use Rattle.qc_dir.specs.Slots.{Numbered, has_number, is_of, number_of}
-use Rattle.qc_dir.specs.Indexed.{IsDir, hash_key, text_key, numbered_as, entry_times, holding}
+use Rattle.qc_dir.specs.Indexed.{IsDir, numbered_as, entry_times, holding}
 use Rattle.qc_dir.proofs.Names.{same_itself as same_name}
 use Rattle.qc_dir.proofs.Totals.{total-map}
 use Rattle.qc_dir.proofs.EntryTotals.{any-total, none_any, total-le}
@@ -42,8 +43,8 @@ few_tables (x ∷ xs) h =
 abbrev pub tables_in : List Numbered → List TableBlock
 tables_in held = map (λ h. h.table) held
 
-pub directory : (es : List Entry) (room table_room : ℕ) (held : List Numbered) (hashes named texts : Keys) → IsDir es room held hashes named texts → IsDirectory (record { entries = es; tables = tables_in held; room = room; table_room = table_room })
-directory es room table_room held hashes named texts d = record {
+pub directory : (es : List Entry) (room table_room : ℕ) (held : List Numbered) (named : Keys) → IsDir es room held named → IsDirectory (record { entries = es; tables = tables_in held; room = room; table_room = table_room })
+directory es room table_room held named d = record {
   serials = apart_serials es d.serials;
   once = apart_tables (tables_in held) (λ t. rw (total-map (λ b. bit (is_block_of t b)) (λ (h : Numbered). h.table) held) (d.once t));
   few = few_tables es d.few;
@@ -52,22 +53,18 @@ directory es room table_room held hashes named texts d = record {
 
 -- ---- changes that the indexes don't see
 
--- the same entries, but for their order, their users and whether they are complete
+-- the same entries, but for their order, the blocks of their texts, their users and whether they are complete
 abbrev pub AreSameBut : List Entry → List Entry → Type 0
-AreSameBut old new = (w : Entry → ℕ) → ((e : Entry) (b : Bool) (u : ℕ) → w (record e { complete = b; users = u }) ≡ w e) → total w new ≡ total w old
+AreSameBut old new = (w : Entry → ℕ) → ((e : Entry) (t : Block) (b : Bool) (u : ℕ) → w (record e { text = t; complete = b; users = u }) ≡ w e) → total w new ≡ total w old
 
-pub still : (es new : List Entry) (room room' : ℕ) (held : List Numbered) (hashes named texts : Keys) → IsDir es room held hashes named texts → AreSameBut es new → room' ≡ room → IsDir new room' held hashes named texts
-still es new room room' held hashes named texts d same rooms = record {
-  serials = λ n. rw (same (λ e. bit (has_serial n e)) (λ e b u. refl)) (d.serials n);
+pub still : (es new : List Entry) (room room' : ℕ) (held : List Numbered) (named : Keys) → IsDir es room held named → AreSameBut es new → room' ≡ room → IsDir new room' held named
+still es new room room' held named d same rooms = record {
+  serials = λ n. rw (same (λ e. bit (has_serial n e)) (λ e t b u. refl)) (d.serials n);
   once = d.once;
-  few = same (λ e. bit (nat_lt 8 (length e.tables))) (λ e b u. refl) ∙ d.few;
-  blocks = λ t. rw (same (λ e. bit (names_table t e)) (λ e b u. refl)) (d.blocks t);
-  by_hash = λ k. d.by_hash k ∙ sym (same (λ e. bit (same_key k (hash_key e))) (λ e b u. refl));
-  by_text = λ k. d.by_text k ∙ sym (same (λ e. bit (same_key k (text_key e))) (λ e b u. refl));
-  by_name = λ k. d.by_name k ∙ sym (same (λ e. entry_times k held e) (λ e b u. refl));
-  hash_room = omega (arith, d.hash_room, rooms);
-  text_room = omega (arith, d.text_room, rooms);
-  name_room = omega (arith, d.name_room, rooms, same (λ e. 8 - length e.tables) (λ e b u. refl));
+  few = same (λ e. bit (nat_lt 8 (length e.tables))) (λ e t b u. refl) ∙ d.few;
+  blocks = λ t. rw (same (λ e. bit (names_table t e)) (λ e t b u. refl)) (d.blocks t);
+  by_name = λ k. d.by_name k ∙ sym (same (λ e. entry_times k held e) (λ e t b u. refl));
+  name_room = omega (arith, d.name_room, rooms, same (λ e. 8 - length e.tables) (λ e t b u. refl));
 }
 
 -- ---- the tables' numbers

@@ -93,6 +93,23 @@ map-changed g f n (x ∷ xs) e once h same =
       | false ↦ λ p k. ap (λ ys. g x ∷ ys) (map-changed g f n xs e (λ m. omega (arith, once m)) k same)
     ] refl h
 
+-- the only entry with a serial is the one that counts, where no other does
+pub only_entry : (n : ℕ) (w : Entry → ℕ) (es : List Entry) → ((m : ℕ) → with m es ≤ 1) → ((e : Entry) → has_serial n e ≡ false → w e ≡ 0) → 0 < total w es → (e : Entry) × (entry_at n es ≡ Some e) × (0 < w e)
+only_entry n w [] once other h = absurd (omega (arith, h))
+only_entry n w (x ∷ xs) once other h =
+    elim (has_serial n x) as (λ v. has_serial n x ≡ v → (e : Entry) × (cond v (Some x) (entry_at n xs) ≡ Some e) × (0 < w e)) [
+      | true ↦ λ p. (x, refl, omega (arith, h, none xs (omega (arith, rw p at (once n)))))
+      | false ↦ λ p. only_entry n w xs (λ m. omega (arith, once m)) other (omega (arith, h, other x p))
+    ] refl
+  where
+    none : (ys : List Entry) → with n ys ≡ 0 → total w ys ≡ 0
+    none [] q = refl
+    none (y ∷ ys) q =
+        elim (has_serial n y) as (λ v. has_serial n y ≡ v → bit v + with n ys ≡ 0 → w y + total w ys ≡ 0) [
+          | true ↦ λ e r. absurd (omega (arith, r))
+          | false ↦ λ e r. omega (arith, other y e, none ys (omega (arith, r)))
+        ] refl q
+
 -- ---- tests as sums
 
 pub any-total : {X : Type 0} (p : X → Bool) (xs : List X) → list_any p xs ≡ nat_lt 0 (total (λ x. bit (p x)) xs)

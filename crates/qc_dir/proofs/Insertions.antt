@@ -14,7 +14,7 @@ use Rattle.qc_dir.specs.declared.tables.TableBlock.{TableBlock}
 use Rattle.qc_dir.specs.Directory.{AreApart, AreFresh, has_serial, entry_at, is_block_of, names_table}
 use Rattle.qc_dir.specs.Keys.{Keys, total, bit, times, same_key}
 use Rattle.qc_dir.specs.Slots.{Numbered, Tabled, has_number, is_of, number_of}
-use Rattle.qc_dir.specs.Indexed.{IsDir, AddsTables, hash_key, text_key, numbered_as, numbers_in, named_times, entry_times, holding, naming}
+use Rattle.qc_dir.specs.Indexed.{IsDir, AddsTables, numbered_as, numbers_in, named_times, entry_times, holding, naming}
 use Rattle.qc_dir.proofs.Names.{same_is, same_itself as same_name}
 use Rattle.qc_dir.proofs.SlotSteps.{each_counted, total-permutation}
 use Rattle.qc_dir.proofs.Totals.{total-map, total-append}
@@ -185,22 +185,16 @@ same_numbers k entry fresh es old new f a blocks = total-same (λ e. entry_times
           total-map (λ b. bit (is_block_of t b)) (λ (h : Numbered). h.table) a.added,
         )
 
-pub dir-inserted : (entry : Entry) (fresh : List TableBlock) (es : List Entry) (room room' : ℕ) (old new : Tabled) (hashes named texts hashes' named' texts' : Keys) → IsDir es room old.held hashes named texts → entry_at entry.serial es ≡ None → length entry.tables ≤ 8
+pub dir-inserted : (entry : Entry) (fresh : List TableBlock) (es : List Entry) (room room' : ℕ) (old new : Tabled) (named named' : Keys) → IsDir es room old.held named → entry_at entry.serial es ≡ None → length entry.tables ≤ 8
     → AreFresh entry (tables_in old.held) fresh → AddsTables fresh old new → room' + 1 ≡ room
     → ((k : Key) → times k named'.keys ≡ times k named.keys + named_times k new.held entry.serial entry.tables) → named'.room + length entry.tables ≡ named.room
-    → ((k : Key) → times k hashes'.keys ≡ times k hashes.keys + bit (same_key k (hash_key entry))) → hashes'.room + 1 ≡ hashes.room
-    → ((k : Key) → times k texts'.keys ≡ times k texts.keys + bit (same_key k (text_key entry))) → texts'.room + 1 ≡ texts.room
-    → IsDir (es ++ entry ∷ []) room' new.held hashes' named' texts'
-dir-inserted entry fresh es room room' old new hashes named texts hashes' named' texts' d none few f a rooms names name_room hash hash_room text text_room = record {
+    → IsDir (es ++ entry ∷ []) room' new.held named'
+dir-inserted entry fresh es room room' old new named named' d none few f a rooms names name_room = record {
   serials = λ n. omega (arith, total-append (λ e. bit (has_serial n e)) es (entry ∷ []), serial n);
   once = λ t. once_after t entry fresh old new f a (d.once t);
   few = omega (arith, total-append (λ e. bit (nat_lt 8 (length e.tables))) es (entry ∷ []), d.few, ap bit (le-ltb 8 (length entry.tables) few));
   blocks = λ t. blocks_after t entry fresh es old new f a (d.blocks t);
-  by_hash = λ k. omega (arith, total-append (λ e. bit (same_key k (hash_key e))) es (entry ∷ []), d.by_hash k, hash k);
-  by_text = λ k. omega (arith, total-append (λ e. bit (same_key k (text_key e))) es (entry ∷ []), d.by_text k, text k);
   by_name = λ k. omega (arith, total-append (λ e. entry_times k new.held e) es (entry ∷ []), d.by_name k, names k, same_numbers k entry fresh es old new f a d.blocks);
-  hash_room = omega (arith, rooms, d.hash_room, hash_room);
-  text_room = omega (arith, rooms, d.text_room, text_room);
   name_room = omega (arith, rooms, d.name_room, name_room, few, total-append (λ e. 8 - length e.tables) es (entry ∷ []));
 }
   where

@@ -4,14 +4,13 @@ use Rattle.std.specs.List.{AllByRecursion, slice_get}
 use Rattle.std.specs.Option.{is_some, option_to_list, MatchOption}
 use Rattle.std.proofs.lemmas.Bool.{eq-eqb, ne_eqb}
 use Rattle.std.proofs.lemmas.Bool.Decides.{nat_tests}
-use Rattle.std.proofs.lemmas.Nat.{and_le_r}
 use Rattle.qc_index.specs.declared.keys.Key.{Key}
 use Rattle.qc_index.specs.Counts.{count}
 use Rattle.qc_index.specs.Linked.{Linked, nodes_of}
 use Rattle.qc_index.proofs.Counting.{total-append, total-set}
-use Rattle.qc_dir.specs.Filed.{in_slot, contents, IsFiled}
-use Rattle.qc_dir.specs.Keys.{total, bit, times, same_key, bucket_of, pair_of, major_home, pair_home, is_key, minor_under, minors_under, IsKeySet, IsAnyUnder}
-use Rattle.qc_dir.proofs.FiledSteps.{moved, listed-all, none-counts, filed-moved, first-home, room-moved}
+use Rattle.qc_index.specs.Filed.{in_slot, contents, IsFiled, bucket_of}
+use Rattle.qc_dir.specs.Keys.{total, bit, times, same_key, pair_of, major_home, pair_home, is_key, minor_under, minors_under, IsKeySet, IsAnyUnder}
+use Rattle.qc_index.proofs.FiledSteps.{bucket-low, bucket-some, moved, listed-all, none-counts, filed-moved, first-home, room-moved}
 
 pub same_both : (a b : Key) → same_key a b ≡ true → a ≡ b
 same_both a b h =
@@ -23,14 +22,6 @@ pub same_itself : (a : Key) → same_key a a ≡ true
 same_itself a = grind (arith, nat_tests)
 
 -- ---- the lists
-
-pub bucket-low : (mask n : ℕ) → bucket_of mask n < mask + 2
-unfolding bucket_of
-bucket-low mask n = omega (arith, and_le_r (n * 11400714819323198485 % 2 ^ 64 / 2 ^ 32) mask)
-
-pub bucket-some : (mask n : ℕ) → bucket_of mask n ≢ 0
-unfolding bucket_of
-bucket-some mask n e = omega (arith, e)
 
 pub major-low : (mask : ℕ) (s : Option Key) → major_home mask s < mask + 2
 major-low mask None = omega arith

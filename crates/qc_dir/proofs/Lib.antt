@@ -1,8 +1,8 @@
 pub mod Apart
 pub mod DirCalls
 pub mod DirSteps
+pub mod EntrySteps
 pub mod EntryTotals
-pub mod FiledSteps
 pub mod Insertions
 pub mod KeyCounts
 pub mod Names

@@ -15,7 +15,7 @@ use Rattle.qc_dir.specs.declared.tables.TableBlock.{TableBlock}
 use Rattle.qc_dir.specs.Directory.{has_serial, entry_at, names_table, without}
 use Rattle.qc_dir.specs.Keys.{Keys, total, bit, times, same_key}
 use Rattle.qc_dir.specs.Slots.{Numbered, Tabled, IsInOrder, has_number, is_of, number_of}
-use Rattle.qc_dir.specs.Indexed.{IsDir, FreesName, hash_key, text_key, numbered_as, numbers_in, named_times, entry_times, holding, naming}
+use Rattle.qc_dir.specs.Indexed.{IsDir, FreesName, numbered_as, numbers_in, named_times, entry_times, holding, naming}
 use Rattle.qc_dir.proofs.KeyCounts.{same_itself}
 use Rattle.qc_dir.proofs.Names.{same_is, same_itself as same_name}
 use Rattle.qc_dir.proofs.SlotSteps.{each_counted, each_both, total-permutation}
@@ -40,14 +40,9 @@ pub record IsRemoving (es : List Entry) (serial : ℕ) (rest : List TableName) (
 
 -- ---- before the first name
 
-pub key_stands : (k : Key) (f : Entry → Key) (n : ℕ) (es : List Entry) (e : Entry) (keys : Keys) → ((j : Key) → times j keys.keys ≡ total (λ x. bit (same_key j (f x))) es) → entry_at n es ≡ Some e → f e ≡ k → 0 < times k keys.keys
-key_stands k f n es e keys stands at is =
-    let itself : bit (same_key k (f e)) ≡ 1 = rw (is, same_itself k) refl in
-    omega (arith, stands k, entry_counts n es e (λ x. bit (same_key k (f x))) at, itself)
-
-pub removing_none : (serial : ℕ) (es : List Entry) (e : Entry) (room : ℕ) (old : Tabled) (hashes named texts : Keys) → IsDir es room old.held hashes named texts → entry_at serial es ≡ Some e
+pub removing_none : (serial : ℕ) (es : List Entry) (e : Entry) (room : ℕ) (old : Tabled) (named : Keys) → IsDir es room old.held named → entry_at serial es ≡ Some e
     → IsRemoving (without serial es) serial e.tables old old named (8 * (room + 1) + total (λ x. 8 - length x.tables) (without serial es)) []
-removing_none serial es e room old hashes named texts d at = record {
+removing_none serial es e room old named d at = record {
   once = d.once;
   kept = λ t. sym (d.blocks t) ∙ (ap (λ n. nat_lt 0 n) (sym (less (λ x. bit (names_table t x)))) ∙ either (naming t (without serial es)) (names_table t e));
   by_name = λ k. d.by_name k ∙ (sym (less (λ x. entry_times k old.held x)) ∙ ap (λ n. total (λ x. entry_times k old.held x) (without serial es) + named_times k old.held n e.tables) (entry-serial serial es e at));
@@ -257,21 +252,15 @@ removing_next es serial n t rest (Some item) old now new named named' name_room 
 
 -- ---- behind the last name
 
-pub dir-removed : (serial : ℕ) (es : List Entry) (e : Entry) (room room' : ℕ) (old now : Tabled) (hashes named named' texts hashes' texts' : Keys) (name_room : ℕ) (freed : List TableBlock) → IsDir es room old.held hashes named texts → entry_at serial es ≡ Some e
-    → IsRemoving (without serial es) serial [] old now named' name_room freed → room' ≡ room + 1 → name_room ≡ 8 * room' + total (λ x. 8 - length x.tables) (without serial es)
-    → ((k : Key) → times k hashes'.keys + bit (same_key k (hash_key e)) ≡ times k hashes.keys) → hashes'.room ≡ hashes.room + 1
-    → ((k : Key) → times k texts'.keys + bit (same_key k (text_key e)) ≡ times k texts.keys) → texts'.room ≡ texts.room + 1
-    → IsDir (without serial es) room' now.held hashes' named' texts'
-dir-removed serial es e room room' old now hashes named named' texts hashes' texts' name_room freed d at r rooms name_rooms hash hash_room text text_room = record {
+pub dir-removed : (serial : ℕ) (es : List Entry) (e : Entry) (room room' : ℕ) (old now : Tabled) (named named' : Keys) (name_room : ℕ) (freed : List TableBlock) → IsDir es room old.held named → entry_at serial es ≡ Some e
+    → IsRemoving (without serial es) serial [] old now named' name_room freed → name_room ≡ 8 * room' + total (λ x. 8 - length x.tables) (without serial es)
+    → IsDir (without serial es) room' now.held named'
+dir-removed serial es e room room' old now named named' name_room freed d at r name_rooms = record {
   serials = λ n. omega (arith, less (λ x. bit (has_serial n x)), d.serials n);
   once = r.once;
   few = omega (arith, less (λ x. bit (nat_lt 8 (length x.tables))), d.few);
   blocks = λ t. sym (r.kept t ∙ or_false (nat_lt 0 (naming t (without serial es))));
-  by_hash = λ k. omega (arith, less (λ x. bit (same_key k (hash_key x))), d.by_hash k, hash k);
-  by_text = λ k. omega (arith, less (λ x. bit (same_key k (text_key x))), d.by_text k, text k);
   by_name = λ k. omega (arith, r.by_name k, named_times-none k serial now.held);
-  hash_room = omega (arith, rooms, d.hash_room, hash_room);
-  text_room = omega (arith, rooms, d.text_room, text_room);
   name_room = omega (arith, r.name_room, name_rooms);
 }
   where

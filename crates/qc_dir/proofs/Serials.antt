@@ -1,33 +1,38 @@
 -- The least serial under a hash.
-use Rattle.std.proofs.Common.{◌≡◌, ◌⊎◌, inl, inr, ℕ, ◌<◌, ◌≤◌, min, true, false, cond, nat_lt, List, [], ◌∷◌, refl, sym, ap, subst, Option, Some, None, ◌==◌, arith}
+use Rattle.std.proofs.Common.{◌≡◌, ◌⊎◌, inl, inr, ℕ, ◌<◌, ◌≤◌, min, Bool, true, false, cond, nat_lt, ◌&&◌, List, [], ◌∷◌, refl, ap, Option, Some, None, ◌==◌, arith}
+use Rattle.std.specs.List.Sorted.{IsPermutation}
 use Rattle.std.specs.Option.{IsSomeAnd, IfSome, MatchOption}
-use Rattle.std.proofs.lemmas.Bool.{eq-eqb, ne_eqb, ltb-false, le-ltb, cases_eq, cases_lt}
-use Rattle.qc_index.specs.declared.keys.Key.{Key}
+use Rattle.std.proofs.lemmas.Bool.{eq-eqb, eqb-true, ne_eqb, and_parts, ltb-false, le-ltb, cases_eq, cases_lt}
 use Rattle.qc_index.specs.Counts.{count}
 use Rattle.qc_dir.specs.declared.entries.Entry.{Entry}
-use Rattle.qc_dir.specs.Directory.{has_serial, entry_at}
-use Rattle.qc_dir.specs.Keys.{Keys, total, bit, times, same_key, least_from}
-use Rattle.qc_dir.specs.Indexed.{hash_key}
-use Rattle.qc_dir.proofs.DirCalls.{entry_of}
-use Rattle.qc_dir.proofs.EntryTotals.{entry-serial}
-use Rattle.qc_dir.proofs.Removals.{key_stands}
+use Rattle.qc_dir.specs.Directory.{has_serial, has_hash, entry_at, serials_under}
+use Rattle.qc_dir.specs.Keys.{bit, least_from}
+use Rattle.qc_dir.proofs.EntryTotals.{with, entry-serial, entry_counts, only_entry, bit_true}
+use Rattle.qc_dir.proofs.EntrySteps.{hashed, count-serials}
+use Rattle.qc_dir.proofs.SlotSteps.{total-permutation}
 
-abbrev pub hashed : ℕ → ℕ → Key
-hashed h n = record { major = h; minor = n }
-
--- a serial that stands under the hash is that of an entry with it
-pub hash_some : (h n : ℕ) (es : List Entry) (hashes : Keys) → ((n : ℕ) → total (λ e. bit (has_serial n e)) es ≤ 1) → ((k : Key) → times k hashes.keys ≡ total (λ e. bit (same_key k (hash_key e))) es) → 0 < times (hashed h n) hashes.keys → IsSomeAnd (entry_at n es) (λ e. e.hash ≡ h)
-hash_some h n es hashes once stands some =
-    let e = entry_of hash_key (hashed h n) es (λ e. refl) once (omega (arith, some, stands (hashed h n))) in
-    subst (λ (o : Option Entry). IsSomeAnd o (λ e. e.hash ≡ h)) (sym e.1) (ap (λ (j : Key). j.major) e.2)
+-- a serial under the hash is that of an entry with it
+hash_some : (h n : ℕ) (es : List Entry) (serials : List ℕ) → ((n : ℕ) → with n es ≤ 1) → IsPermutation serials (serials_under h es) → 0 < count n serials → IsSomeAnd (entry_at n es) (λ e. e.hash ≡ h)
+hash_some h n es serials once are some =
+    let e = only_entry n (hashed h n) es once other (omega (arith, some, total-permutation (λ m. bit (m == n)) serials (serials_under h es) are, count-serials h n es)) in
+    rw e.1 (eqb-true e.0.hash h (and_parts (has_hash h e.0) (has_serial n e.0) (bit_true (has_hash h e.0 && has_serial n e.0) e.2)).0)
+  where
+    other : (e : Entry) → has_serial n e ≡ false → hashed h n e ≡ 0
+    other e p = rw p (never (has_hash h e))
+      where
+        never : (b : Bool) → bit (b && false) ≡ 0
+        never true = refl
+        never false = refl
 
 -- and an entry with the hash stands under it
-pub some_hash : (h n : ℕ) (es : List Entry) (hashes : Keys) → ((k : Key) → times k hashes.keys ≡ total (λ e. bit (same_key k (hash_key e))) es) → IsSomeAnd (entry_at n es) (λ e. e.hash ≡ h) → 0 < times (hashed h n) hashes.keys
-some_hash h n es hashes stands there = by (entry_at n es) refl there
+some_hash : (h n : ℕ) (es : List Entry) (serials : List ℕ) → IsPermutation serials (serials_under h es) → IsSomeAnd (entry_at n es) (λ e. e.hash ≡ h) → 0 < count n serials
+some_hash h n es serials are there = by (entry_at n es) refl there
   where
-    by : (o : Option Entry) → entry_at n es ≡ o → IsSomeAnd o (λ e. e.hash ≡ h) → 0 < times (hashed h n) hashes.keys
+    by : (o : Option Entry) → entry_at n es ≡ o → IsSomeAnd o (λ e. e.hash ≡ h) → 0 < count n serials
     by None is hash = absurd hash
-    by (Some e) is hash = key_stands (hashed h n) hash_key n es e hashes stands is (λ i. record { major = hash i; minor = entry-serial n es e is i })
+    by (Some e) is hash =
+        let one : hashed h n e ≡ 1 = rw (eq-eqb e.hash h hash, eq-eqb e.serial n (entry-serial n es e is)) refl in
+        omega (arith, entry_counts n es e (hashed h n) is, one, total-permutation (λ m. bit (m == n)) serials (serials_under h es) are, count-serials h n es)
 
 -- ---- the least of those that a walk gives
 
@@ -76,11 +81,9 @@ least-more from n rest all least h = record {
         ]
 
 -- after the last one
-pub least_some : (h from : ℕ) (es : List Entry) (hashes : Keys) (rest all : List ℕ) (o : Option ℕ) → ((n : ℕ) → total (λ e. bit (has_serial n e)) es ≤ 1) → ((k : Key) → times k hashes.keys ≡ total (λ e. bit (same_key k (hash_key e))) es) → ((n : ℕ) → count n all ≡ times (hashed h n) hashes.keys)
-    → IsLeastSoFar from rest all o → IfSome o (λ n. (from ≤ n) × IsSomeAnd (entry_at n es) (λ e. e.hash ≡ h))
-least_some h from es hashes rest all None once stands given so = tt
-least_some h from es hashes rest all (Some n) once stands given so = (so.found.0, hash_some h n es hashes once stands (omega (arith, so.found.1, given n)))
+pub least_some : (h from : ℕ) (es : List Entry) (rest all : List ℕ) (o : Option ℕ) → ((n : ℕ) → with n es ≤ 1) → IsPermutation all (serials_under h es) → IsLeastSoFar from rest all o → IfSome o (λ n. (from ≤ n) × IsSomeAnd (entry_at n es) (λ e. e.hash ≡ h))
+least_some h from es rest all None once are so = tt
+least_some h from es rest all (Some n) once are so = (so.found.0, hash_some h n es all once are so.found.1)
 
-pub least_least : (h from : ℕ) (es : List Entry) (hashes : Keys) (rest all : List ℕ) (o : Option ℕ) → ((k : Key) → times k hashes.keys ≡ total (λ e. bit (same_key k (hash_key e))) es) → ((n : ℕ) → count n all ≡ times (hashed h n) hashes.keys)
-    → IsLeastSoFar from rest all o → rest ≡ [] → (n : ℕ) → from ≤ n → IsSomeAnd (entry_at n es) (λ e. e.hash ≡ h) → IsSomeAnd o (λ k. k ≤ n)
-least_least h from es hashes rest all o stands given so none n low there = so.smallest n low (omega (arith, given n, some_hash h n es hashes stands there)) (ap (count n) none)
+pub least_least : (h from : ℕ) (es : List Entry) (rest all : List ℕ) (o : Option ℕ) → IsPermutation all (serials_under h es) → IsLeastSoFar from rest all o → rest ≡ [] → (n : ℕ) → from ≤ n → IsSomeAnd (entry_at n es) (λ e. e.hash ≡ h) → IsSomeAnd o (λ k. k ≤ n)
+least_least h from es rest all o are so none n low there = so.smallest n low (some_hash h n es all are there) (ap (count n) none)

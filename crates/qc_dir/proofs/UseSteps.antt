@@ -1,20 +1,22 @@
 -- Entries in slots in the order of use: what the lists say of them, and what a change of one slot makes of both.
-use Rattle.std.proofs.Common.{◌≡◌, ◌≢◌, ℕ, zero, suc, ◌+◌, ◌-◌, ◌<◌, ◌≤◌, ◌^◌, Bool, true, false, cond, not, List, [], ◌∷◌, ◌++◌, length, set, get_or, replicate, refl, sym, ap, ◌∙◌, subst, inl, inr, Option, Some, None, ◌==◌, arith}
-use Rattle.std.specs.List.{AllByRecursion, filter, find, slice_get}
-use Rattle.std.specs.Option.{is_some, option_to_list, option_map, IsSome, IsSomeAnd}
-use Rattle.std.proofs.lemmas.List.{length-set, set-get_or, get_or_read, append-nil}
+use Rattle.std.proofs.Common.{◌≡◌, ◌≢◌, ℕ, zero, suc, ◌+◌, ◌-◌, ◌<◌, ◌≤◌, ◌^◌, Bool, true, false, cond, not, List, [], ◌∷◌, ◌++◌, length, set, replicate, refl, sym, ap, ◌∙◌, subst, inl, inr, Option, Some, None, ◌==◌, arith}
+use Rattle.std.specs.List.{filter, find, slice_get}
+use Rattle.std.specs.List.Sorted.{IsPermutation}
+use Rattle.std.specs.Option.{is_some, option_to_list, option_map, IsSome, IsSomeAnd, MatchOption}
+use Rattle.std.proofs.lemmas.List.{length-set, set-get_or, append-nil}
 use Rattle.std.proofs.lemmas.Option.{none-some, same_Some}
 use Rattle.std.proofs.lemmas.Bool.{eq-eqb, ne_eqb, eqb-true, cases_eq}
 use Rattle.qc_index.specs.Counts.{count}
 use Rattle.qc_index.specs.Linked.{Linked, nodes_of, without as without_node}
 use Rattle.qc_index.proofs.Counting.{total-set, without-none, count-without, nodes-moved}
 use Rattle.qc_dir.specs.declared.entries.Entry.{Entry}
-use Rattle.qc_dir.specs.Directory.{has_serial, entry_at, is_idle, oldest_idle, incomplete, without, changed, moved_to_end, after_touch, after_complete}
-use Rattle.qc_dir.specs.Keys.{total, bit, bucket_of}
-use Rattle.qc_dir.specs.Filed.{in_slot, in_slots, IsFiled, AreFree}
-use Rattle.qc_dir.specs.Uses.{Used, use_home, serial_home, is_entry, is_missing, IsUses}
-use Rattle.qc_dir.proofs.FiledSteps.{weight, total-in_slots, listed, listed-all, none-counts, slot-counts, in-set, in-set_other, moved, filed-moved, room-moved, first-home, filed-still, free-filed, total-alike}
-use Rattle.qc_dir.proofs.KeyCounts.{bucket-low}
+use Rattle.qc_dir.specs.declared.entry_slots.By.TheVariants.{Place}
+use Rattle.qc_dir.specs.Directory.{has_serial, entry_at, serials_under, is_idle, oldest_idle, incomplete, without, changed, moved_to_end, after_touch, after_complete}
+use Rattle.qc_dir.specs.Keys.{total, bit}
+use Rattle.qc_index.specs.Filed.{in_slot, in_slots, contents, IsFiled, AreFree}
+use Rattle.qc_dir.specs.Uses.{Used, use_home, is_entry, is_numbered, is_missing, texts_at, IsUses}
+use Rattle.qc_index.proofs.FiledSteps.{weight, total-contents, total-in_slots, listed, listed-all, slot-counts, in-set, in-set_other, moved, filed-moved, room-moved, first-home, filed-still, free-filed, total-alike, slots-append, slots-set}
+use Rattle.qc_dir.proofs.EntrySteps.{hashed, under-same}
 use Rattle.qc_dir.proofs.EntryTotals.{with, none-counts as none-counted}
 
 abbrev pub used : List (Option Entry) → Linked → List Entry
@@ -101,20 +103,6 @@ pub is-some_and : (P : Entry → Type 0) (o : Option Entry) → IsSomeAnd o P �
 is-some_and P None h e = h
 is-some_and P (Some x) h e = cc e
 
--- no slot of a serial's list has it
-pub none-found : (n : ℕ) (slots : List (Option Entry)) (by_serial : Linked) (mask : ℕ) → IsFiled (serial_home mask) (mask + 2) slots by_serial → AllByRecursion (λ i. is_entry n (in_slot i slots) ≡ false) (nodes_of (bucket_of mask n) by_serial.lists) → total (λ s. bit (is_entry n s)) slots ≡ 0
-none-found n slots by_serial mask h none =
-    sym (listed-all (serial_home mask) (mask + 2) (λ s. bit (is_entry n s)) slots by_serial (bucket_of mask n) h (bucket-low mask n) only)
-    ∙ none-counts (is_entry n) slots (nodes_of (bucket_of mask n) by_serial.lists) none
-  where
-    only : (s : Option Entry) → serial_home mask s ≢ bucket_of mask n → bit (is_entry n s) ≡ 0
-    only None ne = refl
-    only (Some e) ne =
-        elim (has_serial n e) as (λ v. has_serial n e ≡ v → bit v ≡ 0) [
-          | true ↦ λ p. absurd (ne (ap (bucket_of mask) (eqb-true e.serial n p)))
-          | false ↦ λ p. refl
-        ] refl
-
 node-counts : (u : ℕ → ℕ) (i : ℕ) (ns : List ℕ) → 0 < count i ns → u i ≤ total u ns
 node-counts u i [] h = absurd (omega (arith, h))
 node-counts u i (m ∷ ms) h =
@@ -152,8 +140,8 @@ pub record IsSlotOf (n i : ℕ) (slots : List (Option Entry)) (order : Linked) (
   pub stands : count i (nodes_of 1 order.lists) ≡ 1
   pub others : AreOthers n i slots (nodes_of 1 order.lists)
 
-pub slot-found : (n i : ℕ) (slots : List (Option Entry)) (order by_serial : Linked) (mask all missing : ℕ) → IsUses slots order by_serial mask all missing → i < length slots → is_entry n (in_slot i slots) ≡ true → (e : Entry) × IsSlotOf n i slots order e
-slot-found n i slots order by_serial mask all missing h low is = by (in_slot i slots) refl is
+pub slot-found : (n i : ℕ) (slots : List (Option Entry)) (order : Linked) (all missing : ℕ) → IsUses slots order all missing → i < length slots → is_entry n (in_slot i slots) ≡ true → (e : Entry) × IsSlotOf n i slots order e
+slot-found n i slots order all missing h low is = by (in_slot i slots) refl is
   where
     by : (s : Option Entry) → in_slot i slots ≡ s → is_entry n s ≡ true → (e : Entry) × IsSlotOf n i slots order e
     by None e p = absurd (cc p)
@@ -200,22 +188,6 @@ pub entry-some : (n i : ℕ) (slots : List (Option Entry)) (order : Linked) (e :
 entry-some n i slots order e h = entry-there n i slots (nodes_of 1 order.lists) e h.others (omega (arith, h.stands)) h.holds h.serial
 
 -- ---- what a change makes of the entries
-
-slots-append : (slots : List (Option Entry)) (ns ms : List ℕ) → in_slots slots (ns ++ ms) ≡ in_slots slots ns ++ in_slots slots ms
-slots-append slots [] ms = refl
-slots-append slots (n ∷ ns) ms = ap (λ es. option_to_list (in_slot n slots) ++ es) (slots-append slots ns ms) ∙ sym (by (in_slot n slots))
-  where
-    by : (s : Option Entry) → (option_to_list s ++ in_slots slots ns) ++ in_slots slots ms ≡ option_to_list s ++ (in_slots slots ns ++ in_slots slots ms)
-    by None = refl
-    by (Some e) = refl
-
-slots-set : (slots : List (Option Entry)) (i : ℕ) (v : Option Entry) (ns : List ℕ) → count i ns ≡ 0 → in_slots (set slots i v) ns ≡ in_slots slots ns
-slots-set slots i v [] h = refl
-slots-set slots i v (n ∷ ns) h =
-    elim (cases_eq n i) [
-      | inl same ↦ (let one : bit (n == i) ≡ 1 = rw (eq-eqb n i same) refl in absurd (omega (arith, h, one)))
-      | inr ne ↦ rw (in-set_other slots i n v ne) (ap (λ es. option_to_list (in_slot n slots) ++ es) (slots-set slots i v ns (omega (arith, h))))
-    ]
 
 slots-without : (n i : ℕ) (slots : List (Option Entry)) (ns : List ℕ) (e : Entry) → AreOthers n i slots ns → in_slot i slots ≡ Some e → e.serial ≡ n → in_slots slots (without_node i ns) ≡ without n (in_slots slots ns)
 slots-without n i slots [] e others holds is = refl
@@ -279,14 +251,13 @@ used-inserted i slots order order' e h low free is =
 
 -- ---- what stays true
 
-pub uses-changed : (i : ℕ) (v : Option Entry) (slots : List (Option Entry)) (order order' by_serial by_serial' : Linked) (mask all all' missing missing' : ℕ) → IsUses slots order by_serial mask all missing → i < length slots
-    → IsFiled use_home 2 (set slots i v) order' → IsFiled (serial_home mask) (mask + 2) (set slots i v) by_serial'
+pub uses-changed : (i : ℕ) (v : Option Entry) (slots : List (Option Entry)) (order order' : Linked) (all all' missing missing' : ℕ) → IsUses slots order all missing → i < length slots
+    → IsFiled use_home 2 (set slots i v) order'
     → ((n : ℕ) → total (λ s. bit (is_entry n s)) slots + bit (is_entry n v) ≤ 1 + bit (is_entry n (in_slot i slots)))
     → all' + bit (is_some (in_slot i slots)) ≡ all + bit (is_some v) → missing' + bit (is_missing (in_slot i slots)) ≡ missing + bit (is_missing v)
-    → IsUses (set slots i v) order' by_serial' mask all' missing'
-uses-changed i v slots order order' by_serial by_serial' mask all all' missing missing' h low ordered serial once counts misses = record {
+    → IsUses (set slots i v) order' all' missing'
+uses-changed i v slots order order' all all' missing missing' h low ordered once counts misses = record {
   ordered = ordered;
-  by_serial = serial;
   once = λ n. omega (arith, once n, total-set (λ s. bit (is_entry n s)) slots i v None low);
   all = omega (arith, counts, h.all, total-set (λ s. bit (is_some s)) slots i v None low);
   missing = omega (arith, misses, h.missing, total-set (λ s. bit (is_missing s)) slots i v None low);
@@ -294,20 +265,18 @@ uses-changed i v slots order order' by_serial by_serial' mask all all' missing m
 }
 
 -- one entry is changed where it stands, or moved too
-pub uses-kept : (f : Entry → Entry) (n i : ℕ) (slots : List (Option Entry)) (order order' by_serial : Linked) (mask all missing missing' : ℕ) (e : Entry) → IsUses slots order by_serial mask all missing → IsSlotOf n i slots order e → (f e).serial ≡ e.serial
+pub uses-kept : (f : Entry → Entry) (n i : ℕ) (slots : List (Option Entry)) (order order' : Linked) (all missing missing' : ℕ) (e : Entry) → IsUses slots order all missing → IsSlotOf n i slots order e → (f e).serial ≡ e.serial
     → IsFiled use_home 2 (set slots i (Some (f e))) order' → missing' + bit (not e.complete) ≡ missing + bit (not (f e).complete)
-    → IsUses (set slots i (Some (f e))) order' by_serial mask all missing'
-uses-kept f n i slots order order' by_serial mask all missing missing' e h at same ordered misses =
-    uses-changed i (Some (f e)) slots order order' by_serial by_serial mask all all missing missing' h at.within ordered
-    (filed-still (serial_home mask) (mask + 2) slots by_serial i (Some (f e)) h.by_serial at.within (rw (at.holds, same) refl))
+    → IsUses (set slots i (Some (f e))) order' all missing'
+uses-kept f n i slots order order' all missing missing' e h at same ordered misses =
+    uses-changed i (Some (f e)) slots order order' all all missing missing' h at.within ordered
     (λ k. rw (at.holds, same) (omega (arith, h.once k))) (rw at.holds refl) (rw at.holds misses)
 
 -- ---- none yet
 
-pub uses-free : (mask room : ℕ) (order by_serial : Linked) → AreFree 2 room order → AreFree (mask + 2) room by_serial → room ≤ 2 ^ 28 → IsUses (replicate room None) order by_serial mask 0 0
-uses-free mask room order by_serial one two low = record {
+pub uses-free : (room : ℕ) (order : Linked) → AreFree 2 room order → room ≤ 2 ^ 28 → IsUses (replicate room None) order 0 0
+uses-free room order one low = record {
   ordered = free-filed use_home 2 room order one refl homes;
-  by_serial = free-filed (serial_home mask) (mask + 2) room by_serial two refl serials;
   once = λ n. omega (arith, none (λ s. bit (is_entry n s)) refl room);
   all = sym (none (λ s. bit (is_some s)) refl room);
   missing = sym (none (λ s. bit (is_missing s)) refl room);
@@ -317,10 +286,6 @@ uses-free mask room order by_serial one two low = record {
     homes : (s : Option Entry) → use_home s < 2
     homes None = omega arith
     homes (Some e) = omega arith
-
-    serials : (s : Option Entry) → serial_home mask s < mask + 2
-    serials None = omega arith
-    serials (Some e) = bucket-low mask e.serial
 
     none : (u : Option Entry → ℕ) → u None ≡ 0 → (n : ℕ) → total u (replicate n None) ≡ 0
     none u e zero = refl
@@ -334,6 +299,35 @@ pub nodes-none : (slots : List (Option Entry)) (ns : List ℕ) → ((n : ℕ) �
 nodes-none slots [] h = refl
 nodes-none slots (n ∷ ns) h = let one : bit (n == n) ≡ 1 = rw (eq-eqb n n refl) refl in absurd (omega (arith, h n, one))
 
+-- ---- a text at a place
+
+abbrev text_weight : ℕ → Entry → ℕ
+text_weight place e = bit (e.text.first == place)
+
+-- an entry whose text stands at the place
+pub text-is : (place i : ℕ) (slots : List (Option Entry)) (order : Linked) (all missing : ℕ) (o : Option ℕ) → IsUses slots order all missing → i < length slots → is_numbered Place place (in_slot i slots) ≡ true → o ≡ option_map (λ e. e.serial) (in_slot i slots)
+    → MatchOption o (texts_at place (used slots order) ≡ 0) (λ n. IsSomeAnd (entry_at n (used slots order)) (λ e. e.text.first ≡ place))
+text-is place i slots order all missing o h low that is = rw is (by (in_slot i slots) refl that)
+  where
+    by : (s : Option Entry) → in_slot i slots ≡ s → is_numbered Place place s ≡ true → MatchOption (option_map (λ (e : Entry). e.serial) s) (texts_at place (used slots order) ≡ 0) (λ n. IsSomeAnd (entry_at n (used slots order)) (λ e. e.text.first ≡ place))
+    by None e p = absurd (cc p)
+    by (Some x) e p =
+        let at = slot-found x.serial i slots order all missing h low (ap (is_entry x.serial) e ∙ eq-eqb x.serial x.serial refl) in
+        let same : Some at.0 ≡ Some x = sym at.1.holds ∙ e in
+        subst (λ (o : Option Entry). IsSomeAnd o (λ e. e.text.first ≡ place)) (sym (entry-some x.serial i slots order at.0 at.1 ∙ same)) (eqb-true x.text.first place p)
+
+pub text-none : (place : ℕ) (slots : List (Option Entry)) (order : Linked) → IsFiled use_home 2 slots order → total (λ s. bit (is_numbered Place place s)) slots ≡ 0 → texts_at place (used slots order) ≡ 0
+text-none place slots order h none = entry-total (text_weight place) slots order h ∙ (total-alike (weight (text_weight place)) (λ s. bit (is_numbered Place place s)) slots each ∙ none)
+  where
+    each : (s : Option Entry) → weight (text_weight place) s ≡ bit (is_numbered Place place s)
+    each None = refl
+    each (Some e) = refl
+
+-- ---- the serials under a hash
+
+pub used-candidates : (h : ℕ) (slots : List (Option Entry)) (order : Linked) → IsFiled use_home 2 slots order → IsPermutation (serials_under h (contents slots)) (serials_under h (used slots order))
+used-candidates h slots order filed = under-same h (contents slots) (used slots order) (λ n. total-contents (hashed h n) slots ∙ sym (entry-total (hashed h n) slots order filed))
+
 -- ---- the oldest entry
 
 -- the first slot of the list has the first entry
@@ -344,13 +338,6 @@ first-used i slots order now h low first read = by (nodes_of 1 order.lists) firs
     by [] e s is one = absurd (none-some i e)
     by (n ∷ ns) e None is one = absurd (omega (arith, one))
     by (n ∷ ns) e (Some x) is one = let there : in_slot n slots ≡ Some x = ap (λ k. in_slot k slots) (same_Some n i e) ∙ sym is in rw there refl
-
-pub none-used : (slots : List (Option Entry)) (order : Linked) → slice_get (nodes_of 1 order.lists) 0 ≡ None → slice_get (used slots order) 0 ≡ None
-none-used slots order first = by (nodes_of 1 order.lists) first
-  where
-    by : (ns : List ℕ) → slice_get ns 0 ≡ None → slice_get (in_slots slots ns) 0 ≡ None
-    by [] e = refl
-    by (n ∷ ns) e = absurd (cc e)
 
 -- ---- the oldest idle entry
 
@@ -373,70 +360,65 @@ idle-later (Some e) es h =
 -- ---- whole calls
 
 -- this is what stands in the slots and in the lists
-pub record IsNow (slots : List (Option Entry)) (order by_serial : Linked) (mask all missing : ℕ) (u : Used) : Type 0 where
-  pub kept : IsUses slots order by_serial mask all missing
+pub record IsNow (slots : List (Option Entry)) (order : Linked) (all missing : ℕ) (u : Used) : Type 0 where
+  pub kept : IsUses slots order all missing
   pub view : record { entries = used slots order; room = length (nodes_of 0 order.lists) } ≡ u
 
--- what a slot with a serial is read to have
-pub has-entry : (n i : ℕ) (slots : List (Option Entry)) (now : Option Entry) → i < length slots → is_entry n (in_slot i slots) ≡ true → now ≡ get_or slots i now → (e : Entry) × (now ≡ Some e)
-has-entry n i slots now low that read = by (in_slot i slots) that (get_or_read slots i now low read None)
-  where
-    by : (s : Option Entry) → is_entry n s ≡ true → now ≡ s → (e : Entry) × (now ≡ Some e)
-    by None p q = absurd (cc p)
-    by (Some e) p q = (e, q)
+-- a slot with a serial has its entry
+pub entry-is : (n i : ℕ) (slots : List (Option Entry)) (order : Linked) (all missing : ℕ) (d : Used) → IsNow slots order all missing d → i < length slots → is_entry n (in_slot i slots) ≡ true → in_slot i slots ≡ entry_at n d.entries
+entry-is n i slots order all missing d h low that =
+    let at = slot-found n i slots order all missing h.kept low that in
+    at.1.holds ∙ (sym (entry-some n i slots order at.0 at.1) ∙ ap (λ (u : Used). entry_at n u.entries) h.view)
 
-pub entry-is : (n i : ℕ) (slots : List (Option Entry)) (order by_serial : Linked) (mask all missing : ℕ) (d : Used) (now : Option Entry) → IsNow slots order by_serial mask all missing d → i < length slots → is_entry n (in_slot i slots) ≡ true → now ≡ get_or slots i now → now ≡ entry_at n d.entries
-entry-is n i slots order by_serial mask all missing d now h low that read =
-    let at = slot-found n i slots order by_serial mask all missing h.kept low that in
-    get_or_read slots i now low read None ∙ (at.1.holds ∙ (sym (entry-some n i slots order at.0 at.1) ∙ ap (λ (u : Used). entry_at n u.entries) h.view))
+pub has-entry : (n : ℕ) (s : Option Entry) → is_entry n s ≡ true → (e : Entry) × (s ≡ Some e)
+has-entry n None p = absurd (cc p)
+has-entry n (Some e) p = (e, refl)
 
 -- an entry is changed where it stands
-pub altered : (f : Entry → Entry) (n i : ℕ) (slots : List (Option Entry)) (order by_serial : Linked) (mask all missing : ℕ) (d : Used) (now : Option Entry) → IsNow slots order by_serial mask all missing d → i < length slots → is_entry n (in_slot i slots) ≡ true → now ≡ get_or slots i now
-    → ((e : Entry) → (f e).serial ≡ e.serial) → ((e : Entry) → (f e).complete ≡ e.complete) → IsNow (set slots i (option_map f now)) order by_serial mask all missing (record { entries = changed n f d.entries; room = d.room })
-altered f n i slots order by_serial mask all missing d now h low that read same complete =
-    let at = slot-found n i slots order by_serial mask all missing h.kept low that in
-    rw (get_or_read slots i now low read None ∙ at.1.holds, ← h.view) (record {
-      kept = uses-kept f n i slots order order by_serial mask all missing missing at.0 h.kept at.1 (same at.0) (filed-still use_home 2 slots order i (Some (f at.0)) h.kept.ordered low (rw at.1.holds refl)) (rw (complete at.0) refl);
+pub altered : (f : Entry → Entry) (n i : ℕ) (slots : List (Option Entry)) (order : Linked) (all missing : ℕ) (d : Used) → IsNow slots order all missing d → i < length slots → is_entry n (in_slot i slots) ≡ true
+    → ((e : Entry) → (f e).serial ≡ e.serial) → ((e : Entry) → (f e).complete ≡ e.complete) → IsNow (set slots i (option_map f (in_slot i slots))) order all missing (record { entries = changed n f d.entries; room = d.room })
+altered f n i slots order all missing d h low that same complete =
+    let at = slot-found n i slots order all missing h.kept low that in
+    rw (at.1.holds, ← h.view) (record {
+      kept = uses-kept f n i slots order order all missing missing at.0 h.kept at.1 (same at.0) (filed-still use_home 2 slots order i (Some (f at.0)) h.kept.ordered low (rw at.1.holds refl)) (rw (complete at.0) refl);
       view = rw (used-changed f n i slots order at.0 at.1) refl;
     })
 
 -- an entry is changed, or not, and goes to the end
-renewed : (f : Entry → Entry) (n i : ℕ) (slots : List (Option Entry)) (order order' by_serial : Linked) (mask all missing missing' : ℕ) (d : Used) (e : Entry) → IsNow slots order by_serial mask all missing d → IsSlotOf n i slots order e → (f e).serial ≡ e.serial → missing' + bit (not e.complete) ≡ missing + bit (not (f e).complete)
-    → order' ≡ moved i 1 order → IsNow (set slots i (Some (f e))) order' by_serial mask all missing' (record { entries = moved_to_end (entry_at n d.entries) f d.entries; room = d.room })
-renewed f n i slots order order' by_serial mask all missing missing' d e h at same misses is = rw (← h.view) (record {
-  kept = uses-kept f n i slots order order' by_serial mask all missing missing' e h.kept at same (filed-moved use_home 2 slots order order' i 1 (Some (f e)) h.kept.ordered at.within refl is) misses;
+renewed : (f : Entry → Entry) (n i : ℕ) (slots : List (Option Entry)) (order order' : Linked) (all missing missing' : ℕ) (d : Used) (e : Entry) → IsNow slots order all missing d → IsSlotOf n i slots order e → (f e).serial ≡ e.serial → missing' + bit (not e.complete) ≡ missing + bit (not (f e).complete)
+    → order' ≡ moved i 1 order → IsNow (set slots i (Some (f e))) order' all missing' (record { entries = moved_to_end (entry_at n d.entries) f d.entries; room = d.room })
+renewed f n i slots order order' all missing missing' d e h at same misses is = rw (← h.view) (record {
+  kept = uses-kept f n i slots order order' all missing missing' e h.kept at same (filed-moved use_home 2 slots order order' i 1 (Some (f e)) h.kept.ordered at.within refl is) misses;
   view = let left = rw at.holds at (room-moved use_home 2 slots order order' i 1 h.kept.ordered at.within is) in
       let room : length (nodes_of 0 order'.lists) ≡ length (nodes_of 0 order.lists) = omega (arith, left) in
       rw (used-moved f n i slots order order' e at h.kept.ordered is, room) refl;
 })
 
-pub touched : (n i : ℕ) (slots : List (Option Entry)) (order order' by_serial : Linked) (mask all missing : ℕ) (d : Used) → IsNow slots order by_serial mask all missing d → i < length slots → is_entry n (in_slot i slots) ≡ true → order' ≡ moved i 1 order
-    → IsNow slots order' by_serial mask all missing (record { entries = after_touch n d.entries; room = d.room })
-touched n i slots order order' by_serial mask all missing d h low that is =
-    let at = slot-found n i slots order by_serial mask all missing h.kept low that in
+pub touched : (n i : ℕ) (slots : List (Option Entry)) (order order' : Linked) (all missing : ℕ) (d : Used) → IsNow slots order all missing d → i < length slots → is_entry n (in_slot i slots) ≡ true → order' ≡ moved i 1 order
+    → IsNow slots order' all missing (record { entries = after_touch n d.entries; room = d.room })
+touched n i slots order order' all missing d h low that is =
+    let at = slot-found n i slots order all missing h.kept low that in
     let same : set slots i (Some at.0) ≡ slots = ap (set slots i) (sym at.1.holds) ∙ set-get_or slots i None in
-    subst (λ xs. IsNow xs order' by_serial mask all missing (record { entries = after_touch n d.entries; room = d.room })) same
-    (renewed (λ x. x) n i slots order order' by_serial mask all missing missing d at.0 h at.1 refl refl is)
+    subst (λ xs. IsNow xs order' all missing (record { entries = after_touch n d.entries; room = d.room })) same
+    (renewed (λ x. x) n i slots order order' all missing missing d at.0 h at.1 refl refl is)
 
-pub missing-fits : (i : ℕ) (slots : List (Option Entry)) (order by_serial : Linked) (mask all missing : ℕ) (now : Option Entry) → IsUses slots order by_serial mask all missing → i < length slots → now ≡ get_or slots i now → bit (is_missing now) ≤ missing
-missing-fits i slots order by_serial mask all missing now h low read = omega (arith, h.missing, slot-counts (λ s. bit (is_missing s)) slots i low, ap (λ s. bit (is_missing s)) (get_or_read slots i now low read None))
+pub missing-fits : (i : ℕ) (slots : List (Option Entry)) (order : Linked) (all missing : ℕ) → IsUses slots order all missing → i < length slots → bit (is_missing (in_slot i slots)) ≤ missing
+missing-fits i slots order all missing h low = omega (arith, h.missing, slot-counts (λ s. bit (is_missing s)) slots i low)
 
-pub completed : (n i : ℕ) (slots : List (Option Entry)) (order order' by_serial : Linked) (mask all missing : ℕ) (d : Used) (one now : Option Entry) → IsNow slots order by_serial mask all missing d → i < length slots → is_entry n (in_slot i slots) ≡ true → one ≡ get_or slots i one → now ≡ get_or slots i now → order' ≡ moved i 1 order
-    → IsNow (set slots i (option_map (λ (e : Entry). record e { complete = true }) now)) order' by_serial mask all (missing - bit (is_missing one)) (record { entries = after_complete n d.entries; room = d.room })
-completed n i slots order order' by_serial mask all missing d one now h low that first read is =
-    let at = slot-found n i slots order by_serial mask all missing h.kept low that in
-    let enough = missing-fits i slots order by_serial mask all missing one h.kept low first in
-    let lost : bit (is_missing one) ≡ bit (not at.0.complete) = ap (λ s. bit (is_missing s)) (get_or_read slots i one low first None ∙ at.1.holds) in
-    rw (get_or_read slots i now low read None ∙ at.1.holds)
-    (renewed (λ (e : Entry). record e { complete = true }) n i slots order order' by_serial mask all missing (missing - bit (is_missing one)) d at.0 h at.1 refl (omega (arith, lost, enough)) is)
+pub completed : (n i : ℕ) (slots : List (Option Entry)) (order order' : Linked) (all missing : ℕ) (d : Used) → IsNow slots order all missing d → i < length slots → is_entry n (in_slot i slots) ≡ true → order' ≡ moved i 1 order
+    → IsNow (set slots i (option_map (λ (e : Entry). record e { complete = true }) (in_slot i slots))) order' all (missing - bit (is_missing (in_slot i slots))) (record { entries = after_complete n d.entries; room = d.room })
+completed n i slots order order' all missing d h low that is =
+    let at = slot-found n i slots order all missing h.kept low that in
+    let enough = rw at.1.holds at (missing-fits i slots order all missing h.kept low) in
+    rw at.1.holds
+    (renewed (λ (e : Entry). record e { complete = true }) n i slots order order' all missing (missing - bit (not at.0.complete)) d at.0 h at.1 refl (omega (arith, enough)) is)
 
 -- an entry is put in
-pub put-in : (i : ℕ) (slots : List (Option Entry)) (order order' by_serial by_serial' : Linked) (mask all missing : ℕ) (d : Used) (e : Entry) → IsNow slots order by_serial mask all missing d → i < length slots → slice_get (nodes_of 0 order.lists) 0 ≡ Some i → entry_at e.serial d.entries ≡ None
-    → order' ≡ moved i 1 order → by_serial' ≡ moved i (bucket_of mask e.serial) by_serial → IsNow (set slots i (Some e)) order' by_serial' mask (all + 1) (missing + bit (not e.complete)) (record { entries = d.entries ++ e ∷ []; room = d.room - 1 })
-put-in i slots order order' by_serial by_serial' mask all missing d e h low first none one two = rw (← h.view) (record {
-  kept = uses-changed i (Some e) slots order order' by_serial by_serial' mask all (all + 1) missing (missing + bit (not e.complete)) h.kept low
+pub put-in : (i : ℕ) (slots : List (Option Entry)) (order order' : Linked) (all missing : ℕ) (d : Used) (e : Entry) → IsNow slots order all missing d → i < length slots → slice_get (nodes_of 0 order.lists) 0 ≡ Some i → entry_at e.serial d.entries ≡ None
+    → order' ≡ moved i 1 order → IsNow (set slots i (Some e)) order' (all + 1) (missing + bit (not e.complete)) (record { entries = d.entries ++ e ∷ []; room = d.room - 1 })
+put-in i slots order order' all missing d e h low first none one = rw (← h.view) (record {
+  kept = uses-changed i (Some e) slots order order' all (all + 1) missing (missing + bit (not e.complete)) h.kept low
       (filed-moved use_home 2 slots order order' i 1 (Some e) h.kept.ordered low refl one)
-      (filed-moved (serial_home mask) (mask + 2) slots by_serial by_serial' i (bucket_of mask e.serial) (Some e) h.kept.by_serial low refl two)
       once (rw empty (omega arith)) (rw empty (omega arith));
   view = let left = rw empty at (room-moved use_home 2 slots order order' i 1 h.kept.ordered low one) in
       let room : length (nodes_of 0 order'.lists) ≡ length (nodes_of 0 order.lists) - 1 = omega (arith, left) in
@@ -458,27 +440,23 @@ put-in i slots order order' by_serial by_serial' mask all missing d e h low firs
         ] refl
 
 -- an entry is taken out
-pub taken-out : (n i : ℕ) (slots : List (Option Entry)) (order order' by_serial by_serial' : Linked) (mask all missing : ℕ) (d : Used) (now : Option Entry) (e : Entry) → IsNow slots order by_serial mask all missing d → i < length slots → is_entry n (in_slot i slots) ≡ true → now ≡ get_or slots i now → now ≡ Some e
-    → order' ≡ moved i 0 order → by_serial' ≡ moved i 0 by_serial
-    → (1 ≤ all) × (bit (not e.complete) ≤ missing) × IsNow (set slots i None) order' by_serial' mask (all - 1) (missing - bit (not e.complete)) (record { entries = without n d.entries; room = d.room + 1 })
-taken-out n i slots order order' by_serial by_serial' mask all missing d now e h low that read is one two = (
+pub taken-out : (n i : ℕ) (slots : List (Option Entry)) (order order' : Linked) (all missing : ℕ) (d : Used) (e : Entry) → IsNow slots order all missing d → i < length slots → is_entry n (in_slot i slots) ≡ true → in_slot i slots ≡ Some e
+    → order' ≡ moved i 0 order
+    → (1 ≤ all) × (bit (not e.complete) ≤ missing) × IsNow (set slots i None) order' (all - 1) (missing - bit (not e.complete)) (record { entries = without n d.entries; room = d.room + 1 })
+taken-out n i slots order order' all missing d e h low that holds one = (
   some,
   some_missing,
   rw (← h.view) (record {
-    kept = uses-changed i None slots order order' by_serial by_serial' mask all (all - 1) missing (missing - bit (not e.complete)) h.kept low
+    kept = uses-changed i None slots order order' all (all - 1) missing (missing - bit (not e.complete)) h.kept low
         (filed-moved use_home 2 slots order order' i 0 None h.kept.ordered low refl one)
-        (filed-moved (serial_home mask) (mask + 2) slots by_serial by_serial' i 0 None h.kept.by_serial low refl two)
         (λ k. omega (arith, h.kept.once k)) (rw holds (omega (arith, some))) (rw holds (omega (arith, some_missing)));
     view = let left = rw holds at (room-moved use_home 2 slots order order' i 0 h.kept.ordered low one) in
         let room : length (nodes_of 0 order'.lists) ≡ length (nodes_of 0 order.lists) + 1 = omega (arith, left) in
-        let at = slot-found n i slots order by_serial mask all missing h.kept low that in
+        let at = slot-found n i slots order all missing h.kept low that in
         rw (used-removed n i slots order order' at.0 at.1 h.kept.ordered one, room) refl;
   }),
 )
   where
-    holds : in_slot i slots ≡ Some e
-    holds = sym (get_or_read slots i now low read None) ∙ is
-
     some : 1 ≤ all
     some = omega (arith, h.kept.all, slot-counts (λ s. bit (is_some s)) slots i low, ap (λ s. bit (is_some s)) holds)
 
@@ -493,8 +471,8 @@ total-most p (x ∷ xs) = omega (arith, total-most p xs, most (p x))
     most true = omega arith
     most false = omega arith
 
-pub counts-fit : (slots : List (Option Entry)) (order by_serial : Linked) (mask all missing : ℕ) → IsUses slots order by_serial mask all missing → (all < 2 ^ 32) × (missing < 2 ^ 32)
-counts-fit slots order by_serial mask all missing h = (omega (arith, h.all, total-most is_some slots, h.few), omega (arith, h.missing, total-most is_missing slots, h.few))
+pub counts-fit : (slots : List (Option Entry)) (order : Linked) (all missing : ℕ) → IsUses slots order all missing → (all < 2 ^ 32) × (missing < 2 ^ 32)
+counts-fit slots order all missing h = (omega (arith, h.all, total-most is_some slots, h.few), omega (arith, h.missing, total-most is_missing slots, h.few))
 
 pub free-none : (slots : List (Option Entry)) (room : ℕ) (order : Linked) → AreFree 2 room order → in_slots slots (nodes_of 1 order.lists) ≡ []
 free-none slots room order free = nodes-none slots (nodes_of 1 order.lists) (λ n. free.placed 1 n (omega arith))

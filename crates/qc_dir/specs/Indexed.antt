@@ -8,14 +8,6 @@ use Rattle.qc_dir.specs.Directory.{has_serial, names_table}
 use Rattle.qc_dir.specs.Keys.{Keys, total, bit, times, same_key}
 use Rattle.qc_dir.specs.Slots.{Numbered, Tabled, IsInOrder, has_number, is_of}
 
--- the hash of an entry, with its serial
-abbrev pub hash_key : Entry → Key
-hash_key e = record { major = e.hash; minor = e.serial }
-
--- the place of its text block, with its serial
-abbrev pub text_key : Entry → Key
-text_key e = record { major = e.text.first; minor = e.serial }
-
 -- how many of the tables with a number are this one
 abbrev pub numbered_as : ℕ → TableName → List Numbered → ℕ
 numbered_as n t held = total (λ h. bit (has_number n h && is_of t h)) held
@@ -38,18 +30,14 @@ holding t held = total (λ h. bit (is_of t h)) held
 abbrev pub naming : TableName → List Entry → ℕ
 naming t entries = total (λ e. bit (names_table t e)) entries
 
--- No serial, no table and no number stands twice, an entry has eight tables at most, and a table has a block exactly where an entry names it. The sets have
--- the hashes and the text blocks of the entries and the numbers of the tables that they name, all with their serials, and room for more.
-pub record IsDir (entries : List Entry) (room : ℕ) (held : List Numbered) (hashes named texts : Keys) : Type 0 where
+-- No serial and no table stands twice, an entry has eight tables at most, and a table has a block exactly where an entry names it. The set has the numbers of
+-- the tables that the entries name, with their serials, and room for more.
+pub record IsDir (entries : List Entry) (room : ℕ) (held : List Numbered) (named : Keys) : Type 0 where
   pub serials : (n : ℕ) → total (λ e. bit (has_serial n e)) entries ≤ 1
   pub once : (t : TableName) → holding t held ≤ 1
   pub few : total (λ e. bit (nat_lt 8 (length e.tables))) entries ≡ 0
   pub blocks : (t : TableName) → nat_lt 0 (naming t entries) ≡ nat_lt 0 (holding t held)
-  pub by_hash : (k : Key) → times k hashes.keys ≡ total (λ e. bit (same_key k (hash_key e))) entries
-  pub by_text : (k : Key) → times k texts.keys ≡ total (λ e. bit (same_key k (text_key e))) entries
   pub by_name : (k : Key) → times k named.keys ≡ total (λ e. entry_times k held e) entries
-  pub hash_room : hashes.room ≡ room
-  pub text_room : texts.room ≡ room
   pub name_room : named.room ≡ 8 * room + total (λ e. 8 - length e.tables) entries
 
 -- these tables were put in, each under some number
@@ -70,7 +58,3 @@ pub record FreesName (n serial : ℕ) (freed : Option TableBlock) (old new : Tab
   pub key : (k : Key) → times k named'.keys + bit (same_key k (record { major = n; minor = serial })) ≡ times k named.keys
   pub room : named'.room ≡ named.room + 1
   pub table : FreesTable n freed old new named'
-
--- how many have their text block at a place
-abbrev pub texts_at : ℕ → List Entry → ℕ
-texts_at place entries = total (λ e. bit (e.text.first == place)) entries

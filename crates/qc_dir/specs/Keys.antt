@@ -1,8 +1,8 @@
 -- Sets of keys, by how often a key stands in them.
-use Rattle.std.specs.Prelude.{◌≡◌, ℕ, ◌+◌, ◌*◌, ◌/◌, ◌%◌, ◌<◌, ◌^◌, Bool, false, ◌&&◌, List, [], ◌∷◌, ◌++◌, Option, Some, None, MatchOption, min, nat_lt, ◌==◌, if◌then◌else◌, bit_and}
+use Rattle.std.specs.Prelude.{◌≡◌, ℕ, ◌+◌, ◌*◌, ◌%◌, ◌<◌, ◌^◌, Bool, false, ◌&&◌, List, [], ◌∷◌, ◌++◌, Option, Some, None, MatchOption, min, nat_lt, ◌==◌, if◌then◌else◌}
 use Rattle.qc_index.specs.declared.keys.Key.{Key}
 use Rattle.qc_index.specs.Linked.{Linked}
-use Rattle.qc_dir.specs.Filed.{in_slot, IsFiled}
+use Rattle.qc_index.specs.Filed.{in_slot, bucket_of, IsFiled}
 pub use Rattle.qc_index.specs.Counts.{total, bit}
 
 -- what contracts see of a set of keys: the keys in any order, and how many more there is room for
@@ -27,10 +27,6 @@ least_from from None n = if nat_lt n from then None else Some n
 least_from from (Some m) n = if nat_lt n from then Some m else Some (min m n)
 
 -- ---- where the keys stand
-
--- one of the lists from 1 on, in which a number's keys stand
-unfoldable pub bucket_of : ℕ → ℕ → ℕ
-bucket_of mask n = 1 + bit_and (n * 11400714819323198485 % 2 ^ 64 / 2 ^ 32) mask
 
 -- one number for both
 unfoldable pub pair_of : Key → ℕ

@@ -1,6 +1,5 @@
 pub mod Blocks
 pub mod Directory
-pub mod Filed
 pub mod Indexed
 pub mod Keys
 pub mod Slots

@@ -1,17 +1,19 @@
-//! Walks over the keys with the same first number.
+//! Walks over the entries under a hash.
 
-ghost use Rattle.std.specs.Prelude.{◌≡◌, ◌<◌, ◌∷◌, [], MatchOption, length, option_to_list};
+ghost use Rattle.std.specs.Prelude.{◌≡◌, ◌<◌, ◌∷◌, [], MatchOption, length};
 ghost use Rattle.std.specs.List.{AllByRecursion};
-ghost use Rattle.qc_dir.specs.Filed.{in_slot};
-ghost use Rattle.qc_dir.specs.Keys.{minor_under, minors_under};
+ghost use Rattle.qc_dir.specs.Directory.{serials_under};
+ghost use Rattle.qc_index.specs.Filed.{in_slots};
 
-use qc_index::{Key, Walk};
+use crate::entries::{Entry, serial_in};
+use crate::entry_slots::{By, next_with};
+use qc_index::Walk;
 use std::marker::Model;
 
 /// The serials of the entries under a hash that were not given yet. Contracts see their list.
 #[derive(Drop)]
 pub struct Candidates<'a> {
-    slots: &'a [Option<Key>],
+    slots: &'a [Option<Entry>],
     list: Walk<'a>,
     hash: u64,
 }
@@ -19,20 +21,21 @@ pub struct Candidates<'a> {
 impl<'a> Model for Candidates<'a> {
     ghost use Rattle.std.specs.Prelude.{ℕ, ◌<◌, List, length};
     ghost use Rattle.std.specs.List.{AllByRecursion};
-    ghost use Rattle.qc_dir.specs.Keys.{minors_under};
+    ghost use Rattle.qc_dir.specs.Directory.{serials_under};
+    ghost use Rattle.qc_index.specs.Filed.{in_slots};
 
     ghost Value = { List ℕ };
 
-    ghost view = { λ c. minors_under c.hash c.slots.now c.list };
+    ghost view = { λ c. serials_under c.hash (in_slots c.slots.now c.list) };
 
     ghost invariant = { λ c. AllByRecursion (λ n. n < length c.slots.now) c.list };
 }
 
 impl<'a> Candidates<'a> {
-    /// The second numbers of the keys with this first number, of those in the slots of a list.
-    pub(crate) fn new(slots: &'a [Option<Key>], list: Walk<'a>, hash: u64) -> Candidates<'a>
+    /// The serials of the entries under this hash, of those in the slots of a list.
+    pub(crate) fn new(slots: &'a [Option<Entry>], list: Walk<'a>, hash: u64) -> Candidates<'a>
         requires { AllByRecursion (λ n. n < length slots.now) list }
-        ensures { result ≡ minors_under hash slots.now list.entry }
+        ensures { result ≡ serials_under hash (in_slots slots.now list.entry) }
     {
         Candidates { slots, list, hash }
     }
@@ -41,29 +44,9 @@ impl<'a> Candidates<'a> {
     pub fn next(&mut self) -> Option<u64>
         ensures { MatchOption result ((self.old ≡ []) × (self.new ≡ [])) (λ n. self.old ≡ n ∷ self.new) }
     {
-        while let Some(slot) = self.list.next() {
-            let found = minor_in(self.slots, slot, self.hash);
-            if found.is_some() {
-                return found;
-            }
-        }
-        None
-    }
-}
-
-/// The second number of the key in a slot, where it has this first one.
-fn minor_in(slots: &[Option<Key>], slot: u32, major: u64) -> Option<u64>
-    requires { slot < length slots.now }
-    ensures { option_to_list result ≡ minor_under major (in_slot slot slots.now) }
-{
-    match &slots[slot as usize] {
-        Some(key) => {
-            if key.major == major {
-                Some(key.minor)
-            } else {
-                None
-            }
-        }
-        None => None,
+        let Some(slot) = next_with(self.slots, &mut self.list, By::Hash, self.hash) else {
+            return None;
+        };
+        serial_in(&self.slots[slot as usize])
     }
 }

@@ -8,7 +8,8 @@ ghost use Rattle.qc_dir.specs.Directory.{IsDirectory, entry_at, serials_under, b
 ghost use Rattle.qc_types.specs.declared.names.TableName.{TableName};
 ghost use Rattle.qc_dir.specs.Keys.{times, least_from};
 ghost use Rattle.qc_dir.specs.Slots.{number_of};
-ghost use Rattle.qc_dir.specs.Indexed.{AddsTables, FreesName, holding, named_times, texts_at};
+ghost use Rattle.qc_dir.specs.Indexed.{AddsTables, FreesName, holding, named_times};
+ghost use Rattle.qc_dir.specs.Uses.{texts_at};
 
 use crate::candidates::Candidates;
 use crate::entries::{Entry, Removed};
@@ -30,9 +31,7 @@ use std::marker::Model;
 pub struct Dir {
     entries: Uses,
     tables: TableSlots,
-    hashes: KeySet,
     named: KeySet,
-    texts: KeySet,
 }
 
 impl Model for Dir {
@@ -45,7 +44,7 @@ impl Model for Dir {
 
     ghost view = { λ d. record { entries = entries_of d.entries; tables = tables_of d.tables; room = d.entries.room; table_room = d.tables.room } };
 
-    ghost invariant = { λ d. IsDir (entries_of d.entries) d.entries.room d.tables.held d.hashes d.named d.texts };
+    ghost invariant = { λ d. IsDir (entries_of d.entries) d.entries.room d.tables.held d.named };
 }
 
 impl Dir {
@@ -57,15 +56,11 @@ impl Dir {
         let room = words / 128;
         let entries = Uses::new(alloc, room)?;
         let tables = TableSlots::new(alloc, words / 64)?;
-        let hashes = KeySet::new(alloc, room, room)?;
         let named = KeySet::new(alloc, 8 * room, room)?;
-        let texts = KeySet::new(alloc, room, room)?;
         Ok(Dir {
             entries,
             tables,
-            hashes,
             named,
-            texts,
         })
     }
 
@@ -106,7 +101,7 @@ impl Dir {
         ensures serials { IsPermutation result (serials_under hash self.now.entries) }
         ensures valid { IsDirectory self.now }
     {
-        self.hashes.under(hash)
+        self.entries.candidates(hash)
     }
 
     /// The least serial, from one on, of the entries under a hash. None exactly where there is none.
@@ -116,7 +111,7 @@ impl Dir {
         ensures valid { IsDirectory self.now }
     {
         let mut least = None;
-        let mut serials = self.hashes.under(hash);
+        let mut serials = self.entries.candidates(hash);
         while let Some(serial) = serials.next() {
             least = least_from(from, least, serial);
         }
@@ -156,8 +151,6 @@ impl Dir {
             entry.tables.items(),
             entry.serial,
         );
-        self.hashes.insert(entry.hash, entry.serial);
-        self.texts.insert(u64::from(entry.text.first), entry.serial);
         self.entries.insert(entry);
     }
 
@@ -205,14 +198,6 @@ impl Dir {
         ensures valid { IsDirectory self.new }
     {
         let entry = self.entries.remove(serial);
-        self.hashes.remove(Key {
-            major: entry.hash,
-            minor: serial,
-        });
-        self.texts.remove(Key {
-            major: u64::from(entry.text.first),
-            minor: serial,
-        });
         let mut freed = TableBlocks::new();
         for table in entry.tables.items() {
             if let Some(item) = free_table(&mut self.tables, &mut self.named, table, serial) {
@@ -271,15 +256,10 @@ impl Dir {
         ensures none { result ≡ false → texts_at change.from self.new.entries ≡ 0 }
         ensures valid { IsDirectory self.new }
     {
-        let Some(serial) = self.texts.any_under(u64::from(change.from)) else {
+        let Some(serial) = self.entries.text_at(change.from) else {
             return false;
         };
         self.entries.place(serial, change.to);
-        self.texts.remove(Key {
-            major: u64::from(change.from),
-            minor: serial,
-        });
-        self.texts.insert(u64::from(change.to), serial);
         true
     }
 }

@@ -1,8 +1,9 @@
 //! Entries.
 
-ghost use Rattle.std.specs.Prelude.{◌≡◌, not};
-ghost use Rattle.qc_dir.specs.Directory.{is_idle};
+ghost use Rattle.std.specs.Prelude.{◌≡◌, not, option_map, option_to_list};
+ghost use Rattle.qc_dir.specs.Directory.{is_idle, oldest_idle};
 ghost use Rattle.qc_dir.specs.Keys.{bit};
+ghost use Rattle.qc_dir.specs.Uses.{is_missing};
 
 use crate::tables::TableBlocks;
 use qc_chain::ChainName;
@@ -43,6 +44,42 @@ impl Entry {
         ensures { result ≡ bit (not self.now.complete) }
     {
         if self.complete { 0 } else { 1 }
+    }
+}
+
+/// 1 where the entry of a slot isn't complete.
+pub(crate) fn missing_in(slot: &Option<Entry>) -> u32
+    ensures { result ≡ bit (is_missing slot.now) }
+{
+    match slot {
+        Some(entry) => entry.missing(),
+        None => 0,
+    }
+}
+
+/// The serial of a slot's entry.
+pub(crate) fn serial_in(slot: &Option<Entry>) -> Option<u64>
+    ensures { result ≡ option_map (λ e. e.serial) slot.now }
+{
+    match slot {
+        Some(entry) => Some(entry.serial),
+        None => None,
+    }
+}
+
+/// The serial of a slot's entry, where that is idle.
+pub(crate) fn idle_in(slot: &Option<Entry>) -> Option<u64>
+    ensures { result ≡ oldest_idle (option_to_list slot.now) }
+{
+    match slot {
+        Some(entry) => {
+            if entry.is_idle() {
+                Some(entry.serial)
+            } else {
+                None
+            }
+        }
+        None => None,
     }
 }
 

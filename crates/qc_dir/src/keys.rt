@@ -3,12 +3,11 @@
 ghost use Rattle.std.specs.Prelude.{◌≡◌, ℕ, ◌+◌, ◌<◌, ◌≤◌, ◌^◌, [], false, true, Some, IfOk, MatchOption, length};
 ghost use Rattle.qc_index.specs.declared.keys.Key.{Key};
 ghost use Rattle.qc_index.specs.Counts.{count};
-ghost use Rattle.qc_dir.specs.Filed.{in_slot, contents, IsFiled};
+ghost use Rattle.qc_index.specs.Filed.{in_slot, contents, IsFiled};
 ghost use Rattle.qc_dir.specs.Keys.{times, bit, same_key, IsAnyUnder, is_key, pair_of, pair_home};
 
-use crate::candidates::Candidates;
-use crate::filed::{all_free, bucket, empty_slots, mask_for};
-use qc_index::{Key, Lists};
+use crate::minors::Minors;
+use qc_index::{Key, Lists, all_free, bucket, empty_slots, mask_for};
 use qc_types::NoMemory;
 use std::alloc::Global;
 use std::marker::Model;
@@ -29,7 +28,7 @@ pub(crate) struct KeySet {
 impl Model for KeySet {
     ghost use Rattle.std.specs.Prelude.{◌<◌, ◌^◌, length};
     ghost use Rattle.qc_index.specs.Linked.{nodes_of};
-    ghost use Rattle.qc_dir.specs.Filed.{contents};
+    ghost use Rattle.qc_index.specs.Filed.{contents};
     ghost use Rattle.qc_dir.specs.Keys.{Keys, IsKeySet};
 
     ghost Value = { Keys };
@@ -48,8 +47,8 @@ impl KeySet {
     {
         let mask = mask_for(lists);
         let slots = empty_slots(alloc, room)?;
-        let by_major = all_free(alloc, mask, room)?;
-        let by_key = all_free(alloc, mask, room)?;
+        let by_major = all_free(alloc, mask + 2, room)?;
+        let by_key = all_free(alloc, mask + 2, room)?;
         Ok(KeySet {
             slots,
             by_major,
@@ -88,11 +87,11 @@ impl KeySet {
     }
 
     /// The second numbers of the keys with this first number, in any order.
-    pub(crate) fn under(&self, major: u64) -> Candidates<'_>
+    pub(crate) fn under(&self, major: u64) -> Minors<'_>
         ensures { (n : ℕ) → count n result ≡ times (record { major = major; minor = n }) self.now.keys }
     {
         let list = self.by_major.walk(bucket(self.mask, major));
-        Candidates::new(&self.slots, list, major)
+        Minors::new(&self.slots, list, major)
     }
 
     /// The second number of a key with this first one, if any.

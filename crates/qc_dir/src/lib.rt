@@ -4,8 +4,9 @@
 mod candidates;
 mod dir;
 mod entries;
-mod filed;
+mod entry_slots;
 mod keys;
+mod minors;
 mod table_slots;
 mod tables;
 mod uses;

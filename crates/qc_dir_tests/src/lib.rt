@@ -6,8 +6,6 @@ mod chains;
 #[cfg(test)]
 mod directory;
 #[cfg(test)]
-mod index;
-#[cfg(test)]
 mod links;
 #[cfg(test)]
 mod tiles;

@@ -323,3 +323,27 @@ fn blocks_come_and_go_by_turns(rt: HostRuntime) {
     }
     same(&rt, tiles.totals(), totals(1, 1, 16_384));
 }
+
+/// Every second of many blocks goes back and is taken again, the lowest first. Then all go back.
+#[test]
+fn many_free_blocks_of_one_size(rt: HostRuntime) {
+    let mut tiles = must(&rt, Tiles::new(rt.alloc(), 262_144));
+    for at in 0..4_096u32 {
+        same(&rt, must(&rt, tiles.take(64)), block(64 * at, 64));
+    }
+    for at in 0..2_048u32 {
+        give_back(&rt, &mut tiles, block(128 * at, 64));
+    }
+    same(&rt, tiles.totals(), totals(4_096, 2_048, 131_072));
+    for at in 0..1_024u32 {
+        same(&rt, must(&rt, tiles.take(1)), block(128 * at, 64));
+    }
+    same(&rt, tiles.totals(), totals(4_096, 1_024, 65_536));
+    for at in 0..4_096u32 {
+        let block = block(64 * at, 64);
+        if tiles.is_handed_out(block) {
+            tiles.give_back(block);
+        }
+    }
+    same(&rt, tiles.totals(), totals(1, 1, 262_144));
+}

@@ -1,8 +1,4 @@
 pub mod Counting
-pub mod Halves
+pub mod FiledSteps
 pub mod Linking
-pub mod Orders
-pub mod TreeCuts
-pub mod TreeEdits
 pub mod Walks
-mod examples

@@ -2,9 +2,9 @@
 use Rattle.std.proofs.Common.{◌≡◌, ◌≢◌, ℕ, zero, suc, ◌+◌, ◌-◌, ◌<◌, ◌≤◌, true, false, cond, List, [], ◌∷◌, ◌++◌, map, drop, length, set, replicate, Some, None, ◌^◌, refl, sym, ap, ◌∙◌, subst, inl, inr, ◌==◌, arith}
 use Rattle.std.specs.List.{slice_index, slice_get}
 use Rattle.std.proofs.lemmas.List.{length-map, length-drop, length-set, length-replicate, get_or-replicate, get_or-map, get_or-drop, get_or-set_same, get_or-set_other, ext_get_or}
-use Rattle.std.proofs.lemmas.Bool.{eq-eqb, ne_eqb, cases_eq}
-use Rattle.qc_index.specs.Linked.{Linked, nodes_of, without, put_last, standing, walk, walk_end, lists_of, IsBothWays, IsLinked}
-use Rattle.qc_index.proofs.Counting.{few, standing-without, standing-without_other, standing-put, standing-le, nodes-put, nodes-without}
+use Rattle.std.proofs.lemmas.Bool.{eq-eqb, ne_eqb, cases_eq, cases_lt, lt-ltb}
+use Rattle.qc_index.specs.Linked.{Linked, nodes_of, without, IsLast, put_last, standing, walk, walk_end, lists_of, IsBothWays, IsLinked}
+use Rattle.qc_index.proofs.Counting.{few, standing-without, standing-without_other, standing-put, standing-le, nodes-put, nodes-without, nodes-moved}
 use Rattle.qc_index.proofs.Walks.{ended, step, tight, below, IsCut, cut_walk, IsJoined, join_walk}
 
 -- ---- the links of one place
@@ -386,3 +386,35 @@ last_stays next previous n x l h low high last =
         ap (λ j. set (set (unlinked next previous x) j x) x (n + l)) before
         ∙ (ap (λ j. set (set (set (set next (slice_index previous x) j) x x) (slice_index previous x) x) x (n + l)) after
         ∙ undone next (slice_index previous x) x (n + l) (h.back.within x inside) inside (h.back.back x inside) after)
+
+-- ---- the last of a list
+
+-- a walk that comes to an end comes there from a node
+reaches : (f : ℕ → ℕ) (n k y : ℕ) → y < n → n ≤ walk_end f n k y → (z : ℕ) × (z < n) × (f z ≡ walk_end f n k y)
+reaches f n zero y low e = absurd (omega (arith, low, e))
+reaches f n (suc k) y low e =
+    let t = lt-ltb y n low in
+    let rest : n ≤ walk_end f n k (f y) = rw t at e in
+    rw t
+    (elim (cases_lt (f y) n) [
+      | inl on ↦ reaches f n k (f y) on rest
+      | inr done ↦ (y, low, sym (ended f n k (f y) done).1)
+    ])
+
+pub last-some : (next previous : List ℕ) (n l : ℕ) → IsLinked next previous n → n + l < length next → slice_index previous (n + l) < n → IsLast (slice_index previous (n + l)) (nodes_of l (lists_of next n))
+last-some next previous n l h high low =
+    let x = slice_index previous (n + l) in
+    ap (nodes_of l) (last_stays next previous n x l h low high refl)
+    ∙ (nodes-moved x l l (lists_of next n) (omega (arith, high, length-lists next n)) ∙ rw (eq-eqb l l refl) refl)
+
+pub last-none : (next previous : List ℕ) (n l : ℕ) → IsLinked next previous n → n + l < length next → n ≤ slice_index previous (n + l) → nodes_of l (lists_of next n) ≡ []
+last-none next previous n l h high none =
+    list-at next n l high
+    ∙ elim (cases_lt (slice_index next (n + l)) n) [
+      | inl low ↦ (let closed = h.closed (n + l) (omega arith) high in
+          let (z, inside, to) = reaches (slice_index next) n n (slice_index next (n + l)) low (omega (arith, closed)) in
+          let back = h.forth.back z (omega (arith, inside, h.few)) in
+          let same : slice_index previous (n + l) ≡ z = ap (slice_index previous) (sym (to ∙ closed)) ∙ back in
+          absurd (omega (arith, none, same, inside)))
+      | inr end ↦ (ended (slice_index next) n n (slice_index next (n + l)) end).0
+    ]

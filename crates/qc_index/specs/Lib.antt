@@ -1,6 +1,3 @@
 pub mod Counts
-pub mod Keys
+pub mod Filed
 pub mod Linked
-pub mod Ordered
-pub mod Trees
-pub mod TreeFalls

@@ -15,6 +15,10 @@ nodes_of list lists = slice_index_or lists list []
 abbrev pub without : ℕ → List ℕ → List ℕ
 without node nodes = filter (λ x. not (x == node)) nodes
 
+-- the node stands at the end, and nowhere else in the list
+abbrev pub IsLast : ℕ → List ℕ → Type 0
+IsLast node nodes = nodes ≡ without node nodes ++ node ∷ []
+
 abbrev pub put_last : ℕ → ℕ → List (List ℕ) → List (List ℕ)
 put_last node list lists = slice_set lists list (nodes_of list lists ++ node ∷ [])
 

@@ -1,11 +1,10 @@
-//! Lists in the order of their keys, with memory for a fixed number of members that is taken once.
+//! Linked lists of numbered nodes, with memory for a fixed number of them that is taken once.
 #![tactic(auto)]
 
-mod index;
+mod filed;
 mod keys;
 mod links;
-mod tree;
 
-pub use index::Index;
-pub use keys::{Blank, Key, Keyed};
+pub use filed::{all_free, bucket, empty_slots, mask_for};
+pub use keys::Key;
 pub use links::{Lists, Walk};

@@ -2,7 +2,7 @@
 
 ghost use Rattle.std.specs.Prelude.{◌≡◌, ℕ, ◌+◌, ◌<◌, ◌≤◌, ◌^◌, [], ◌∷◌, map, length, replicate, slice_get, slice_set, slice_index, IfOk, IfSome, MatchOption};
 ghost use Rattle.std.specs.List.{AllByRecursion};
-ghost use Rattle.qc_index.specs.Linked.{nodes_of, without, moved_last, standing};
+ghost use Rattle.qc_index.specs.Linked.{nodes_of, without, moved_last, standing, IsLast};
 
 use qc_types::NoMemory;
 use std::alloc::Global;
@@ -78,6 +78,16 @@ impl Lists {
         } else {
             None
         }
+    }
+
+    /// The last node of a list, if it has any.
+    pub fn last(&self, list: u32) -> Option<u32>
+        requires { list < length self.now.lists }
+        ensures last { MatchOption result (nodes_of list self.now.lists ≡ []) (λ node. IsLast node (nodes_of list self.now.lists)) }
+        ensures below { IfSome result (λ node. node < self.now.nodes) }
+    {
+        let node = self.previous[(self.nodes + list) as usize];
+        if node < self.nodes { Some(node) } else { None }
     }
 
     /// The nodes of a list, one after another.

@@ -9,6 +9,7 @@ use Rattle.qc_tiles.specs.Sizes.{is_smaller, insert_block, IsBySize, by_size, fi
 use Rattle.qc_tiles.proofs.Tilings.{AreLarge}
 use Rattle.qc_tiles.proofs.Standing.{best_at, later_first}
 use Rattle.qc_tiles.proofs.Sorting.{insert-behind, insert-front, by_size-sorted}
+use Rattle.qc_tiles.proofs.Pieces.{cut_at}
 
 -- ---- the first that is large enough
 
@@ -22,42 +23,15 @@ fitting-small need b bs e = rw e refl
 fitting-large : (need : ℕ) (b : Block) (bs : List Block) → is_smaller 0 need b ≡ false → fitting need (b ∷ bs) ≡ Some b
 fitting-large need b bs e = rw e refl
 
--- those that are smaller, and the others
-pub record Cut (need : ℕ) (bs : List Block) : Type 0 where
-  pub low : List Block
-  pub high : List Block
-  pub is : bs ≡ low ++ high
-  pub smaller : AllByRecursion (λ b. is_smaller 0 need b ≡ true) low
-  pub larger : AllByRecursion (λ b. is_smaller 0 need b ≡ false) high
-  pub first : first_of high ≡ fitting need bs
-
-all_large : (need : ℕ) (b : Block) (bs : List Block) → is_smaller 0 need b ≡ false → AllByRecursion (λ x. is_smaller b.first b.words x ≡ false) bs → AllByRecursion (λ x. is_smaller 0 need x ≡ false) bs
-all_large need b [] e h = tt
-all_large need b (x ∷ xs) e h = (too e h.0, all_large need b xs e h.1)
-  where
-    too : is_smaller 0 need b ≡ false → is_smaller b.first b.words x ≡ false → is_smaller 0 need x ≡ false
-    too g k = grind (arith, nat_tests)
-
-pub cut_at_need : (need : ℕ) (bs : List Block) → IsBySize bs → Cut need bs
-cut_at_need need [] h = record { low = []; high = []; is = refl; smaller = tt; larger = tt; first = refl }
-cut_at_need need (b ∷ bs) h =
-    elim (is_smaller 0 need b) as (λ v. is_smaller 0 need b ≡ v → Cut need (b ∷ bs)) [
-      | true ↦ λ e. behind e (cut_at_need need bs h.1)
-      | false ↦ λ e. record { low = []; high = b ∷ bs; is = refl; smaller = tt; larger = (e, all_large need b bs e h.0); first = sym (fitting-large need b bs e) }
-    ] refl
-  where
-    behind : is_smaller 0 need b ≡ true → Cut need bs → Cut need (b ∷ bs)
-    behind e c = record {
-      low = b ∷ c.low;
-      high = c.high;
-      is = ap (λ xs. b ∷ xs) c.is;
-      smaller = (e, c.smaller);
-      larger = c.larger;
-      first = c.first ∙ sym (fitting-small need b bs e);
-    }
+fitting-cut : (need : ℕ) (low high : List Block) → AllByRecursion (λ b. is_smaller 0 need b ≡ true) low → AllByRecursion (λ b. is_smaller 0 need b ≡ false) high → first_of high ≡ fitting need (low ++ high)
+fitting-cut need [] [] smaller larger = refl
+fitting-cut need [] (b ∷ bs) smaller larger = sym (fitting-large need b bs larger.0)
+fitting-cut need (b ∷ low) high smaller larger = fitting-cut need low high smaller.1 larger ∙ sym (fitting-small need b (low ++ high) smaller.0)
 
 pub first_fitting : (need : ℕ) (bs : List Block) (o : Option Block) → IsBySize bs → Parts 0 need bs (λ low high. o ≡ first_of high) → o ≡ fitting need bs
-first_fitting need bs o h parts = let c = cut_at_need need bs h in parts c.low c.high c.is c.smaller c.larger ∙ c.first
+first_fitting need bs o h parts =
+    let c = cut_at (record { first = 0; words = need }) bs h in
+    parts c.low c.high c.is c.smaller c.larger ∙ (fitting-cut need c.low c.high c.smaller c.larger ∙ ap (fitting need) (sym c.is))
 
 -- ---- one more block
 

@@ -7,7 +7,7 @@ use Rattle.qc_tiles.specs.declared.blocks.Tile.{Tile}
 use Rattle.qc_types.specs.Blocks.{least_block, raised}
 use Rattle.qc_tiles.specs.Tiles.{tile, free_tile, CoversFrom, FreeApart, IsTiling, replaced, cut, best, cut_from, after_take, after_trim, after_give_back, after_pin, may_move, movable, swapped, after_move_down}
 use Rattle.qc_tiles.specs.Kept.{tile_at}
-use Rattle.qc_tiles.proofs.Tilings.{AreLarge, AreUnpinned, joined-tiling, joined_apart}
+use Rattle.qc_tiles.proofs.Tilings.{AreLarge, AreUnpinned, each_both, joined-tiling, joined_apart}
 use Rattle.qc_tiles.proofs.Walks.{split_at, none_swapped}
 use Rattle.qc_tiles.proofs.Standing.{replaced_at, best_at}
 
@@ -16,10 +16,6 @@ use Rattle.qc_tiles.proofs.Standing.{replaced_at, best_at}
 pub covers_then : (a b c : ℕ) (xs ys : List Tile) → CoversFrom a b xs → CoversFrom b c ys → CoversFrom a c (xs ++ ys)
 covers_then a b c [] ys h k = rw h k
 covers_then a b c (x ∷ xs) ys h k = (h.0, covers_then (a + x.words) b c xs ys h.1 k)
-
-pub each_then : (P : Tile → Type 0) (xs ys : List Tile) → AllByRecursion P xs → AllByRecursion P ys → AllByRecursion P (xs ++ ys)
-each_then P [] ys h k = k
-each_then P (x ∷ xs) ys h k = (h.0, each_then P xs ys h.1 k)
 
 replaced_covers_more : (place first end : ℕ) (f : Tile → List Tile) (t : Tile) (ts : List Tile) (b : Bool) → CoversFrom t.first (t.first + t.words) (f t) → t.first ≡ first → CoversFrom (first + t.words) end (replaced place f ts)
     → CoversFrom first end (cond b (f t ++ replaced place f ts) (t ∷ replaced place f ts))
@@ -32,7 +28,7 @@ replaced-covers place first end f (t ∷ ts) divides h large =
     replaced_covers_more place first end f t ts (t.first == place) (divides t large.0) h.0 (replaced-covers place (first + t.words) end f ts divides h.1 large.1)
 
 replaced_each_more : (P : Tile → Type 0) (place : ℕ) (f : Tile → List Tile) (t : Tile) (ts : List Tile) (b : Bool) → AllByRecursion P (f t) → P t → AllByRecursion P (replaced place f ts) → AllByRecursion P (cond b (f t ++ replaced place f ts) (t ∷ replaced place f ts))
-replaced_each_more P place f t ts true parts here rest = each_then P (f t) (replaced place f ts) parts rest
+replaced_each_more P place f t ts true parts here rest = each_both P (f t) (replaced place f ts) parts rest
 replaced_each_more P place f t ts false parts here rest = (here, rest)
 
 pub replaced-each : (P : Tile → Type 0) (place : ℕ) (f : Tile → List Tile) (ts : List Tile) → ((t : Tile) → P t → AllByRecursion P (f t)) → AllByRecursion P ts → AllByRecursion P (replaced place f ts)

@@ -1,4 +1,5 @@
 pub mod Tilings
+pub mod Points
 pub mod Walks
 pub mod Edits
 pub mod Standing
@@ -6,8 +7,8 @@ pub mod Keeps
 pub mod Calls
 pub mod Halves
 pub mod Sorting
+pub mod Pieces
 pub mod Fits
-pub mod Indexes
 pub mod CellWalks
 pub mod PlaceSteps
 pub mod PlaceCuts

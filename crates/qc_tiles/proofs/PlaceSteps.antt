@@ -1,6 +1,7 @@
 -- What writing cells and marks makes of the blocks.
 use Rattle.std.proofs.Common.{length-append, subst, ◌≡◌, ◌≢◌, ℕ, ◌+◌, ◌*◌, ◌-◌, ◌/◌, ◌<◌, ◌≤◌, List, [], ◌∷◌, ◌++◌, length, take, drop, set, refl, sym, ap, ◌∙◌, arith, zero, suc, Option, Some, get_or-set_other, get_or-set_same}
 use Rattle.std.proofs.Math.ListN.{length-set}
+use Rattle.std.proofs.lemmas.List.{take-append-drop}
 use Rattle.std.specs.List.{AllByRecursion}
 use Rattle.std.specs.Prelude.{slice_index}
 use Rattle.qc_tiles.specs.declared.blocks.Tile.{Tile}
@@ -9,6 +10,7 @@ use Rattle.qc_tiles.specs.Tiles.{CoversFrom, region_words}
 use Rattle.qc_tiles.specs.Kept.{tile_at}
 use Rattle.qc_tiles.specs.Cells.{begun, IsMarked, IsPlaced, IsAt}
 use Rattle.qc_tiles.proofs.Tilings.{AreLarge, covers_back, covers_both, each_both}
+use Rattle.qc_tiles.proofs.Points.{each_front, each_back}
 use Rattle.qc_tiles.proofs.Walks.{split_at}
 use Rattle.qc_tiles.proofs.Keeps.{covers_then}
 use Rattle.qc_tiles.proofs.Standing.{place_bounds, large_at, each_at}
@@ -34,14 +36,10 @@ high_starts first end (t ∷ ts) (suc k) h within =
     rw e (high_starts (first + t.words) end ts k h.1 (omega arith))
 
 pub front_each : (P : Tile → Type 0) (ts : List Tile) (k : ℕ) → AllByRecursion P ts → AllByRecursion P (take k ts)
-front_each P ts zero h = tt
-front_each P [] (suc k) h = tt
-front_each P (t ∷ ts) (suc k) h = (h.0, front_each P ts k h.1)
+front_each P ts k h = each_front P (take k ts) (drop k ts) (rw (take-append-drop k ts) h)
 
 pub back_each : (P : Tile → Type 0) (ts : List Tile) (k : ℕ) → AllByRecursion P ts → AllByRecursion P (drop k ts)
-back_each P ts zero h = h
-back_each P [] (suc k) h = tt
-back_each P (t ∷ ts) (suc k) h = back_each P ts k h.1
+back_each P ts k h = each_back P (take k ts) (drop k ts) (rw (take-append-drop k ts) h)
 
 pub ends_below : (m n : ℕ) (ts : List Tile) → AreLarge ts → AllByRecursion (λ u. u.first + u.words ≤ m) ts → m < n + 64 → AllBelow n ts
 ends_below m n [] large h low = tt

@@ -91,7 +91,7 @@ each_inserted P b (c ∷ cs) here h =
     ]
 
 -- none is smaller than one in front of the sorted ones
-none_smaller : (b c : Block) (cs : List Block) → is_smaller b.first b.words c ≡ false → AllByRecursion (λ x. is_smaller c.first c.words x ≡ false) cs → AllByRecursion (λ x. is_smaller b.first b.words x ≡ false) cs
+pub none_smaller : (b c : Block) (cs : List Block) → is_smaller b.first b.words c ≡ false → AllByRecursion (λ x. is_smaller c.first c.words x ≡ false) cs → AllByRecursion (λ x. is_smaller b.first b.words x ≡ false) cs
 none_smaller b c [] e h = tt
 none_smaller b c (x ∷ xs) e h = (between e h.0, none_smaller b c xs e h.1)
   where

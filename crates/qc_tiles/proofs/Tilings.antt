@@ -41,7 +41,7 @@ covers_both first end (x ∷ xs) ys zs h k =
     let same : (first + x.words) + region_words xs ≡ first + (x.words + region_words xs) = omega arith in
     (h.0, covers_both (first + x.words) end xs ys zs h.1 (rw same k))
 
-pub each_both : (P : Tile → Type 0) (xs ys : List Tile) → AllByRecursion P xs → AllByRecursion P ys → AllByRecursion P (xs ++ ys)
+pub each_both : {X : Type 0} (P : X → Type 0) (xs ys : List X) → AllByRecursion P xs → AllByRecursion P ys → AllByRecursion P (xs ++ ys)
 each_both P [] ys h k = k
 each_both P (x ∷ xs) ys h k = (h.0, each_both P xs ys h.1 k)
 

@@ -1,8 +1,6 @@
 -- Free blocks by their size, and by their place where they are equally large.
-use Rattle.std.specs.Prelude.{◌≡◌, ℕ, ◌+◌, ◌≤◌, Bool, true, false, ◌&&◌, ◌||◌, List, [], ◌∷◌, ◌++◌, length, map, Option, Some, None, nat_lt, ◌==◌, if◌then◌else◌}
+use Rattle.std.specs.Prelude.{◌≡◌, ℕ, ◌+◌, Bool, true, false, ◌&&◌, ◌||◌, List, [], ◌∷◌, ◌++◌, Option, Some, None, nat_lt, ◌==◌, if◌then◌else◌}
 use Rattle.std.specs.List.{AllByRecursion}
-use Rattle.qc_index.specs.declared.keys.Key.{Key}
-use Rattle.qc_index.specs.declared.keys.Keyed.{Keyed}
 use Rattle.qc_tiles.specs.declared.blocks.Block.{Block}
 use Rattle.qc_tiles.specs.declared.blocks.Tile.{Tile}
 use Rattle.qc_tiles.specs.Tiles.{block_of}
@@ -56,21 +54,3 @@ by_size (t ∷ ts) = added t (by_size ts)
 pub record Indexed : Type 0 where
   pub blocks : List Block
   pub room : ℕ
-
--- what a block stands by among the others
-abbrev pub key_of : Block → Key
-key_of b = record { major = b.words; minor = b.first }
-
--- the blocks under their keys, and back
-abbrev pub member_of : Block → Keyed Block
-member_of b = record { key = key_of b; value = b }
-
-abbrev pub blocks_of : List (Keyed Block) → List Block
-blocks_of ms = map (λ m. m.value) ms
-
--- blocks under their keys, the room for more, the count of the blocks and their words
-pub record IsIndex (members : List (Keyed Block)) (room count words : ℕ) : Type 0 where
-  pub keyed : members ≡ map member_of (blocks_of members)
-  pub counted : count ≡ length (blocks_of members)
-  pub summed : words ≡ block_words (blocks_of members)
-  pub few : length (blocks_of members) + room ≤ 131072

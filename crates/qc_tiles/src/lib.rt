@@ -4,6 +4,7 @@
 mod blocks;
 mod free_index;
 mod laws;
+mod piece;
 mod places;
 mod settle;
 mod tiles;

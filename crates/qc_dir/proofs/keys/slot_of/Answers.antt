@@ -1,6 +1,7 @@
 use Rattle.std.proofs.Common.{◌<◌, ◌∙◌, sym, subst, arith}
 use Rattle.std.specs.List.{AllByRecursion}
-use Rattle.qc_dir.proofs.KeyCounts.{bucket-low, none-found}
+use Rattle.qc_index.proofs.FiledSteps.{bucket-low}
+use Rattle.qc_dir.proofs.KeyCounts.{none-found}
 use Rattle.qc_dir.proofs.keys.slot_of.Goals as goal
 
 pub walk-list-requires : goal.walk-list-requires

@@ -1,37 +1,26 @@
-use Rattle.std.proofs.Common.{◌∙◌, refl, sym, ap}
-use Rattle.qc_dir.specs.Keys.{minors_under}
-use Rattle.qc_dir.proofs.KeyCounts.{next-minor, no-minor}
+use Rattle.std.proofs.Common.{◌∙◌, sym, ap, Option, None}
+use Rattle.std.specs.Option.{option_map}
+use Rattle.std.proofs.lemmas.List.{get_or_read}
+use Rattle.qc_dir.specs.declared.entries.Entry.{Entry}
+use Rattle.qc_dir.specs.Directory.{serials_under}
+use Rattle.qc_index.specs.Filed.{in_slots}
+use Rattle.qc_dir.proofs.EntrySteps.{next-serial, no-serial}
 use Rattle.qc_dir.proofs.candidates.Candidates.next.Goals as goal
 
-pub loop-slot-init : goal.loop-slot-init
-loop-slot-init c = record { slots = refl; hash = refl; below = c.self.invariant; left = refl }
-
-pub minor_in-found-requires : goal.minor_in-found-requires
-minor_in-found-requires c = (rw (c.in-Some.ensures {u = tt}) at c.loop-slot.invariant.below).0
-
-pub loop-slot-preserved : goal.loop-slot-preserved
-loop-slot-preserved c =
-    let l = c.loop-slot in
-    let e = c.in-Some.ensures {u = tt} in
-    record {
-      slots = l.invariant.slots;
-      hash = l.invariant.hash;
-      below = (rw e at l.invariant.below).1;
-      left = sym (no-minor l.self-inside.hash c.in-Some.slot l.self-inside.slots.now c.next.new.self c.minor_in-found.result c.minor_in-found.ensures (sym c.is_some.ensures ∙ c.if-is_some.false))
-          ∙ (sym (ap (minors_under l.self-inside.hash l.self-inside.slots.now) e) ∙ l.invariant.left);
-    }
+pub next_with-requires : goal.next_with-requires
+next_with-requires c = c.self.invariant
 
 pub invariant_of-self : goal.invariant_of-self
-invariant_of-self c = (rw (c.in-Some.ensures {u = tt}) at c.loop-slot.invariant.below).1
+invariant_of-self c = c.next_with.ensures.below
 
-pub returns-then-is_some : goal.returns-then-is_some
-returns-then-is_some c =
-    let l = c.loop-slot in
-    let old = sym c.self.view_is ∙ (sym l.invariant.left ∙ ap (minors_under l.self-inside.hash l.self-inside.slots.now) (c.in-Some.ensures {u = tt})) in
-    next-minor l.self-inside.hash c.in-Some.slot l.self-inside.slots.now c.next.new.self c.args.self.now c.minor_in-found.result old c.minor_in-found.ensures (sym c.is_some.ensures ∙ c.if-is_some.true)
+pub returns-in_default : goal.returns-in_default
+returns-in_default c =
+    let i = c.self.inside in
+    let none = rw c.in_default.is at c.next_with.ensures.next in
+    (sym c.self.view_is ∙ no-serial i.hash i.slots.now i.list none.0, ap (λ ns. serials_under i.hash (in_slots i.slots.now ns)) none.1)
 
 pub returns : goal.returns
 returns c =
-    let l = c.loop-slot in
-    let none = c.in_default.ensures {u = tt} in
-    (sym c.self.view_is ∙ (sym l.invariant.left ∙ ap (minors_under l.self-inside.hash l.self-inside.slots.now) none.0), ap (minors_under l.self-inside.hash l.self-inside.slots.now) none.1)
+    let i = c.self.inside in
+    let found = c.in-Some.ensures {u = tt} in
+    next-serial i.hash c.in-Some.slot i.slots.now i.list c.next_with.new.list c.args.self.now c.index-self-slot.result c.serial_in.result (sym c.self.view_is) found.next (get_or_read i.slots.now c.in-Some.slot c.index-self-slot.result found.entry.0 c.index-self-slot.is None) found.entry.1 (c.serial_in.ensures ∙ ap (λ (o : Option Entry). option_map (λ (e : Entry). e.serial) o) (sym c.index-self-slot.is))

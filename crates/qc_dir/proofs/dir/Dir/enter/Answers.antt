@@ -7,7 +7,7 @@ use Rattle.qc_dir.proofs.dir.Dir.enter.Goals as goal
 
 pub invariant_of-self : goal.invariant_of-self
 invariant_of-self c =
-    still _ _ _ _ _ _ _ _ c.self.invariant (λ w ignores. ap (λ es. total w es) c.enter.ensures.entries ∙ total-changed w (λ e. record e { users = e.users + 1 }) c.args.serial (entries_of c.self.inside.entries) (λ e. ignores e e.complete (e.users + 1))) c.enter.ensures.room
+    still _ _ _ _ _ _ c.self.invariant (λ w ignores. ap (λ es. total w es) c.enter.ensures.entries ∙ total-changed w (λ e. record e { users = e.users + 1 }) c.args.serial (entries_of c.self.inside.entries) (λ e. ignores e e.text e.complete (e.users + 1))) c.enter.ensures.room
 
 pub returns-clause-valid : goal.returns-clause-valid
-returns-clause-valid c = directory _ _ _ _ _ _ _ (invariant_of-self c)
+returns-clause-valid c = directory _ _ _ _ _ (invariant_of-self c)

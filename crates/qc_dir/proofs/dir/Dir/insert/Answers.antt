@@ -25,17 +25,17 @@ invariant_of-self c =
     let fresh = subst (λ (d : Directory). AreFresh c.args.entry d.tables c.args.fresh) (sym c.self.view_is) c.requires.fresh in
     let none = subst (λ (d : Directory). entry_at c.args.entry.serial d.entries ≡ None) (sym c.self.view_is) c.requires.serial in
     let names = c.name_tables.ensures in
-    subst (λ es. IsDir es c.insert-3.new.self.room c.put_tables.new.tables.held c.insert.new.self c.name_tables.new.named c.insert-2.new.self) (sym c.insert-3.ensures.entries)
-    (dir-inserted c.args.entry c.args.fresh (entries_of i.entries) i.entries.room c.insert-3.new.self.room i.tables c.put_tables.new.tables i.hashes i.named i.texts c.insert.new.self c.name_tables.new.named c.insert-2.new.self c.self.invariant none c.requires.few fresh c.put_tables.ensures c.insert-3.ensures.room
-    (rw c.items.ensures at names.keys) (rw c.items.ensures at names.room) c.insert.ensures.keys c.insert.ensures.room (rw c.from.ensures at c.insert-2.ensures.keys) c.insert-2.ensures.room)
+    subst (λ es. IsDir es c.insert.new.self.room c.put_tables.new.tables.held c.name_tables.new.named) (sym c.insert.ensures.entries)
+    (dir-inserted c.args.entry c.args.fresh (entries_of i.entries) i.entries.room c.insert.new.self.room i.tables c.put_tables.new.tables i.named c.name_tables.new.named c.self.invariant none c.requires.few fresh c.put_tables.ensures c.insert.ensures.room
+    (rw c.items.ensures at names.keys) (rw c.items.ensures at names.room))
 
 pub returns-clause-added : goal.returns-clause-added
 returns-clause-added c = record {
-  entries = c.insert-3.ensures.entries ∙ ap (λ (d : Directory). d.entries ++ c.args.entry ∷ []) c.self.view_is;
+  entries = c.insert.ensures.entries ∙ ap (λ (d : Directory). d.entries ++ c.args.entry ∷ []) c.self.view_is;
   tables = subst (λ (d : Directory). IsPermutation (tables_in c.put_tables.new.tables.held) (c.args.fresh ++ d.tables)) c.self.view_is (tables_after c.args.fresh c.self.inside.tables c.put_tables.new.tables c.put_tables.ensures);
-  room = c.insert-3.ensures.room ∙ ap (λ (d : Directory). d.room) c.self.view_is;
+  room = c.insert.ensures.room ∙ ap (λ (d : Directory). d.room) c.self.view_is;
   table_room = c.put_tables.ensures.room ∙ ap (λ (d : Directory). d.table_room) c.self.view_is;
 }
 
 pub returns-clause-valid : goal.returns-clause-valid
-returns-clause-valid c = directory _ _ _ _ _ _ _ (invariant_of-self c)
+returns-clause-valid c = directory _ _ _ _ _ (invariant_of-self c)

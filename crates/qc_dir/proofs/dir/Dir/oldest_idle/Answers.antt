@@ -4,4 +4,4 @@ use Rattle.qc_dir.proofs.DirSteps.{directory}
 use Rattle.qc_dir.proofs.dir.Dir.oldest_idle.Goals as goal
 
 pub returns-clause-valid : goal.returns-clause-valid
-returns-clause-valid c = subst (λ (d : Directory). IsDirectory d) c.self.view_is (directory _ _ _ _ _ _ _ c.self.invariant)
+returns-clause-valid c = subst (λ (d : Directory). IsDirectory d) c.self.view_is (directory _ _ _ _ _ c.self.invariant)

@@ -4,36 +4,16 @@ use Rattle.std.specs.Option.{option_to_list}
 use Rattle.std.proofs.lemmas.List.{append-nil}
 use Rattle.qc_types.specs.declared.names.TableName.{TableName}
 use Rattle.qc_dir.specs.declared.tables.TableBlock.{TableBlock}
-use Rattle.std.proofs.Common.{ℕ, List, [], ◌++◌, true, false, ◌≡◌, ◌+◌, ◌-◌, ◌*◌, refl, sym, ap, ◌∙◌, subst, drop, length, arith}
-use Rattle.qc_index.specs.declared.keys.Key.{Key}
+use Rattle.std.proofs.Common.{List, [], ◌++◌, true, false, ◌≡◌, ◌+◌, ◌-◌, ◌*◌, refl, sym, ap, ◌∙◌, subst, drop, length, arith}
 use Rattle.qc_dir.specs.declared.entries.Entry.{Entry}
 use Rattle.qc_dir.specs.Directory.{Directory, names_table, without}
-use Rattle.qc_dir.specs.Keys.{total, times, bit, same_key}
+use Rattle.qc_dir.specs.Keys.{total}
 use Rattle.qc_dir.specs.Uses.{Used, entries_of}
-use Rattle.qc_dir.specs.Indexed.{hash_key, text_key}
-use Rattle.qc_dir.proofs.EntryTotals.{entry-serial}
-use Rattle.qc_dir.proofs.Removals.{IsRemoving, key_stands, removing_none, name_stands, dir-removed, removing_next, each_named}
+use Rattle.qc_dir.proofs.Removals.{IsRemoving, removing_none, name_stands, dir-removed, removing_next, each_named}
 use Rattle.qc_dir.proofs.Insertions.{drop_step, drop_all}
 use Rattle.qc_dir.proofs.DirSteps.{tables_in, directory}
 use Rattle.qc_dir.proofs.dir.Dir.remove.Goals as goal
 use Rattle.qc_dir.proofs.dir.Dir.remove.Goals.{in-Some, in_default}
-
-abbrev key : ℕ → ℕ → Key
-key major minor = record { major = major; minor = minor }
-
-pub remove-requires : goal.remove-requires
-remove-requires c =
-    let i = c.self.inside in
-    let e = c.remove-entry.result in
-    let at = c.remove-entry.ensures.entry in
-    key_stands _ hash_key c.args.serial (entries_of i.entries) e i.hashes c.self.invariant.by_hash at (ap (λ n. key e.hash n) (entry-serial c.args.serial (entries_of i.entries) e at))
-
-pub remove-requires-2 : goal.remove-requires-2
-remove-requires-2 c =
-    let i = c.self.inside in
-    let e = c.remove-entry.result in
-    let at = c.remove-entry.ensures.entry in
-    rw c.from.ensures (key_stands _ text_key c.args.serial (entries_of i.entries) e i.texts c.self.invariant.by_text at (ap (λ n. key e.text.first n) (entry-serial c.args.serial (entries_of i.entries) e at)))
 
 pub loop-table-init : goal.loop-table-init
 loop-table-init c =
@@ -41,9 +21,7 @@ loop-table-init c =
     let e = c.remove-entry.ensures in
     record {
       entries = refl;
-      hashes = refl;
-      texts = refl;
-      removing = rw (e.entries, e.room, c.items-table-items.ensures, c.new-freed.ensures) (removing_none c.args.serial (entries_of i.entries) c.remove-entry.result i.entries.room i.tables i.hashes i.named i.texts c.self.invariant e.entry);
+      removing = rw (e.entries, e.room, c.items-table-items.ensures, c.new-freed.ensures) (removing_none c.args.serial (entries_of i.entries) c.remove-entry.result i.entries.room i.tables i.named c.self.invariant e.entry);
     }
 
 pub free_table-requires-clause-once : goal.free_table-requires-clause-once
@@ -97,8 +75,6 @@ loop-table-preserved c =
     let rest = drop (l.table-index + 1) items in
     record {
       entries = l.invariant.entries;
-      hashes = l.invariant.hashes;
-      texts = l.invariant.texts;
       removing = removing_next es c.args.serial stands.0 c.table-item.result rest c.free_table.result c.self.inside.tables l.self-inside.tables c.free_table.new.tables l.self-inside.named c.free_table.new.named all l.freed c.match-free_table.freed r stands.1 frees (freed c);
     }
 
@@ -112,13 +88,7 @@ invariant_of-self c =
     let room = c.remove-entry.new.self.room in
     let last = subst (λ (ts : List TableName). IsRemoving (entries_of c.remove-entry.new.self) c.args.serial ts i.tables l.self-inside.tables l.self-inside.named (8 * room + total f (entries_of c.remove-entry.new.self)) l.freed) (drop_all items l.table-index c.loop-table-test.false) l.invariant.removing in
     let r = subst (λ (es : List Entry). IsRemoving es c.args.serial [] i.tables l.self-inside.tables l.self-inside.named (8 * room + total f es) l.freed) e.entries last in
-    let entry = c.remove-entry.result in
-    let serial = sym (entry-serial c.args.serial (entries_of i.entries) entry e.entry) in
-    let hash = subst (λ n. (k : Key) → times k c.remove.new.self.keys + bit (same_key k (key entry.hash n)) ≡ times k i.hashes.keys) serial c.remove.ensures.keys in
-    let text = subst (λ n. (k : Key) → times k c.remove-2.new.self.keys + bit (same_key k (key entry.text.first n)) ≡ times k i.texts.keys) serial (rw c.from.ensures at c.remove-2.ensures.keys) in
-    rw (l.invariant.entries, l.invariant.hashes, l.invariant.texts, e.entries)
-    (dir-removed c.args.serial (entries_of i.entries) entry i.entries.room room i.tables l.self-inside.tables i.hashes i.named l.self-inside.named i.texts c.remove.new.self c.remove-2.new.self _ l.freed c.self.invariant e.entry r e.room refl
-    hash c.remove.ensures.room text c.remove-2.ensures.room)
+    rw (l.invariant.entries, e.entries) (dir-removed c.args.serial (entries_of i.entries) c.remove-entry.result i.entries.room room i.tables l.self-inside.tables i.named l.self-inside.named _ l.freed c.self.invariant e.entry r refl)
 
 pub returns-clause-removed : goal.returns-clause-removed
 returns-clause-removed c =
@@ -142,4 +112,4 @@ returns-clause-removed c =
     }
 
 pub returns-clause-valid : goal.returns-clause-valid
-returns-clause-valid c = directory _ _ _ _ _ _ _ (invariant_of-self c)
+returns-clause-valid c = directory _ _ _ _ _ (invariant_of-self c)

@@ -5,7 +5,7 @@ use Rattle.qc_dir.proofs.DirCalls.{moved_dir, moved_tables, shift_none, shifted}
 use Rattle.qc_dir.proofs.dir.Dir.shift.Goals as goal
 
 pub invariant_of-self : goal.invariant_of-self
-invariant_of-self c = moved_dir c.args.change _ _ _ _ _ _ _ c.self.invariant c.shift.ensures.held
+invariant_of-self c = moved_dir c.args.change _ _ _ _ _ c.self.invariant c.shift.ensures.held
 
 pub loop-change-init : goal.loop-change-init
 loop-change-init c = record {
@@ -26,4 +26,4 @@ pub returns-else-change-clause-shifted : goal.returns-else-change-clause-shifted
 returns-else-change-clause-shifted c = shift_none c.args.change c.args.self.now c.if-change.false
 
 pub returns-else-change-clause-valid : goal.returns-else-change-clause-valid
-returns-else-change-clause-valid c = subst (λ (d : Directory). IsDirectory d) c.self.view_is (directory _ _ _ _ _ _ _ c.self.invariant)
+returns-else-change-clause-valid c = subst (λ (d : Directory). IsDirectory d) c.self.view_is (directory _ _ _ _ _ c.self.invariant)

@@ -1,6 +1,6 @@
 use Rattle.std.proofs.Common.{◌≡◌, map}
 use Rattle.qc_dir.specs.Directory.{moved_entry, moved_table}
-use Rattle.qc_dir.specs.Indexed.{texts_at}
+use Rattle.qc_dir.specs.Uses.{texts_at}
 use Rattle.qc_dir.proofs.dir.Dir.shift.Given as goal
 
 abbrev pub invariant-loop-change : goal.invariant-loop-change

@@ -1,35 +1,25 @@
-use Rattle.std.proofs.Common.{◌+◌, ◌-◌, ◌<◌, ◌^◌, sym, ap, subst, refl, set, Option, arith}
+use Rattle.std.proofs.Common.{◌+◌, ◌-◌, ◌<◌, ◌^◌, sym, subst, Option, ap, refl}
 use Rattle.std.specs.Option.{IsSomeAnd}
 use Rattle.qc_dir.specs.declared.entries.Entry.{Entry}
 use Rattle.qc_dir.specs.Directory.{after_enter}
 use Rattle.qc_dir.specs.Uses.{entries_of}
 use Rattle.qc_dir.proofs.UseSteps.{IsNow, serial-there, is-some_and, entry-is, altered}
-use Rattle.qc_dir.proofs.uses.Uses.enter.Goals.{After-enter_in}
+use Rattle.qc_dir.proofs.uses.Uses.enter.Goals.{After-enter}
 use Rattle.qc_dir.proofs.uses.Uses.enter.Goals as goal
 
-pub slot_with-slot-requires-clause-filed : goal.slot_with-slot-requires-clause-filed
-slot_with-slot-requires-clause-filed c = rw c.deref.ensures.value c.self.invariant.0.by_serial
+pub slot_of-slot-requires : goal.slot_of-slot-requires
+slot_of-slot-requires c = serial-there c.args.serial c.self.inside.slots c.self.inside.order (entries_of c.args.self.now) c.self.invariant.ordered (ap entries_of c.self.view_is) (is-some_and _ _ c.requires)
 
-pub slot_with-slot-requires-clause-there : goal.slot_with-slot-requires-clause-there
-slot_with-slot-requires-clause-there c = rw c.deref.ensures.value (serial-there c.args.serial c.self.inside.slots.items c.self.inside.order (entries_of c.args.self.now) c.self.invariant.0.ordered (ap entries_of c.self.view_is) (is-some_and _ _ c.requires))
+pub enter-requires-clause-few : goal.enter-requires-clause-few
+enter-requires-clause-few c = subst (λ (o : Option Entry). IsSomeAnd o (λ (e : Entry). e.users < 2 ^ 32 - 1)) (sym (entry-is c.args.serial c.slot_of-slot.result c.self.inside.slots c.self.inside.order c.self.inside.count c.self.inside.incomplete c.args.self.now (record { kept = c.self.invariant; view = c.self.view_is }) c.slot_of-slot.ensures.within c.slot_of-slot.ensures.entry)) c.requires
 
-pub index_mut-requires : goal.index_mut-requires
-index_mut-requires c = omega (arith, rw c.deref.ensures.value at c.slot_with-slot.ensures.within, c.self.inside.slots.ok.0)
-
-pub enter_in-requires : goal.enter_in-requires
-enter_in-requires c =
-    let i = c.self.inside in
-    let is = rw c.deref.ensures.value at c.slot_with-slot.ensures in
-    subst (λ (o : Option Entry). IsSomeAnd o (λ (e : Entry). e.users < 2 ^ 32 - 1)) (sym (entry-is c.args.serial c.slot_with-slot.result i.slots.items i.order i.by_serial i.mask i.count i.incomplete c.args.self.now c.index_mut.result.now (record { kept = c.self.invariant.0; view = c.self.view_is }) is.within is.entry c.index_mut.ensures.value)) c.requires
-
-done : (c : After-enter_in) → IsNow (set c.self.inside.slots.items c.slot_with-slot.result c.enter_in.new.slot) c.self.inside.order c.self.inside.by_serial c.self.inside.mask c.self.inside.count c.self.inside.incomplete (record { entries = after_enter c.args.serial (entries_of c.args.self.now); room = c.args.self.now.room })
+done : (c : After-enter) → IsNow c.enter.new.self c.self.inside.order c.self.inside.count c.self.inside.incomplete (record { entries = after_enter c.args.serial (entries_of c.args.self.now); room = c.args.self.now.room })
 done c =
     let i = c.self.inside in
-    let is = rw c.deref.ensures.value at c.slot_with-slot.ensures in
-    rw c.enter_in.ensures (altered (λ (e : Entry). record e { users = e.users + 1 }) c.args.serial c.slot_with-slot.result i.slots.items i.order i.by_serial i.mask i.count i.incomplete c.args.self.now c.index_mut.result.now (record { kept = c.self.invariant.0; view = c.self.view_is }) is.within is.entry c.index_mut.ensures.value (λ e. refl) (λ e. refl))
+    rw c.enter.ensures (altered (λ (e : Entry). record e { users = e.users + 1 }) c.args.serial c.slot_of-slot.result i.slots i.order i.count i.incomplete c.args.self.now (record { kept = c.self.invariant; view = c.self.view_is }) c.slot_of-slot.ensures.within c.slot_of-slot.ensures.entry (λ e. refl) (λ e. refl))
 
 pub invariant_of-self : goal.invariant_of-self
-invariant_of-self c = ((done (goal.at.invariant_of-self c).After-enter_in).kept, c.self.invariant.1)
+invariant_of-self c = (done (goal.at.invariant_of-self c).After-enter).kept
 
 pub returns-clause-entries : goal.returns-clause-entries
-returns-clause-entries c = ap entries_of (done (goal.at.returns-clause-entries c).After-enter_in).view
+returns-clause-entries c = ap entries_of (done (goal.at.returns-clause-entries c).After-enter).view

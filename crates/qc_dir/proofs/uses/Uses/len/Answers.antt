@@ -5,5 +5,5 @@ use Rattle.qc_dir.proofs.uses.Uses.len.Goals as goal
 
 pub returns : goal.returns
 returns c =
-    let u = c.self.invariant.0 in
-    u.all ∙ (sym (length-used c.self.inside.slots.items c.self.inside.order u.ordered) ∙ ap (λ (d : Used). length (entries_of d)) c.self.view_is)
+    let u = c.self.invariant in
+    u.all ∙ (sym (length-used c.self.inside.slots c.self.inside.order u.ordered) ∙ ap (λ (d : Used). length (entries_of d)) c.self.view_is)

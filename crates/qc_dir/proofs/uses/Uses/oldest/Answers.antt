@@ -1,6 +1,5 @@
-use Rattle.std.proofs.Common.{◌<◌, ◌∙◌, sym, ap, subst, slice_get, length, Option, None, arith}
+use Rattle.std.proofs.Common.{◌<◌, ◌∙◌, sym, ap, subst, slice_get, length, Option, arith}
 use Rattle.std.specs.Option.{IfSome, option_map}
-use Rattle.std.proofs.lemmas.List.{get_or_read}
 use Rattle.qc_dir.specs.declared.entries.Entry.{Entry}
 use Rattle.qc_dir.specs.Uses.{Used, entries_of}
 use Rattle.qc_dir.proofs.UseSteps.{first-used}
@@ -8,19 +7,19 @@ use Rattle.qc_dir.proofs.uses.Uses.oldest.Goals.{In-Some}
 use Rattle.qc_dir.proofs.uses.Uses.oldest.Goals as goal
 
 pub first-requires : goal.first-requires
-first-requires c = omega (arith, c.self.invariant.0.ordered.lists)
+first-requires c = omega (arith, c.self.invariant.ordered.lists)
 
-within : (c : In-Some) → c.in-Some.slot < length c.self.inside.slots.items
+within : (c : In-Some) → c.in-Some.slot < length c.self.inside.slots
 within c =
     let node : c.in-Some.slot < c.self.inside.order.nodes = subst (λ o. IfSome o (λ n. n < c.self.inside.order.nodes)) c.in-Some.is c.first.ensures.below in
-    omega (arith, node, c.self.invariant.0.ordered.nodes)
+    omega (arith, node, c.self.invariant.ordered.nodes)
 
-pub index-requires : goal.index-requires
-index-requires c = omega (arith, within (goal.at.index-requires c).In-Some, c.self.inside.slots.ok.0)
+pub at-requires : goal.at-requires
+at-requires c = within (goal.at.at-requires c).In-Some
 
 pub returns : goal.returns
 returns c =
     let i = c.self.inside in
     let low = within (goal.at.returns c).In-Some in
-    let at = first-used c.in-Some.slot i.slots.items i.order c.index.result.now c.self.invariant.0.ordered low (sym c.first.ensures.first ∙ c.in-Some.is) (get_or_read i.slots.items c.in-Some.slot c.index.result.now low c.index.ensures None) in
+    let at = first-used c.in-Some.slot i.slots i.order c.at.result.now c.self.invariant.ordered low (sym c.first.ensures.first ∙ c.in-Some.is) c.at.ensures in
     c.serial_in.ensures ∙ ap (λ (o : Option Entry). option_map (λ (e : Entry). e.serial) o) (at ∙ ap (λ (d : Used). slice_get (entries_of d) 0) c.self.view_is)

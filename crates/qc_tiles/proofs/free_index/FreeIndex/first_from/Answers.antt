@@ -1,14 +1,9 @@
-use Rattle.std.proofs.Common.{◌∙◌, ap, sym}
-use Rattle.std.specs.Option.{option_copied, option_map}
-use Rattle.qc_tiles.proofs.Indexes.{looked, same_blocks}
+use Rattle.std.proofs.Common.{◌≡◌, subst}
+use Rattle.qc_tiles.specs.Sizes.{Indexed, Parts, first_of}
+use Rattle.qc_tiles.proofs.Pieces.{found}
 use Rattle.qc_tiles.proofs.free_index.FreeIndex.first_from.Goals as goal
 
-pub returns-in_err-found : goal.returns-in_err-found
-returns-in_err-found c = λ low high is passes fails.
-    let found = looked c.args.words c.key_of.result c.self.inside.list.items _ _ c.key_of.ensures c.self.invariant.keyed (same_blocks c.self.view_is) c.first_from.ensures.member low high is passes fails in
-    c.from_residual.ensures ∙ (ap (λ r. option_map (λ m. m.value) (option_copied r)) (sym (c.in_err-found.was {u = tt})) ∙ found)
-
 pub returns : goal.returns
-returns c = λ low high is passes fails.
-    let found = looked c.args.words c.key_of.result c.self.inside.list.items _ _ c.key_of.ensures c.self.invariant.keyed (same_blocks c.self.view_is) c.first_from.ensures.member low high is passes fails in
-    ap (λ r. option_map (λ m. m.value) (option_copied r)) (sym (c.in_ok-found.was {u = tt})) ∙ found
+returns c =
+    let l = (rw c.deref.ensures.value at c.place.ensures) c.self.invariant.sorted c.self.invariant.filled in
+    subst (λ (i : Indexed). Parts 0 c.args.words i.blocks (λ low high. c.first_from.result ≡ first_of high)) c.self.view_is (found l _ _ c.index.ensures c.first_from.ensures)

@@ -1,36 +1,46 @@
-use Rattle.std.proofs.Common.{◌+◌, ◌∙◌, ap, arith, length}
-use Rattle.qc_tiles.specs.Sizes.{Indexed, blocks_of, block_words}
-use Rattle.qc_tiles.proofs.Indexes.{gone, room_more, same_index, one_more, words_more}
+use Rattle.std.proofs.Common.{◌+◌, ◌∙◌, length, ap, sym, subst, arith}
+use Rattle.qc_tiles.specs.Sizes.{IsBySize, Indexed, block_words}
+use Rattle.qc_tiles.proofs.Pieces.{gone, gone_edits, one_more, words_more, same_index}
 use Rattle.qc_tiles.proofs.free_index.FreeIndex.remove.Goals as goal
 
+pub keep_long-requires-clause-edited : goal.keep_long-requires-clause-edited
+keep_long-requires-clause-edited c =
+    let l = (rw c.deref.ensures.value at c.place-at.ensures) c.self.invariant.sorted c.self.invariant.filled in
+    gone_edits l _ _ c.self.invariant.filled c.index_mut.ensures.value c.remove_from.ensures
+
+pub keep_long-requires-clause-fits : goal.keep_long-requires-clause-fits
+keep_long-requires-clause-fits c =
+    let l = (rw c.deref.ensures.value at c.place-at.ensures) c.self.invariant.sorted c.self.invariant.filled in
+    let from = ap (λ (i : Indexed). i.blocks) c.self.view_is ∙ c.requires.1 in
+    omega (arith, ap length (gone l _ _ c.requires.0 c.index_mut.ensures.value c.remove_from.ensures from c.requires.2), one_more c.args.block _ _ from, c.self.invariant.fits)
+
 pub overflow_sub-self : goal.overflow_sub-self
-overflow_sub-self c =
-    let is = ap (λ (i : Indexed). i.blocks) c.self.view_is ∙ c.requires.1 in
-    omega (arith, one_more c.args.block (blocks_of c.self.inside.list.items) c.requires.0 is, c.self.invariant.counted)
+overflow_sub-self c = omega (arith, one_more c.args.block _ _ (ap (λ (i : Indexed). i.blocks) c.self.view_is ∙ c.requires.1), c.self.invariant.counted)
 
 pub overflow_sub-self-2 : goal.overflow_sub-self-2
-overflow_sub-self-2 c =
-    let is = ap (λ (i : Indexed). i.blocks) c.self.view_is ∙ c.requires.1 in
-    omega (arith, words_more c.args.block (blocks_of c.self.inside.list.items) c.requires.0 is, c.self.invariant.summed)
+overflow_sub-self-2 c = omega (arith, words_more c.args.block _ _ (ap (λ (i : Indexed). i.blocks) c.self.view_is ∙ c.requires.1), c.self.invariant.summed)
 
 pub invariant_of-self : goal.invariant_of-self
 invariant_of-self c =
-    let ms = c.self.inside.list.items in
-    let is = ap (λ (i : Indexed). i.blocks) c.self.view_is ∙ c.requires.1 in
-    let made = gone c.args.block c.key_of.result ms c.remove_from.new.self.items c.requires.0 c.key_of.ensures c.self.invariant.keyed is c.remove_from.ensures.items in
-    let room = room_more c.args.block c.key_of.result ms c.requires.0 c.remove_from.result _ _ c.key_of.ensures c.self.invariant.keyed is c.remove_from.ensures.member c.remove_from.ensures.room in
-    let shorter = one_more c.args.block (blocks_of ms) c.requires.0 is in
+    let i = c.self.invariant in
+    let l = (rw c.deref.ensures.value at c.place-at.ensures) i.sorted i.filled in
+    let from = ap (λ (x : Indexed). x.blocks) c.self.view_is ∙ c.requires.1 in
+    let made = c.keep_long.ensures.blocks ∙ gone l _ _ c.requires.0 c.index_mut.ensures.value c.remove_from.ensures from c.requires.2 in
+    let shorter = one_more c.args.block _ _ from in
     record {
-      keyed = made.keyed;
-      counted = omega (arith, c.self.invariant.counted, shorter, ap length made.blocks);
-      summed = omega (arith, c.self.invariant.summed, words_more c.args.block (blocks_of ms) c.requires.0 is, ap block_words made.blocks);
-      few = omega (arith, c.self.invariant.few, shorter, ap length made.blocks, room);
+      some = c.keep_long.ensures.some;
+      filled = c.keep_long.ensures.filled;
+      sorted = subst (λ xs. IsBySize xs) (sym made) c.requires.2;
+      fits = omega (arith, ap length made, shorter, i.fits, c.keep_long.ensures.pieces);
+      places = omega (arith, i.places, c.keep_long.ensures.pieces, c.keep_long.ensures.places);
+      spare_places = omega (arith, i.spare_places, c.keep_long.ensures.pieces, c.keep_long.ensures.spare_places);
+      counted = omega (arith, ap length made, shorter, i.counted);
+      summed = omega (arith, ap block_words made, words_more c.args.block _ _ from, i.summed);
+      few = omega (arith, ap length made, shorter, i.few);
     }
 
 pub returns : goal.returns
 returns c = λ others same sorted.
-    let ms = c.self.inside.list.items in
-    let is = ap (λ (i : Indexed). i.blocks) c.self.view_is ∙ same in
-    let made = gone c.args.block c.key_of.result ms c.remove_from.new.self.items others c.key_of.ensures c.self.invariant.keyed is c.remove_from.ensures.items in
-    let room = room_more c.args.block c.key_of.result ms others c.remove_from.result _ _ c.key_of.ensures c.self.invariant.keyed is c.remove_from.ensures.member c.remove_from.ensures.room in
-    same_index _ _ _ _ made.blocks (room ∙ ap (λ (i : Indexed). i.room + 1) c.self.view_is)
+    let l = (rw c.deref.ensures.value at c.place-at.ensures) c.self.invariant.sorted c.self.invariant.filled in
+    let from = ap (λ (i : Indexed). i.blocks) c.self.view_is ∙ same in
+    same_index _ _ _ _ (c.keep_long.ensures.blocks ∙ gone l _ _ others c.index_mut.ensures.value c.remove_from.ensures from sorted) (ap (λ (i : Indexed). i.room + 1) c.self.view_is)
