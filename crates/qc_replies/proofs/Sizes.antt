@@ -1,5 +1,5 @@
 -- Errors that fit a packet.
-use Rattle.std.proofs.Common.{◌≡◌, ℕ, ◌<◌, ◌≤◌, ◌^◌, ◌++◌, codes, refl, arith, length-append}
+use Rattle.std.proofs.Common.{ℕ, codes, refl, arith, length-append}
 use Rattle.std.specs.Prelude.{decimal}
 use Rattle.qc_sql.specs.Errors.{syntax_error}
 use Rattle.qc_laws.specs.sizes.Replies.{FitsError}

@@ -1,24 +1,22 @@
 -- Rows that a plan gives, and their cells.
-use Rattle.std.proofs.Common.{◌≡◌, ℕ, ◌+◌, ◌<◌, ◌≤◌, ◌%◌, List, [], ◌∷◌, ◌++◌, length, map, drop, get_or, refl, sym, ap, ◌∙◌, subst, true≢false, Option, Some, None}
+use Rattle.std.proofs.Common.{◌≡◌, ℕ, ◌+◌, ◌<◌, ◌≤◌, List, [], ◌∷◌, ◌++◌, length, map, drop, get_or, refl, sym, ap, ◌∙◌, subst, true≢false, Option, Some, None}
 use Rattle.std.specs.Prelude.{IsSome, unwrap_or}
-use Rattle.std.specs.List.{AllByRecursion, concat}
-use Rattle.std.proofs.lemmas.List.{append_assoc, map-append, drop_more}
+use Rattle.std.specs.List.{AllByRecursion}
+use Rattle.std.proofs.lemmas.List.{append_assoc, drop_more}
 use Rattle.qc_types.specs.declared.names.Value.{Value}
 use Rattle.qc_types.specs.declared.names.Value.TheVariants as value
 use Rattle.qc_sql.specs.declared.replies.ColumnDef.{ColumnDef}
 use Rattle.qc_sql.specs.declared.session.Flags.{Flags}
-use Rattle.qc_sql.specs.Packets.{packet, numbered, column_payload, row_payload, most_payload}
+use Rattle.qc_sql.specs.Packets.{encoded_cell, row_payload, most_payload}
 use Rattle.qc_sql.specs.Rows.{Rows, text_of}
 use Rattle.qc_laws.specs.sizes.Replies.{FitsRow, FitsRows}
 use Rattle.qc_laws.proofs.sizes.Payloads.{row_payloads_fit}
 use Rattle.qc_sql.specs.declared.cells.Cell.{Cell}
 use Rattle.qc_sql.specs.declared.cells.Cell.TheVariants as cell
-use Rattle.qc_sql.specs.declared.cells.StoredCell.{StoredCell}
-use Rattle.qc_wire.specs.Cells.{held, cell_text, cell_texts}
+use Rattle.qc_wire.specs.Cells.{held, cell_text}
 use Rattle.qc_eval.specs.Plans.{PlanView, Loads}
 use Rattle.qc_eval.specs.Values.{cell_value}
-use Rattle.qc_replies.specs.Answers.{AreRowsOf, FitColumns, IsReady}
-use Rattle.qc_replies.proofs.Packets.{one_more}
+use Rattle.qc_replies.specs.Answers.{AreRowsOf, IsReady}
 
 -- ---- cells
 
@@ -29,18 +27,19 @@ text_is (cell.Wide n) = refl
 text_is (cell.Str bytes) = refl
 
 -- one cell more
-pub cell_more : (o : Option (List Value)) (cells : List StoredCell) (i : ℕ) (x : Cell) → i < length (unwrap_or o []) → IsSome o
+pub cell_more : (o : Option (List Value)) (whole payload next : List ℕ) (i : ℕ) (x : Cell) → i < length (unwrap_or o []) → IsSome o
     → ((row : List Value) → o ≡ Some row → i < length row → cell_value x ≡ get_or row i value.Null)
-    → cell_texts cells ++ map text_of (drop i (unwrap_or o [])) ≡ map text_of (unwrap_or o [])
-    → cell_texts (cells ++ held x ∷ []) ++ map text_of (drop (i + 1) (unwrap_or o [])) ≡ map text_of (unwrap_or o [])
-cell_more None cells i x lt there is before = absurd (true≢false (sym there))
-cell_more (Some row) cells i x lt there is before =
-    let rest = map text_of (drop (i + 1) row) in
+    → next ≡ payload ++ encoded_cell (cell_text (held x))
+    → payload ++ row_payload (map text_of (drop i (unwrap_or o []))) ≡ whole
+    → next ++ row_payload (map text_of (drop (i + 1) (unwrap_or o []))) ≡ whole
+cell_more None whole payload next i x lt there is put before = absurd (true≢false (sym there))
+cell_more (Some row) whole payload next i x lt there is put before =
+    let rest = row_payload (map text_of (drop (i + 1) row)) in
     let here : text_of (get_or row i value.Null) ≡ cell_text (held x) = sym (text_is x ∙ ap text_of (is row refl lt)) in
-    ap (λ (ts : List (Option (List ℕ))). ts ++ rest) (map-append cell_text cells (held x ∷ []))
-    ∙ append_assoc (cell_texts cells) (cell_text (held x) ∷ []) rest
-    ∙ ap (λ (t : Option (List ℕ)). cell_texts cells ++ t ∷ rest) (sym here)
-    ∙ ap (λ (l : List Value). cell_texts cells ++ map text_of l) (sym (drop_more row i value.Null lt))
+    ap (λ (l : List ℕ). l ++ rest) put
+    ∙ append_assoc payload (encoded_cell (cell_text (held x))) rest
+    ∙ ap (λ (t : Option (List ℕ)). payload ++ (encoded_cell t ++ rest)) (sym here)
+    ∙ ap (λ (l : List Value). payload ++ row_payload (map text_of l)) (sym (drop_more row i value.Null lt))
     ∙ before
 
 -- ---- a loaded plan

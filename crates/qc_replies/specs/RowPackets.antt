@@ -1,5 +1,5 @@
 -- The packets of a plan's columns and rows, given one after another.
-use Rattle.std.specs.Prelude.{◌≡◌, ℕ, ◌+◌, ◌%◌, ◌≤◌, true, false, Bool, List, [], ◌∷◌, ◌++◌, length, map, drop, Option, Some, None, IsSome}
+use Rattle.std.specs.Prelude.{◌≡◌, ℕ, ◌≤◌, true, false, Bool, List, [], ◌∷◌, ◌++◌, length, map, drop, Option, Some, None, IsSome}
 use Rattle.qc_sql.specs.Packets.{column_payload, eof_payload, packet}
 use Rattle.qc_eval.specs.Plans.{PlanView}
 use Rattle.qc_replies.specs.declared.row_packets.Part.{Part}
@@ -26,13 +26,13 @@ pub record IsReadyAt (x : Part) (p : PlanView) : Type 0 where
   pub plan : IsReady p
   pub at : IsAt x p
 
--- A packet was put behind a text, and these come behind it; or there was none.
+-- A packet was put behind a text, and these come behind it; or there was none, and the text stays.
 abbrev pub PutsNext : Part → PlanView → (status sequence : ℕ) → List ℕ → List ℕ → Option Part → Type 0
-PutsNext x p status sequence old new None = payloads_at x p status ≡ []
+PutsNext x p status sequence old new None = (payloads_at x p status ≡ []) × (new ≡ old)
 PutsNext x p status sequence old new (Some behind) = IsReadyAt behind p
     × ((payload : List ℕ) × (payloads_at x p status ≡ payload ∷ payloads_at behind p status) × (new ≡ old ++ packet sequence payload))
 
--- the next packet was given, and the others are still to come; or none was left
+-- the next packet was given, and the others are still to come; or none was left, and nothing is given
 abbrev pub GivesPacket : Bool → List (List ℕ) → List (List ℕ) → List ℕ → Type 0
 GivesPacket true old new out = old ≡ out ∷ new
-GivesPacket false old new out = (old ≡ []) × (new ≡ [])
+GivesPacket false old new out = (old ≡ []) × (new ≡ []) × (out ≡ [])

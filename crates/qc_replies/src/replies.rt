@@ -35,9 +35,8 @@ pub fn error_reply(alloc: Global, error: &SqlError) -> Result<Text, NoMemory>
 
 /// The error that answers a text that is no statement.
 pub fn fault_error(alloc: Global, refusal: &ParseRefusal) -> Result<SqlError, NoMemory>
-    requires { IsTold (as_meant refusal.now) }
     ensures error { IfOk result (λ e. e ≡ machine.fault_error (as_meant refusal.now)) }
-    ensures fits { IfOk result FitsError }
+    ensures fits { IsTold (as_meant refusal.now) → IfOk result FitsError }
 {
     match refusal {
         ParseRefusal::Syntax(at) => syntax_error(alloc, u64::from(*at)),

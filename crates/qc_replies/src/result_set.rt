@@ -24,7 +24,7 @@ pub(crate) fn rows_reply<L: Ledger>(
 {
     let mut reply = Text::of(alloc, &[])?;
     let mut packet = Text::of(alloc, &[])?;
-    let mut packets = RowPackets::of(alloc, plan, status);
+    let mut packets = RowPackets::of(plan, status);
     while packets.next(alloc, steps, &mut packet)? {
         reply.extend(packet.bytes())?;
     }

@@ -2,16 +2,16 @@
 
 ghost use Rattle.std.specs.Prelude.{◌≡◌, ◌≢◌, ◌≤◌, ◌++◌, [], length, map, IfOk, OnOk, OnErr, IsSome};
 ghost use Rattle.qc_sql.specs.declared.replies.Reply.TheVariants as reply;
-ghost use Rattle.qc_sql.specs.Packets.{packet_list};
+ghost use Rattle.qc_sql.specs.Packets as packets;
+ghost use Rattle.qc_sql.specs.Packets.{packet_list, most_payload};
 ghost use Rattle.qc_sql.specs.Rows.{text_of};
-ghost use Rattle.qc_wire.specs.Cells.{cell_texts};
 ghost use Rattle.qc_replies.specs.declared.row_packets.Part.TheVariants as packet;
-ghost use Rattle.qc_replies.specs.Answers.{IsReady, rest_of, row_of};
+ghost use Rattle.qc_replies.specs.Answers.{IsReady, rest_of, row_of, value_payload};
 ghost use Rattle.qc_replies.specs.RowPackets.{IsReadyAt, PutsNext, payloads_at};
 
 use qc_eval::Plan;
 use qc_types::{NoMemory, Steps, Text};
-use qc_wire::{RowCells, put_column, put_count, put_eof, put_row};
+use qc_wire::{OpenPacket, put_column, put_count, put_eof};
 use std::alloc::Global;
 use std::marker::Model;
 use std::mem;
@@ -42,7 +42,6 @@ pub struct RowPackets {
     status: u16,
     sequence: u8,
     part: Part,
-    cells: RowCells,
 }
 
 impl Model for RowPackets {
@@ -61,7 +60,7 @@ impl RowPackets {
     ghost use Rattle.qc_replies.specs.RowPackets.{GivesPacket};
 
     /// The packets of a loaded plan's columns and of the rows that it has still to give, numbered from 1, with these status flags.
-    pub fn of(alloc: Global, plan: Plan, status: u16) -> RowPackets
+    pub fn of(plan: Plan, status: u16) -> RowPackets
         requires { IsReady plan }
         ensures { result ≡ packet_list (reply.Rows plan.columns (map (map text_of) (rest_of plan)) status) }
     {
@@ -70,12 +69,11 @@ impl RowPackets {
             status,
             sequence: 1,
             part: Part::Count,
-            cells: RowCells::new(alloc),
         }
     }
 
-    /// Writes the next packet into `out`, in place of what stood there; false: the last one was given. Where memory runs out, the same packet comes next. Cost:
-    /// see `Plan::next`, and linear in the packet.
+    /// Writes the next packet into `out`, in place of what stood there; false: the last one was given, and `out` is empty. Where memory runs out, the same packet
+    /// comes next, and `out` may have a part of it. Cost: see `Plan::next`, and linear in the packet, whose bytes are each written once.
     pub fn next<L: Ledger>(
         &mut self,
         alloc: Global,
@@ -93,7 +91,6 @@ impl RowPackets {
             self.part,
             self.status,
             self.sequence,
-            &mut self.cells,
             out,
         )?
         else {
@@ -140,7 +137,6 @@ fn put_part(
     part: Part,
     status: u16,
     sequence: u8,
-    cells: &mut RowCells,
     out: &mut Text,
 ) -> Result<Option<Part>, NoMemory>
     requires ready { IsReadyAt part plan.now }
@@ -155,8 +151,7 @@ fn put_part(
         Part::Column(index) => put_column_or_end(alloc, plan, index, status, sequence, out),
         Part::Rows => unreachable!(),
         Part::Row => {
-            fill(plan, cells)?;
-            put_row(alloc, cells, sequence, out)?;
+            put_row(alloc, plan, sequence, out)?;
             Ok(Some(Part::Rows))
         }
         Part::End => {
@@ -188,16 +183,29 @@ fn put_column_or_end(
     Ok(Some(Part::Column(index + 1)))
 }
 
-/// Puts the values of the row on which a plan stands into cells.
-fn fill(plan: &Plan, cells: &mut RowCells) -> Result<(), NoMemory>
+/// Appends the packet of the row on which a plan stands.
+fn put_row(alloc: Global, plan: &Plan, sequence: u8, out: &mut Text) -> Result<(), NoMemory>
     requires few { length plan.now.columns ≤ 64 }
     requires on { IsSome plan.now.row }
     requires count { length (row_of plan.now) ≡ length plan.now.columns }
-    ensures { OnOk result (cell_texts cells.new ≡ map text_of (row_of plan.now)) }
+    requires fits { length (value_payload (row_of plan.now)) ≤ most_payload }
+    ensures { OnOk result (out.new ≡ out.old ++ packets.packet sequence (value_payload (row_of plan.now))) }
 {
-    cells.clear();
+    let mut packet = OpenPacket::begin(alloc, out)?;
+    let written = put_cells(plan, &mut packet);
+    packet.end(sequence, written, out)
+}
+
+/// Appends the values of the row on which a plan stands to the payload of a packet.
+fn put_cells(plan: &Plan, packet: &mut OpenPacket) -> Result<(), NoMemory>
+    requires few { length plan.now.columns ≤ 64 }
+    requires on { IsSome plan.now.row }
+    requires count { length (row_of plan.now) ≡ length plan.now.columns }
+    ensures front { packet.new.front ≡ packet.old.front }
+    ensures ok { OnOk result (packet.new.payload ≡ packet.old.payload ++ value_payload (row_of plan.now)) }
+{
     for column in 0..plan.columns().len() as u8 {
-        cells.push(plan.cell(column))?;
+        packet.put_cell(plan.cell(column))?;
     }
     Ok(())
 }
