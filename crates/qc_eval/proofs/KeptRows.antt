@@ -25,7 +25,7 @@ Entry = ℤ × List Value
 -- ---- entries by index
 
 -- the row at an index is that of its entry
-row_of_entry : (rows : List Entry) (i : ℕ) → row_at rows i ≡ (entry_at rows i).1
+pub row_of_entry : (rows : List Entry) (i : ℕ) → row_at rows i ≡ (entry_at rows i).1
 row_of_entry [] i = refl
 row_of_entry (e ∷ es) zero = refl
 row_of_entry (e ∷ es) (suc i) = row_of_entry es i
@@ -69,7 +69,7 @@ kept_rising keep rows = IsStrictlyIncreasing-filter (λ i. keep ((entry_at rows 
 
 -- ---- one row more
 
-kept_more : (keep : Keeping) (rows : List Entry) (n : ℕ)
+pub kept_more : (keep : Keeping) (rows : List Entry) (n : ℕ)
     → kept_indexes keep rows (n + 1) ≡ kept_indexes keep rows n ++ cond (keep ((entry_at rows n).1 ∷ [])) (n ∷ []) []
 kept_more keep rows n =
     let p : ℕ → Bool = λ i. keep ((entry_at rows i).1 ∷ []) in
@@ -95,7 +95,7 @@ row_there t ts i alone h = subst (λ us. AreRows us (i ∷ [])) (sym alone) (h, 
 
 -- ---- rows outside of a range
 
-kept_none : (keep : Keeping) (rows : List Entry) (i n : ℕ) → ((k : ℕ) → i ≤ k → k < i + n → keep (row_at rows k ∷ []) ≡ false) → kept_indexes keep rows (i + n) ≡ kept_indexes keep rows i
+pub kept_none : (keep : Keeping) (rows : List Entry) (i n : ℕ) → ((k : ℕ) → i ≤ k → k < i + n → keep (row_at rows k ∷ []) ≡ false) → kept_indexes keep rows (i + n) ≡ kept_indexes keep rows i
 kept_none keep rows i zero none = let same : i + 0 ≡ i = omega arith in ap (kept_indexes keep rows) same
 kept_none keep rows i (suc n) none =
     let same : i + suc n ≡ i + n + 1 = omega arith in

@@ -1,5 +1,5 @@
 -- What aggregates give over the rows of a window that a mask has.
-use Rattle.std.proofs.Common.{◌≡◌, ℕ, ℤ, pos, zero, suc, ◌+◌, ◌-◌, ◌*◌, ◌<◌, ◌≤◌, min, nat_lt, Bool, true, false, cond, not, true≢false, List, [], ◌∷◌, ◌++◌, length, map, filter, take, drop, get_or, Some, None, refl, sym, ap, ◌∙◌, subst, arith}
+use Rattle.std.proofs.Common.{◌≡◌, ℕ, ℤ, pos, zero, suc, ◌+◌, ◌*◌, ◌<◌, ◌≤◌, min, nat_lt, Bool, true, false, cond, not, true≢false, List, [], ◌∷◌, ◌++◌, length, map, filter, take, drop, get_or, refl, sym, ap, ◌∙◌, subst, arith}
 use Rattle.std.specs.Prelude.{◌&&◌, ◌+ℤ◌, ◌<ℤ◌, int_lt, if◌then◌else◌}
 use Rattle.std.specs.Int.{int_min, int_max}
 use Rattle.std.specs.List.{AllByRecursion, flat_map}
@@ -7,9 +7,8 @@ use Rattle.std.specs.Ordering.{int_cmp, is_lt, is_gt, MatchOrdering}
 use Rattle.std.specs.Cmp.{int_ranks}
 use Rattle.std.specs.declared.cmp.Ordering.{Ordering}
 use Rattle.std.specs.declared.cmp.Ordering.TheVariants.{Less, Equal, Greater}
-use Rattle.std.proofs.lemmas.Bool.{ltb-true}
 use Rattle.std.proofs.lemmas.Bool.Decides.{nat_tests}
-use Rattle.std.proofs.lemmas.List.{get_or-drop, get_or-map, get_or-take, length-drop, length-map, length-take, map-append, take-append-drop}
+use Rattle.std.proofs.lemmas.List.{get_or-drop, get_or-take, length-drop, length-map, length-take, map-append, take-append-drop}
 use Rattle.std.proofs.lemmas.List.Elements.{filter-append}
 use Rattle.qc_types.specs.declared.names.Value.{Value}
 use Rattle.qc_types.specs.declared.names.Value.TheVariants as value
@@ -24,7 +23,7 @@ use Rattle.qc_eval.specs.declared.window.Lane.{Lane}
 use Rattle.qc_eval.specs.declared.window.Window.{Window}
 use Rattle.qc_eval.specs.Folds.{higher, lower}
 use Rattle.qc_eval.specs.Lanes.{Entries, AreMasks, IsLane, IsMask, IsNumeric, IsWindow, cells_of, picked, picked_from, seen, singles, window_rows}
-use Rattle.qc_eval.specs.Ranges.{LeavesOut, no_table}
+use Rattle.qc_eval.specs.Ranges.{LeavesOut}
 use Rattle.qc_eval.specs.Walk.{Keeping, passes, passes_all}
 use Rattle.qc_eval.proofs.LaneSteps.{lt_is, mask_ends, window_many}
 
@@ -153,7 +152,7 @@ greatest_best (x ∷ y ∷ ys) = ap (λ r. if higher r (value.Int x) then r else
 
 -- ---- the window of a table
 
-one_table : (rows : Entries) → flat_map (λ entry. map (λ c. entry.1 ∷ c) ([] ∷ [])) rows ≡ singles rows
+pub one_table : (rows : Entries) → flat_map (λ entry. map (λ c. entry.1 ∷ c) ([] ∷ [])) rows ≡ singles rows
 one_table [] = refl
 one_table (e ∷ es) = ap (λ cs. (e.1 ∷ []) ∷ cs) (one_table es)
 
@@ -176,14 +175,14 @@ filter_parts keep n rows =
     ∙ ap (filter keep) (map-append (λ (e : ℤ × List Value). e.1 ∷ []) (take n rows) (drop n rows))
     ∙ filter-append keep (singles (take n rows)) (singles (drop n rows))
 
-row_taken : (n : ℕ) (rows : Entries) (i : ℕ) → i < length (take n rows) → row_at (take n rows) i ≡ row_at rows i
+pub row_taken : (n : ℕ) (rows : Entries) (i : ℕ) → i < length (take n rows) → row_at (take n rows) i ≡ row_at rows i
 row_taken n rows i low =
     let long = length-take n rows in
     let inside : i < n = omega (arith, low, long) in
     let there : i < length rows = omega (arith, low, long) in
     row_of_entry (take n rows) i (pos 0, []) low ∙ ap (λ (e : ℤ × List Value). e.1) (get_or-take n rows i (pos 0, []) inside) ∙ sym (row_of_entry rows i (pos 0, []) there)
 
-row_dropped : (n : ℕ) (rows : Entries) (i : ℕ) → i < length (drop n rows) → row_at (drop n rows) i ≡ row_at rows (n + i)
+pub row_dropped : (n : ℕ) (rows : Entries) (i : ℕ) → i < length (drop n rows) → row_at (drop n rows) i ≡ row_at rows (n + i)
 row_dropped n rows i low =
     let long = length-drop n rows in
     let there : n + i < length rows = omega (arith, low, long) in
@@ -215,7 +214,7 @@ in_window keep t w r out from to =
         ap (λ row. keep (row ∷ [])) (row_dropped w.count (drop (64 * w.word) t.rows) i low ∙ row_dropped (64 * w.word) t.rows (w.count + i) (omega (arith, low, long)))
         ∙ out.behind (64 * w.word + (w.count + i)) (omega (arith, low, long, all)) (omega (arith, low, long, all, to)))
 
-two_levels : (filters : List (List Test)) → length filters ≡ 2 → length (get_or filters 0 []) ≡ 0 → (c : Combination) → passes_all filters c ≡ passes c (get_or filters 1 [])
+pub two_levels : (filters : List (List Test)) → length filters ≡ 2 → length (get_or filters 0 []) ≡ 0 → (c : Combination) → passes_all filters c ≡ passes c (get_or filters 1 [])
 two_levels [] two none c = absurd (omega (arith, two))
 two_levels (a ∷ []) two none c = absurd (omega (arith, two))
 two_levels ([] ∷ b ∷ []) two none c = last (passes c b)

@@ -1,9 +1,9 @@
 -- Columns in a window, and masks of the rows that pass.
-use Rattle.std.proofs.Common.{◌≡◌, ℕ, ℤ, pos, zero, suc, ◌+◌, ◌-◌, ◌*◌, ◌/◌, ◌%◌, ◌^◌, ◌<◌, ◌≤◌, min, nat_lt, nat_eq, Bool, true, false, cond, not, true≢false, List, [], ◌∷◌, ◌++◌, length, map, take, drop, get_or, set, replicate, Some, None, refl, sym, ap, ◌∙◌, subst, arith, append-nil}
-use Rattle.std.specs.Prelude.{◌&&◌, ◌||◌, ◌==◌, int_lt, int_le}
+use Rattle.std.proofs.Common.{◌≡◌, ℕ, ℤ, pos, zero, suc, ◌+◌, ◌-◌, ◌*◌, ◌/◌, ◌%◌, ◌^◌, ◌<◌, ◌≤◌, nat_lt, nat_eq, Bool, true, false, cond, not, true≢false, List, [], ◌∷◌, ◌++◌, length, map, take, drop, get_or, set, replicate, Some, None, refl, sym, ap, ◌∙◌, subst, arith, append-nil}
+use Rattle.std.specs.Prelude.{◌&&◌, ◌||◌, ◌==◌, int_lt}
 use Rattle.std.specs.Int.{bit_at}
-use Rattle.std.specs.List.{AllByRecursion, list_all, slice_get}
-use Rattle.std.specs.Ordering.{int_cmp, int_eq, is_eq, is_gt, is_lt, ordering_reverse}
+use Rattle.std.specs.List.{AllByRecursion, list_all}
+use Rattle.std.specs.Ordering.{int_cmp, is_gt, is_lt, ordering_reverse}
 use Rattle.std.specs.declared.cmp.Ordering.{Ordering}
 use Rattle.std.specs.declared.cmp.Ordering.TheVariants.{Less, Equal, Greater}
 use Rattle.std.proofs.lemmas.Bool.{ltb-true, ltb-false}
@@ -19,15 +19,13 @@ use Rattle.qc_types.specs.declared.names.Value.TheVariants as value
 use Rattle.qc_sql.specs.declared.statements.Op.{Op}
 use Rattle.qc_sql.specs.declared.statements.Op.TheVariants as op
 use Rattle.qc_sql.specs.declared.tables.Column.{Column}
-use Rattle.qc_sql.specs.declared.tables.Kind.{Kind}
 use Rattle.qc_sql.specs.declared.tables.Kind.TheVariants as kind
-use Rattle.qc_sql.specs.Database.{MapOf, Table, key_value}
+use Rattle.qc_sql.specs.Database.{Table, key_value}
 use Rattle.qc_sql.specs.Rows.{Combination, Truth, both, compared, holds_by, is_null, is_true}
 use Rattle.qc_model.specs.Licence.{kind_fits, row_fits, value_fits}
 use Rattle.qc_model.specs.Sound.{IsRow, IsSoundTable}
 use Rattle.qc_lane.specs.Lanes.{is_set, stands, words_for, EndsAt}
 use Rattle.qc_lane.proofs.BitSteps.{not_greater}
-use Rattle.qc_table.specs.Bits as table_bits
 use Rattle.qc_table.specs.Bits.{bit_of}
 use Rattle.qc_table.specs.Views.{ColumnValues, IsNulls, column_values, kind_at, row_at}
 use Rattle.qc_table.specs.Views as views
@@ -36,7 +34,6 @@ use Rattle.qc_resolve.specs.declared.formula.Formula.TheVariants as formula
 use Rattle.qc_resolve.specs.declared.formula.Place.{Place}
 use Rattle.qc_resolve.specs.declared.test.Test.{Test}
 use Rattle.qc_resolve.specs.Meaning.{truth, value_at}
-use Rattle.qc_eval.specs.declared.range.RowRange.{RowRange}
 use Rattle.qc_eval.specs.declared.window.Lane.{Lane}
 use Rattle.qc_eval.specs.declared.window.Window.{Window}
 use Rattle.qc_eval.specs.Lanes.{Entries, IsLane, IsMask, IsNumeric, IsWindow, Leaves, cells_of, number_of, relation, window_rows}

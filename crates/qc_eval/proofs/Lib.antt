@@ -19,6 +19,7 @@ pub mod Leads
 pub mod KeptRows
 pub mod LaneSteps
 pub mod LaneFolds
+pub mod Marked
 pub mod Stages
 pub mod Rows
 pub mod Plans

@@ -1,5 +1,5 @@
 -- Rows of a table by whole columns, and by a bit for each that passes.
-use Rattle.std.specs.Prelude.{◌≡◌, ℕ, ℤ, pos, ◌+◌, ◌*◌, ◌<◌, ◌≤◌, Bool, ◌&&◌, not, nat_lt, List, [], ◌∷◌, length, map, take, drop, filter, get_or, Option, Some, None, if◌then◌else◌}
+use Rattle.std.specs.Prelude.{◌≡◌, ℕ, ℤ, ◌+◌, ◌*◌, ◌<◌, ◌≤◌, ◌&&◌, not, nat_lt, List, [], ◌∷◌, length, map, take, drop, filter, get_or, Option, Some, None, if◌then◌else◌}
 use Rattle.std.specs.List.{AllByRecursion}
 use Rattle.qc_types.specs.declared.names.Value.{Value}
 use Rattle.qc_types.specs.declared.names.Value.TheVariants as value
@@ -15,6 +15,8 @@ use Rattle.qc_resolve.specs.declared.formula.Formula.{Formula}
 use Rattle.qc_resolve.specs.declared.formula.Formula.TheVariants as formula
 use Rattle.qc_eval.specs.declared.window.Lane.{Lane}
 use Rattle.qc_eval.specs.declared.window.Window.{Window}
+use Rattle.qc_eval.specs.Entries.{kept_indexes}
+use Rattle.qc_eval.specs.Ranges.{no_table}
 use Rattle.qc_eval.specs.Walk.{Keeping}
 
 -- rows under their keys
@@ -61,6 +63,11 @@ pub record AreMasks (count : ℕ) (mask spare : List ℕ) : Type 0 where
   pub words : length mask ≡ words_for count
   pub room : length spare ≡ words_for count
   pub ends : EndsAt mask count
+
+-- the rows that are kept of the only table, by their indexes
+pub record AreKept (ts : List Table) (keep : Keeping) (is : List ℕ) : Type 0 where
+  pub one : length ts ≡ 1
+  pub rows : is ≡ kept_indexes keep (get_or ts 0 no_table).rows (length (get_or ts 0 no_table).rows)
 
 -- of the bits of a mask those are left that stand for rows of which something holds
 abbrev pub Leaves : Entries → Keeping → List ℕ → List ℕ → Type 0

@@ -11,6 +11,7 @@ mod item;
 mod joined;
 mod lane_totals;
 mod leading;
+mod masked;
 mod masks;
 mod matching;
 mod operand;

@@ -13,6 +13,7 @@ ghost use Rattle.qc_eval.specs.Walk.{passes_all};
 ghost use Rattle.qc_table.specs.Views.{row_at};
 
 use crate::filters::filters_of;
+use crate::masked::few_rows;
 use crate::range::{RowRange, range_of};
 use crate::scan::passes_each;
 use crate::scene::Scene;
@@ -71,8 +72,29 @@ fn tested_rows<L: Ledger>(
     )
 }
 
-/// The rows that pass the tests of none and of one row, where the table is the only one.
+/// The rows that pass the tests of none and of one row, where the table is the only one: by whole columns of numbers where only these are compared with
+/// numbers, and else one after another.
 fn rows_in<L: Ledger>(
+    alloc: Global,
+    version: &TableVersion,
+    tables: &[TableVersion],
+    filters: &[Tests],
+    sides: &mut Sides,
+    steps: &mut Steps<L>,
+) -> Result<RowNumbers, NoMemory>
+    requires alone { tables.now ≡ version.now ∷ [] }
+    requires levels { length filters.now ≡ 2 }
+    ensures { IfOk result (λ is. is ≡ kept_indexes (passes_all filters.now) version.now.rows (length version.now.rows)) }
+{
+    let few = few_rows(alloc, tables, filters, u64::MAX, sides, steps)?;
+    match few {
+        Some(rows) => Ok(rows),
+        None => walked_rows(alloc, version, tables, filters, sides, steps),
+    }
+}
+
+/// The same, one row after another.
+fn walked_rows<L: Ledger>(
     alloc: Global,
     version: &TableVersion,
     tables: &[TableVersion],

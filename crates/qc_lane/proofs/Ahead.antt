@@ -32,7 +32,7 @@ none_set : (n : ℕ) → n ≡ 0 → (n == 1) ≡ false
 none_set n is = ap (λ m. m == 1) is
 
 -- the bit of a word is that of the mask
-bit_here : (mask : List ℕ) (k j : ℕ) → j < 64 → is_set mask (64 * k + j) ≡ (bit_at (get_or mask k 0) j == 1)
+pub bit_here : (mask : List ℕ) (k j : ℕ) → j < 64 → is_set mask (64 * k + j) ≡ (bit_at (get_or mask k 0) j == 1)
 bit_here mask k j low =
     let row : (64 * k + j) / 64 ≡ k = omega (arith, low) in
     let place : (64 * k + j) % 64 ≡ j = omega (arith, low) in

@@ -163,10 +163,10 @@ one_left_out mask xs i some within set =
 
 -- the next value whose bit is set, behind those whose bit isn't
 
-kept_here : (mask : List ℕ) (xs : List ℤ) (i : ℕ) → i < length xs → is_set mask i ≡ true → masked_from i mask (drop i xs) ≡ get_or xs i (pos 0) ∷ masked_from (i + 1) mask (drop (i + 1) xs)
+pub kept_here : (mask : List ℕ) (xs : List ℤ) (i : ℕ) → i < length xs → is_set mask i ≡ true → masked_from i mask (drop i xs) ≡ get_or xs i (pos 0) ∷ masked_from (i + 1) mask (drop (i + 1) xs)
 kept_here mask xs i within set = ap (masked_from i mask) (drop_more xs i (pos 0) within) ∙ rw set refl
 
-left_out_here : (mask : List ℕ) (xs : List ℤ) (i : ℕ) → i < length xs → is_set mask i ≡ false → masked_from i mask (drop i xs) ≡ masked_from (i + 1) mask (drop (i + 1) xs)
+pub left_out_here : (mask : List ℕ) (xs : List ℤ) (i : ℕ) → i < length xs → is_set mask i ≡ false → masked_from i mask (drop i xs) ≡ masked_from (i + 1) mask (drop (i + 1) xs)
 left_out_here mask xs i within set = ap (masked_from i mask) (drop_more xs i (pos 0) within) ∙ rw set refl
 
 left_out : (mask : List ℕ) (xs : List ℤ) (n from : ℕ) → from + n ≤ length xs → AreClear mask from (from + n) → masked_from from mask (drop from xs) ≡ masked_from (from + n) mask (drop (from + n) xs)

@@ -1,44 +1,50 @@
--- The least and the greatest of what was seen and of what is to come.
-use Rattle.std.proofs.Common.{◌≡◌, ℤ, Option, Some, None, refl, ap, arith}
+-- The least and the greatest of a number and of others, which are taken one by one.
+use Rattle.std.proofs.Common.{◌≡◌, ℤ, Option, Some, None, List, [], ◌∷◌, ◌++◌, false, refl, sym, ap, ◌∙◌, arith}
+use Rattle.std.specs.Prelude.{int_lt}
 use Rattle.std.specs.Int.{int_min, int_max}
 use Rattle.std.proofs.lemmas.Int.{ints}
-use Rattle.qc_lane.specs.Lanes.{or_smaller, or_greater}
+use Rattle.qc_lane.specs.Lanes.{greatest, least, or_smaller, or_greater}
 
-min_comm : (x y : ℤ) → int_min x y ≡ int_min y x
-min_comm x y = grind (arith, ints)
+-- ---- the least
 
-min_assoc : (x y z : ℤ) → int_min y (int_min x z) ≡ int_min (int_min x y) z
+min_assoc : (x y z : ℤ) → int_min x (int_min y z) ≡ int_min (int_min x y) z
 min_assoc x y z = grind (arith, ints)
 
-max_comm : (x y : ℤ) → int_max x y ≡ int_max y x
-max_comm x y = grind (arith, ints)
+min_same : (x : ℤ) → int_min x x ≡ x
+min_same x = grind (arith, ints)
 
-max_assoc : (x y z : ℤ) → int_max y (int_max x z) ≡ int_max (int_max x y) z
+pub min_first : (m x : ℤ) (rest : Option ℤ) → or_smaller m (Some (or_smaller x rest)) ≡ or_smaller (int_min m x) rest
+min_first m x None = refl
+min_first m x (Some y) = min_assoc m x y
+
+pub min_again : (x : ℤ) (rest : Option ℤ) → or_smaller x (Some (or_smaller x rest)) ≡ or_smaller x rest
+min_again x rest = min_first x x rest ∙ ap (λ y. or_smaller y rest) (min_same x)
+
+pub not_less : (m x : ℤ) → int_lt x m ≡ false → int_min m x ≡ m
+not_less m x is = grind (arith, ints, is)
+
+pub least_parts : (m : ℤ) (xs ys : List ℤ) → or_smaller m (least (xs ++ ys)) ≡ or_smaller (or_smaller m (least xs)) (least ys)
+least_parts m [] ys = refl
+least_parts m (x ∷ xs) ys = min_first m x (least (xs ++ ys)) ∙ (least_parts (int_min m x) xs ys ∙ ap (λ y. or_smaller y (least ys)) (sym (min_first m x (least xs))))
+
+-- ---- the greatest
+
+max_assoc : (x y z : ℤ) → int_max x (int_max y z) ≡ int_max (int_max x y) z
 max_assoc x y z = grind (arith, ints)
 
--- the smaller of what was found and of the rest's
-abbrev pub and_smaller : Option ℤ → Option ℤ → Option ℤ
-and_smaller None rest = rest
-and_smaller (Some x) rest = Some (or_smaller x rest)
+max_same : (x : ℤ) → int_max x x ≡ x
+max_same x = grind (arith, ints)
 
-abbrev pub and_greater : Option ℤ → Option ℤ → Option ℤ
-and_greater None rest = rest
-and_greater (Some x) rest = Some (or_greater x rest)
+pub max_first : (m x : ℤ) (rest : Option ℤ) → or_greater m (Some (or_greater x rest)) ≡ or_greater (int_max m x) rest
+max_first m x None = refl
+max_first m x (Some y) = max_assoc m x y
 
-pub smaller_moved : (x : ℤ) (found rest : Option ℤ) → and_smaller found (Some (or_smaller x rest)) ≡ and_smaller (Some (or_smaller x found)) rest
-smaller_moved x None rest = refl
-smaller_moved x (Some y) None = ap (λ z. Some z) (min_comm y x)
-smaller_moved x (Some y) (Some z) = ap (λ w. Some w) (min_assoc x y z)
+pub max_again : (x : ℤ) (rest : Option ℤ) → or_greater x (Some (or_greater x rest)) ≡ or_greater x rest
+max_again x rest = max_first x x rest ∙ ap (λ y. or_greater y rest) (max_same x)
 
-pub greater_moved : (x : ℤ) (found rest : Option ℤ) → and_greater found (Some (or_greater x rest)) ≡ and_greater (Some (or_greater x found)) rest
-greater_moved x None rest = refl
-greater_moved x (Some y) None = ap (λ z. Some z) (max_comm y x)
-greater_moved x (Some y) (Some z) = ap (λ w. Some w) (max_assoc x y z)
+pub not_more : (m x : ℤ) → int_lt m x ≡ false → int_max m x ≡ m
+not_more m x is = grind (arith, ints, is)
 
-pub smaller_last : (found : Option ℤ) → and_smaller found None ≡ found
-smaller_last None = refl
-smaller_last (Some x) = refl
-
-pub greater_last : (found : Option ℤ) → and_greater found None ≡ found
-greater_last None = refl
-greater_last (Some x) = refl
+pub greatest_parts : (m : ℤ) (xs ys : List ℤ) → or_greater m (greatest (xs ++ ys)) ≡ or_greater (or_greater m (greatest xs)) (greatest ys)
+greatest_parts m [] ys = refl
+greatest_parts m (x ∷ xs) ys = max_first m x (greatest (xs ++ ys)) ∙ (greatest_parts (int_max m x) xs ys ∙ ap (λ y. or_greater y (greatest ys)) (sym (max_first m x (greatest xs))))

@@ -6,7 +6,7 @@ ghost use Rattle.qc_lane.specs.SetBits.{AreClear, IsAhead};
 
 /// The bits of a mask that are set, from the lowest on.
 #[derive(Drop)]
-pub(crate) struct SetBits {
+pub struct SetBits {
     /// The word that is being read, and which one it is.
     word: u64,
     index: usize,
@@ -15,7 +15,8 @@ pub(crate) struct SetBits {
 }
 
 impl SetBits {
-    pub(crate) fn of(mask: &[u64]) -> SetBits
+    /// All bits of a mask that are set.
+    pub fn of(mask: &[u64]) -> SetBits
         ensures ahead { IsAhead mask.now result }
         ensures from { result.from ≡ 0 }
     {
@@ -27,7 +28,7 @@ impl SetBits {
     }
 
     /// The next bit of this mask that is set, if any. Constant time, beside the words without such bits that it passes.
-    pub(crate) fn next(&mut self, mask: &[u64]) -> Option<usize>
+    pub fn next(&mut self, mask: &[u64]) -> Option<usize>
         requires few { length mask.now ≤ 1048576 }
         requires ahead { IsAhead mask.now self.old }
         ensures ahead { IsAhead mask.now self.new }

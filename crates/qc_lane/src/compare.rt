@@ -21,7 +21,7 @@ pub enum Cmp {
 }
 
 /// How many values are compared at a time, which is how many bits a word of a mask has.
-const LANES: usize = 64;
+pub(crate) const LANES: usize = 64;
 
 /// Sets in `out` the bit of each value that isn't NULL and stands in the relation to the bound, and clears all other bits. `nulls` has a set bit for each
 /// value that is NULL; its bits behind the last value may be anything. Linear in how many values there are.
@@ -43,7 +43,7 @@ fn without(word: u64, other: u64) -> u64
 }
 
 /// A bit for each of the first 64 values, set where it stands in the relation to the bound.
-fn compared(values: &[i64], op: Cmp, bound: i64) -> u64
+pub(crate) fn compared(values: &[i64], op: Cmp, bound: i64) -> u64
     ensures { (i : ℕ) → i < 64 → (bit_at result i == 1) ≡ (nat_lt i (length values.now) && lanes.stands op (slice_index_or values.now i (pos 0)) bound) }
 {
     if values.len() < LANES {

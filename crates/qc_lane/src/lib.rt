@@ -9,5 +9,6 @@ mod masks;
 mod tests;
 
 pub use aggregates::{max_masked, min_masked, sum_masked};
+pub use bits::SetBits;
 pub use compare::{Cmp, compare_mask};
 pub use masks::{mask_and, mask_count};

@@ -65,7 +65,7 @@ SELECT 1 FROM n a, n b, n c, n d, n e, n f, n g, n h, n i
     1116 Too many tables
 "#;
 
-/// Aggregates over rows whose bits begin, end or stand alone in a word of 64.
+/// Aggregates and rows whose bits begin, end or stand alone in a word of 64.
 pub const WORDS: &str = r#"
 SELECT COUNT(*), SUM(id), MIN(id), MAX(id) FROM k63 WHERE id <> 7
     COUNT(*), SUM(id), MIN(id), MAX(id): 62, 2009, 1, 63
@@ -97,6 +97,43 @@ SELECT COUNT(*), SUM(id) FROM q WHERE id > 256
     COUNT(*), SUM(id): 0, NULL
 SELECT COUNT(*), SUM(id) FROM q WHERE id BETWEEN 200 AND 100
     COUNT(*), SUM(id): 0, NULL
+; few rows
+SELECT id FROM k64 WHERE id <> 7 AND id > 60
+    id: 61 | 62 | 63 | 64
+SELECT id FROM k65 WHERE id > 64
+    id: 65
+SELECT id FROM k64 WHERE id < 1
+    id:
+SELECT id FROM q WHERE id BETWEEN 62 AND 66
+    id: 62 | 63 | 64 | 65 | 66
+SELECT id FROM q WHERE id > 126 AND id <> 128 AND id <= 130
+    id: 127 | 129 | 130
+SELECT id FROM q WHERE 254 <= id AND id < 9223372036854775807
+    id: 254 | 255 | 256
+SELECT id FROM q WHERE id > 100 AND id < 110 LIMIT 5
+    id: 101 | 102 | 103 | 104 | 105
+SELECT id FROM q WHERE id > 100 AND id < 110 LIMIT 4
+    id: 101 | 102 | 103 | 104
+SELECT id FROM q WHERE id > 100 AND id < 110 LIMIT 2, 5
+    id: 103 | 104 | 105 | 106 | 107
+SELECT id FROM q WHERE id > 100 AND id < 110 LIMIT 8, 5
+    id: 109
+SELECT id FROM q WHERE id > 100 AND id < 110 LIMIT 9, 5
+    id:
+SELECT id FROM q WHERE id > 100 AND id < 110 ORDER BY id DESC LIMIT 3
+    id: 109 | 108 | 107
+SELECT id FROM q WHERE id > 100 AND id < 110 AND 1 = 0
+    id:
+SELECT id, LENGTH(id) FROM q WHERE id BETWEEN 99 AND 100
+    id, LENGTH(id): 99, 2 | 100, 3
+; as many as are gathered, and one more
+SELECT id FROM q WHERE id > 240
+    id: 241 | 242 | 243 | 244 | 245 | 246 | 247 | 248 | 249 | 250 | 251 | 252 | 253 | 254 | 255 | 256
+SELECT id FROM q WHERE id > 239
+    id: 240 | 241 | 242 | 243 | 244 | 245 | 246 | 247 | 248 | 249 | 250 | 251 | 252 | 253 | 254 | 255 | 256
+; all rows
+SELECT id FROM m WHERE id > 0
+    id: 1 | 2 | 3 | 4 | 5 | 6 | 7 | 8 | 9 | 10 | 11 | 12 | 13 | 14 | 15 | 16 | 17 | 18 | 19 | 20 | 21 | 22 | 23 | 24 | 25 | 26 | 27 | 28 | 29 | 30 | 31 | 32
 "#;
 
 /// Selects of 2^40 combinations that end at once, since few of these are walked.

@@ -3,7 +3,6 @@ use Rattle.qc_types.specs.declared.names.Value.TheVariants as value
 use Rattle.qc_resolve.specs.declared.resolved.Fold.TheVariants as aggregate
 use Rattle.qc_resolve.specs.Meaning.{fold_value, value_at}
 use Rattle.qc_eval.specs.Lanes.{AreMasks, cells_of, singles, window_rows}
-use Rattle.qc_eval.specs.Values.{stored_value}
 use Rattle.qc_eval.proofs.LaneFolds.{seen_by_mask}
 use Rattle.qc_eval.proofs.LaneSteps.{lane_count, lane_words}
 use Rattle.qc_eval.proofs.Ranges.{column_is}

@@ -1,5 +1,4 @@
-use Rattle.std.proofs.Common.{◌≡◌, length, sym, subst, arith}
-use Rattle.qc_lane.specs.Lanes.{words_for}
+use Rattle.std.proofs.Common.{sym, subst, arith}
 use Rattle.qc_eval.specs.Lanes.{IsMask, window_rows}
 use Rattle.qc_eval.specs.Walk.{passes}
 use Rattle.qc_eval.proofs.LaneFolds.{window_masks}

@@ -1,4 +1,4 @@
-use Rattle.std.proofs.Common.{◌∙◌, refl, subst, arith}
+use Rattle.std.proofs.Common.{refl, subst, arith}
 use Rattle.std.proofs.lemmas.List.{take_all}
 use Rattle.qc_eval.specs.Lanes.{Leaves, window_rows}
 use Rattle.qc_eval.specs.Walk.{passes}

@@ -1,4 +1,4 @@
-use Rattle.std.proofs.Common.{◌≡◌, ℕ, pos, nat_lt, not, length, get_or, ◌∙◌, w64}
+use Rattle.std.proofs.Common.{pos, nat_lt, not, length, get_or, ◌∙◌, w64}
 use Rattle.std.specs.Prelude.{◌&&◌}
 use Rattle.std.proofs.lemmas.Int.{to_z-of_z}
 use Rattle.qc_lane.specs.Lanes.{is_set, stands}

@@ -1,5 +1,5 @@
 -- One more word.
-use Rattle.std.proofs.Common.{◌≡◌, ℕ, ◌*◌, ◌<◌, ◌≤◌, ◌∙◌, ap, arith, get_or, length, not, sym}
+use Rattle.std.proofs.Common.{ℕ, ◌∙◌, ap, arith, not, sym}
 use Rattle.std.specs.Prelude.{◌&&◌}
 use Rattle.qc_lane.specs.Lanes.{is_set}
 use Rattle.qc_lane.proofs.BitSteps.{all_words, word_set}

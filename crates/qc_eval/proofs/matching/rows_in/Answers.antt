@@ -1,28 +1,18 @@
-use Rattle.std.proofs.Common.{◌∙◌, arith}
+use Rattle.std.proofs.Common.{◌∙◌, ap, arith, get_or, length}
+use Rattle.qc_eval.specs.Entries.{kept_indexes}
+use Rattle.qc_eval.specs.Lanes.{AreKept}
+use Rattle.qc_eval.specs.Ranges.{no_table}
 use Rattle.qc_eval.specs.Walk.{passes_all}
-use Rattle.qc_eval.proofs.KeptRows.{none_before, none_behind, only_range, row_kept, row_left, row_there}
 use Rattle.qc_eval.proofs.matching.rows_in.Goals as goal
-use Rattle.qc_eval.proofs.matching.rows_in.Goals.{then-keeps+in_ok-push, else-keeps}
 
-pub loop-row-init : goal.loop-row-init
-loop-row-init g c =
-    c.new-kept.ensures
-    ∙ none_before (passes_all c.args.filters.now) c.args.version.now.rows c.range_in-range.result c.min-from.result (only_range (passes_all c.args.filters.now) c.args.version.now c.args.tables.now c.range_in-range.result c.requires.alone c.range_in-range.ensures)
-    (let v = c.count.ensures.value in omega (arith, c.min-from.ensures, c.min-end.ensures, v)) (omega (arith, c.min-from.ensures))
+pub few_rows-requires : goal.few_rows-requires
+few_rows-requires g c =
+    let one = ap length c.requires.alone in
+    let two = c.requires.levels in
+    omega (arith, one, two)
 
-pub keeps-requires : goal.keeps-requires
-keeps-requires g c = row_there c.args.version.now c.args.tables.now c.loop-row.row c.requires.alone (omega (arith, c.count.ensures.value))
-
-pub loop-row-preserved : goal.loop-row-preserved
-loop-row-preserved g c =
-    elim c.if-keeps.branch [
-      | then-keeps+in_ok-push w ↦ row_kept (passes_all c.args.filters.now) c.args.version.now c.args.tables.now c.loop-row.row c.loop-row.kept c.if-keeps.kept c.requires.alone w.if-keeps.ensures c.loop-row.invariant (w.kept-is ∙ w.in_ok-push.ensures.ok)
-      | else-keeps w ↦ rw w.kept-is (row_left (passes_all c.args.filters.now) c.args.version.now c.args.tables.now c.loop-row.row c.loop-row.kept c.requires.alone w.if-keeps.ensures c.loop-row.invariant)
-    ]
-
-pub returns : goal.returns
-returns g c =
-    let v = c.count.ensures.value in
-    let up = c.loop-row.auto.row-end (omega (arith, c.min-from.ensures)) in
-    none_behind (passes_all c.args.filters.now) c.args.version.now.rows c.range_in-range.result c.loop-row.row c.loop-row.kept (only_range (passes_all c.args.filters.now) c.args.version.now c.args.tables.now c.range_in-range.result c.requires.alone c.range_in-range.ensures)
-    (omega (arith, up, c.min-end.ensures, v)) (omega (arith, c.min-end.ensures, v, c.loop-row-test.false)) c.loop-row.invariant
+pub returns-in-Some : goal.returns-in-Some
+returns-in-Some g c =
+    let keep = passes_all c.args.filters.now in
+    let kept : AreKept c.args.tables.now keep c.in-Some.rows = rw c.in-Some.is at c.in_ok-few.ensures in
+    kept.rows ∙ ap (λ ts. kept_indexes keep (get_or ts 0 no_table).rows (length (get_or ts 0 no_table).rows)) c.requires.alone

@@ -1,15 +1,6 @@
-use Rattle.std.proofs.Common.{◌≡◌, ◌-◌, ◌≤◌, drop, length}
-use Rattle.qc_lane.specs.Lanes.{greatest, masked, masked_from}
-use Rattle.qc_lane.specs.SetBits.{IsAhead}
-use Rattle.qc_lane.proofs.Extremes.{and_greater}
+use Rattle.std.proofs.Common.{◌≡◌, ◌*◌, drop, pos, slice_index_or}
+use Rattle.qc_lane.specs.Lanes.{greatest, masked, masked_from, or_greater}
 use Rattle.qc_lane.proofs.aggregates.max_masked.Given as goal
 
-abbrev pub invariant-loop-i : goal.invariant-loop-i
-invariant-loop-i l = record {
-  ahead : IsAhead l.mask l.bits;
-  within : l.bits.from ≤ length l.values;
-  greatest : and_greater l.greatest (greatest (masked_from l.bits.from l.mask (drop l.bits.from l.values))) ≡ greatest (masked l.mask l.values);
-}
-
-abbrev pub decreases-loop-i : goal.decreases-loop-i
-decreases-loop-i l = length l.values - l.bits.from
+abbrev pub invariant-loop-k : goal.invariant-loop-k
+invariant-loop-k l = or_greater l.greatest (greatest (masked_from (64 * l.k) l.mask (drop (64 * l.k) l.values))) ≡ or_greater (slice_index_or l.values l.first (pos 0)) (greatest (masked l.mask l.values))

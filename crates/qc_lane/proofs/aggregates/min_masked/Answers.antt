@@ -1,37 +1,42 @@
--- The next value whose bit is set.
-use Rattle.std.proofs.Common.{◌≡◌, ◌∙◌, ◌+◌, ap, arith, drop, sym, rules, w64, to_z, of_z, Some, FitsSigned, get_or, pos, []}
+-- The values of one more word.
+use Rattle.std.proofs.Common.{◌≡◌, ◌∙◌, ◌+◌, ◌*◌, ◌∷◌, [], Some, ap, arith, drop, take, sym, rules, w64, to_z, of_z, get_or, pos}
 use Rattle.std.proofs.lemmas.Int.{to_z-of_z}
-use Rattle.qc_lane.specs.Lanes.{masked_from, least, or_smaller}
+use Rattle.qc_lane.specs.Lanes.{least, masked_from, or_smaller}
 use Rattle.qc_lane.proofs.BitSteps.{is_value, next_kept, none_kept}
-use Rattle.qc_lane.proofs.Extremes.{and_smaller, smaller_moved, smaller_last}
+use Rattle.qc_lane.proofs.Extremes.{min_again}
+use Rattle.qc_lane.proofs.Words.{no_more, smaller_word}
 use Rattle.qc_lane.proofs.aggregates.min_masked.Goals as goal
 
-pub loop-i-preserved : goal.loop-i-preserved
-loop-i-preserved c =
-    let mask = c.args.mask.now in
+pub returns-in_err-first : goal.returns-in_err-first
+returns-in_err-first c =
+    let none = rw c.of.ensures.from at c.in_err-first.ensures.none in
+    c.from_residual.ensures ∙ ap least (sym (none_kept c.args.mask.now c.args.values.now 0 none))
+
+pub loop-k-preserved : goal.loop-k-preserved
+loop-k-preserved c =
     let values = c.args.values.now in
-    let i = c.in-Some.i in
-    let (come, set, clear, from) = c.in-Some.ensures.some in
-    let within = is_value mask values i c.requires.ends set in
-    let x = get_or values i (pos 0) in
-    let rest = least (masked_from (i + 1) mask (drop (i + 1) values)) in
-    let next = next_kept mask values c.loop-i.bits.from i come within clear set in
-    let fits : FitsSigned w64 x = search rules in
-    let is : c.smaller.result ≡ or_smaller x c.loop-i.least = rw (to_z-of_z w64 x fits) at c.smaller.ensures in
-    let whole : to_z w64 (of_z w64 c.smaller.result) ≡ c.smaller.result = to_z-of_z w64 c.smaller.result (search rules) in
-    record {
-      ahead = c.in-Some.ensures.ahead;
-      within = omega (arith, from, within);
-      least = (λ j. Some (or_smaller (whole j) (least (masked_from (from j) mask (drop (from j) values)))))
-          ∙ (ap (λ y. Some (or_smaller y rest)) is
-          ∙ (sym (smaller_moved x c.loop-i.least rest)
-          ∙ (ap (λ l. and_smaller c.loop-i.least (least l)) (sym next) ∙ c.loop-i.invariant.least)));
-    }
+    let mask = c.args.mask.now in
+    let k = c.loop-k.k in
+    let m = to_z w64 c.loop-k.least-bits in
+    let here = least (masked_from 0 (get_or mask k 0 ∷ []) (take 64 (drop (64 * k) values))) in
+    let rest = least (masked_from (64 * (k + 1)) mask (drop (64 * (k + 1)) values)) in
+    let all = or_smaller (get_or values c.in_ok-first.first (pos 0)) (least (masked_from 0 mask values)) in
+    let is : c.word_least-least.result ≡ or_smaller m here = rw c.values_of.ensures.values at c.word_least-least.ensures in
+    let whole : to_z w64 (of_z w64 c.word_least-least.result) ≡ c.word_least-least.result = to_z-of_z w64 c.word_least-least.result (search rules) in
+    ap (λ y. or_smaller y rest) (whole ∙ is) ∙ smaller_word mask values k m all c.loop-k.invariant
 
 pub returns : goal.returns
 returns c =
-    let mask = c.args.mask.now in
     let values = c.args.values.now in
-    let from = c.loop-i.bits.from in
-    let none : masked_from from mask (drop from values) ≡ [] = none_kept mask (drop from values) from c.in_default.ensures.none in
-    sym (smaller_last c.loop-i.least) ∙ (ap (λ l. and_smaller c.loop-i.least (least l)) (sym none) ∙ c.loop-i.invariant.least)
+    let mask = c.args.mask.now in
+    let k = c.loop-k.k in
+    let i = c.in_ok-first.first in
+    let x = get_or values i (pos 0) in
+    let m = to_z w64 c.loop-k.least-bits in
+    let (come, set, clear, from) = rw c.of.ensures.from at c.in_ok-first.ensures.some in
+    let within = is_value mask values i c.requires.ends set in
+    let rest = least (masked_from (i + 1) mask (drop (i + 1) values)) in
+    let all : least (masked_from 0 mask values) ≡ Some (or_smaller x rest) = ap least (next_kept mask values 0 i come within clear set) in
+    let none : masked_from (64 * k) mask (drop (64 * k) values) ≡ [] = no_more mask values (64 * k) (omega arith) in
+    let last : m ≡ or_smaller x (least (masked_from 0 mask values)) = ap (λ l. or_smaller m (least l)) (sym none) ∙ c.loop-k.invariant in
+    ap (λ y. Some y) (last ∙ (ap (or_smaller x) all ∙ min_again x rest)) ∙ sym all
