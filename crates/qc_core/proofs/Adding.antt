@@ -464,11 +464,7 @@ module _ (who : Who) (serial : ℕ) (key : List ℕ) (tables : List TableName) (
             let v_is = is ∙ ap (with_event ev) a.server in
             record {
               chain = name;
+              free = a.free;
               entries = ap (λ (x : Parts). x.dir.entries) v_is ∙ (a.dir.entries ∙ ap (λ ts. s.dir.entries ++ new_entry serial key ts t.text name ∷ []) same);
-              begun = subst (λ (x : Parts). chain_at name x.chains ≡ Some (whole_chain (t.first ∷ []))) (sym v_is) own_chain;
-              tiles = ap (λ (x : Parts). x.tiles) v_is;
-              tasks = ap (λ (x : Parts). x.tasks.items) v_is;
-              options = ap (λ (x : Parts). x.options) v_is;
-              database = ap (λ (x : Parts). x.database) v_is;
-              connected = ap (λ (x : Parts). x.connected) v_is;
+              server = v_is ∙ (λ i. record so { journal = (sym v_is i).journal; dir = (sym v_is i).dir });
             }

@@ -21,6 +21,8 @@ use Rattle.qc_model.specs.Needs.{PruneHasNeed}
 use Rattle.qc_laws.specs.history.Runs.{are_distinct, serials}
 use Rattle.qc_laws.proofs.history.Events.{cache_push, lawful_back}
 use Rattle.qc_laws.proofs.history.Serials.{serials_apart, both_true, opposite, neither}
+use Rattle.qc_sql.specs.Database.{same_table}
+use Rattle.qc_dir.specs.declared.tables.TableBlock.{TableBlock}
 use Rattle.qc_tiles.specs.declared.blocks.Block.{Block}
 use Rattle.qc_tiles.specs.declared.blocks.Tile.{Tile}
 use Rattle.qc_tiles.specs.Tiles.{handed_out, taken, after_take, largest_free}
@@ -34,7 +36,8 @@ use Rattle.qc_sound.proofs.Handed.{times_permuted, permuted}
 use Rattle.qc_sound.proofs.Holding.{hold_step}
 use Rattle.qc_sound.proofs.Leaves.{one_less}
 use Rattle.qc_core.specs.declared.parts.Parts.{Parts}
-use Rattle.qc_core.specs.Whole.{Named, plain, IsWhole}
+use Rattle.qc_core.specs.Whole.{Named, plain, IsWhole, with_event}
+use Rattle.qc_core.specs.Leaves.{AreSorted, has_task, left_by}
 use Rattle.qc_core.specs.Prunes.{MayPruneOne, PrunesOne}
 use Rattle.qc_core.specs.Allocates.{MayAllocate, Prunes, IsPruned, holding, Allocates}
 use Rattle.qc_core.proofs.Taking.{took}
@@ -105,30 +108,35 @@ may_prune need old now u g small = record {
   held = held_small now.options now.journal.events need u.moment.held (subst (λ o. AllByRecursion (λ (b : Block). b.words ≤ unit_words o + 63) u.moment.held) (sym g.options) u.held);
 }
 
-pub prunes_so : (need : ℕ) (s t : Parts) (v : MayPruneOne need s) → PrunesOne need s t v → Prunes need s t
+-- nothing is kept for no table
+keeps_none : (freed : List TableBlock) → AreSorted [] [] freed
+keeps_none freed = record { own = tt; foreign = none freed }
+  where
+    none : (bs : List TableBlock) → AllByRecursion (λ b. list_any (same_table b.table) [] ≡ false) bs
+    none [] = tt
+    none (b ∷ bs) = (refl, none bs)
+
+pub prunes_so : (need : ℕ) (s t : Parts) (v : MayPruneOne need s) → PrunesOne need s t v → Prunes [] need s t
 prunes_so need s t v p = record {
   small = v.small;
   serial = p.serial;
   oldest = p.oldest;
-  events = p.events;
-  options = p.options;
-  database = p.database;
-  connected = p.connected;
-  running = p.running;
-  tasks = p.tasks;
-  alloc = p.alloc;
-  kept = [];
   may = p.may;
   mid = p.mid;
-  left = record { others = p.freed; freed = p.freed; removed = p.left.removed; parts = IsPermutation-refl p.freed; server = p.left.server };
+  left = record { kept = []; others = p.freed; freed = p.freed; removed = p.left.removed; parts = IsPermutation-refl p.freed; sorts = keeps_none p.freed; server = p.left.server };
   server = p.server;
+  tasks = p.tasks;
 }
+
+-- what went, and what stayed
+pub one_is : (need : ℕ) (s t : Parts) (v : MayPruneOne need s) → (p : PrunesOne need s t v) → t ≡ with_event (event.Prune p.serial need (largest_free s.tiles)) (left_by p.mid.dir (has_task p.serial s) p.may.entry p.may.held p.freed s)
+one_is need s t v p = p.server ∙ ap (with_event (event.Prune p.serial need (largest_free s.tiles))) p.left.server
 
 -- the entry that was pruned was complete
 pub was_complete : (need : ℕ) (s t : Parts) (v : MayPruneOne need s) → (p : PrunesOne need s t v) → IsComplete s.journal.events p.serial
 was_complete need s t v p =
     let e = event.Prune p.serial need (largest_free s.tiles) in
-    let lawful : IsLawful t.options (s.journal.events ++ e ∷ []) = subst (IsLawful t.options) p.events p.whole.sound.journal.lawful in
+    let lawful : IsLawful t.options (s.journal.events ++ e ∷ []) = subst (IsLawful t.options) (ap (λ (x : Parts). x.journal.events) (one_is need s t v p)) p.whole.sound.journal.lawful in
     (lawful_back t.options [] s.journal.events (e ∷ []) lawful).0.whole
 
 pub going_on : (need : ℕ) (old now new : Parts) (u : MayAllocate need old) (g : Going need u.moment u.words old now) (small : largest_free now.tiles < need) → PrunesOne need now new (may_prune need old now u g small) → Going need u.moment u.words old new
@@ -137,8 +145,10 @@ going_on need old now new u g small p =
     let e = event.Prune p.serial need (largest_free now.tiles) in
     let whole = was_complete need now new v p in
     let apart = serials_apart now.options now.journal.events g.pruned.whole.sound.journal.lawful in
+    let events : new.journal.events ≡ now.journal.events ++ e ∷ [] = ap (λ (x : Parts). x.journal.events) (one_is need now new v p) in
+    let options : new.options ≡ now.options = ap (λ (x : Parts). x.options) (one_is need now new v p) in
     let stays : list_any (λ (y : Cached). not y.complete) (cache now.journal.events) ≡ true → list_any (λ (y : Cached). not y.complete) (cache new.journal.events) ≡ true =
-    λ h. ap (λ j. list_any (λ (y : Cached). not y.complete) (cache j)) p.events ∙ (ap (list_any (λ (y : Cached). not y.complete)) (cache_push now.journal.events e) ∙ incomplete_stays p.serial (cache now.journal.events) apart whole h) in
+    λ h. ap (λ j. list_any (λ (y : Cached). not y.complete) (cache j)) events ∙ (ap (list_any (λ (y : Cached). not y.complete)) (cache_push now.journal.events e) ∙ incomplete_stays p.serial (cache now.journal.events) apart whole h) in
     record {
       pruned = record {
         count = suc g.pruned.count;
@@ -146,8 +156,8 @@ going_on need old now new u g small p =
         names = p.names;
         whole = p.whole;
       };
-      needs = subst (λ o. PruneHasNeed o new.journal.events need u.moment.next) (sym p.options) (need_stays now.options now.journal.events new.journal.events need u.moment.next stays g.needs);
-      options = p.options ∙ g.options;
+      needs = subst (λ o. PruneHasNeed o new.journal.events need u.moment.next) (sym options) (need_stays now.options now.journal.events new.journal.events need u.moment.next stays g.needs);
+      options = options ∙ g.options;
     }
 
 some_entry : (n : ℕ) (ys : List Cached) → IsSomeAnd (entry_of n ys) (λ y. y.complete ≡ true) → (y : Cached) × (entry_of n ys ≡ Some y)
@@ -161,7 +171,8 @@ pub going_less : (need : ℕ) (now new : Parts) (v : MayPruneOne need now) → P
 going_less need now new v p =
     let e = event.Prune p.serial need (largest_free now.tiles) in
     let y = some_entry p.serial (cache now.journal.events) (was_complete need now new v p) in
-    subst (λ l. reserved l < reserved (cache now.journal.events)) (sym (ap cache p.events ∙ cache_push now.journal.events e)) (one_less p.serial (cache now.journal.events) y.0 y.1)
+    let events : new.journal.events ≡ now.journal.events ++ e ∷ [] = ap (λ (x : Parts). x.journal.events) (one_is need now new v p) in
+    subst (λ l. reserved l < reserved (cache now.journal.events)) (sym (ap cache events ∙ cache_push now.journal.events e)) (one_less p.serial (cache now.journal.events) y.0 y.1)
 
 -- ---- the block
 

@@ -22,6 +22,7 @@ use Rattle.qc_core.specs.declared.takes.Taken.{Taken}
 use Rattle.qc_core.specs.declared.parts.Parts.{Parts}
 use Rattle.qc_core.specs.Leaves.{table_blocks}
 use Rattle.qc_core.specs.Hands.{IsInHand}
+use Rattle.qc_core.specs.Allocates.{PrunesMany}
 use Rattle.qc_core.specs.Starts.{TakesOne, Takes, needs_for}
 use Rattle.qc_core.specs.Takes.{holds, starts, next_of, IsStarting, KeepsRoom, MayTakeOne, PrunesSome, HasNone, TakesKeeping, GivesBlocks, MayTake, TakesTables, HaveSizes, TakesPair, TakesAll, Stops}
 use Rattle.qc_core.proofs.FillTasks.{pruned_after}
@@ -52,20 +53,20 @@ text_need o key = by (eqb n least_block || eqb n (raised (unit_words o))) (eqb n
 
 -- ---- needs joined
 
-pub takes_join : (xs ys : List ℕ) (s m t : Parts) (bs cs : List Block) → Takes xs s bs m → Takes ys m cs t → Takes (xs ++ ys) s (bs ++ cs) t
-takes_join [] ys s m t [] cs h k = subst (λ z. Takes ys z cs t) h k
-takes_join [] ys s m t (b ∷ bs) cs h k = absurd h
-takes_join (x ∷ xs) ys s m t [] cs h k = absurd h
-takes_join (x ∷ xs) ys s m t (b ∷ bs) cs h k = (h.0, h.1, takes_join xs ys h.0 m t bs cs h.2 k)
+pub takes_join : (tables : List TableName) (xs ys : List ℕ) (s m t : Parts) (bs cs : List Block) → Takes tables xs s bs m → Takes tables ys m cs t → Takes tables (xs ++ ys) s (bs ++ cs) t
+takes_join tables [] ys s m t [] cs h k = subst (λ z. Takes tables ys z cs t) h k
+takes_join tables [] ys s m t (b ∷ bs) cs h k = absurd h
+takes_join tables (x ∷ xs) ys s m t [] cs h k = absurd h
+takes_join tables (x ∷ xs) ys s m t (b ∷ bs) cs h k = (h.0, h.1, takes_join tables xs ys h.0 m t bs cs h.2 k)
 
-pub takes_options : (xs : List ℕ) (s t : Parts) (bs : List Block) → Takes xs s bs t → t.options ≡ s.options
-takes_options [] s t [] h = ap (λ (x : Parts). x.options) h
-takes_options [] s t (b ∷ bs) h = absurd h
-takes_options (x ∷ xs) s t [] h = absurd h
-takes_options (x ∷ xs) s t (b ∷ bs) h = takes_options xs h.0 t bs h.2 ∙ one_options x s b h.0 h.1
+pub takes_options : (tables : List TableName) (xs : List ℕ) (s t : Parts) (bs : List Block) → Takes tables xs s bs t → t.options ≡ s.options
+takes_options tables [] s t [] h = ap (λ (x : Parts). x.options) h
+takes_options tables [] s t (b ∷ bs) h = absurd h
+takes_options tables (x ∷ xs) s t [] h = absurd h
+takes_options tables (x ∷ xs) s t (b ∷ bs) h = takes_options tables xs h.0 t bs h.2 ∙ one_options tables x s b h.0 h.1
   where
-    one_options : (x : ℕ) (s : Parts) (b : Block) (t : Parts) → TakesOne x s b t → t.options ≡ s.options
-    one_options x s b t o = ap (λ (x : Parts). x.options) o.server ∙ (pruned_after x o.count s o.mid o.prunes).options
+    one_options : (tables : List TableName) (x : ℕ) (s : Parts) (b : Block) (t : Parts) → TakesOne tables x s b t → t.options ≡ s.options
+    one_options tables x s b t o = ap (λ (x : Parts). x.options) o.server ∙ (pruned_after tables x o.count s o.mid o.prunes).options
 
 -- ---- places in a list
 
@@ -94,7 +95,7 @@ drop_all (suc n) (x ∷ l) h = drop_all n l (omega (arith, h))
 -- so many of the tables have got their blocks
 pub record Drawing (next : Option Event) (words : List ℕ) (missing : List TableName) (n : ℕ) (before hand : Hand) (old now : Parts) : Type 0 where
   pub blocks : List Block
-  pub takes : Takes (map (λ t. least_block) (take n missing)) old blocks now
+  pub takes : Takes before.tables (map (λ t. least_block) (take n missing)) old blocks now
   pub starting : IsStarting next words (drop n missing) [] hand now
   pub tables : hand.tables ≡ before.tables
   pub room : KeepsRoom old now
@@ -157,7 +158,7 @@ module _ (next : Option Event) (words : List ℕ) (missing : List TableName) (n 
   pub draws_on : (after : Hand) (b : Block) (new : Parts) → TakesKeeping least_block next words (t ∷ drop (n + 1) missing) [] hand after now b new → Drawing next words missing (n + 1) before (record { tables = after.tables; fresh = after.fresh ++ record { table = t; block = b } ∷ [] }) old new
   draws_on after b new k = record {
     blocks = d.blocks ++ b ∷ [];
-    takes = subst (λ l. Takes l old (d.blocks ++ b ∷ []) new) (sym needs_join) (takes_join (map (λ t. least_block) (take n missing)) (least_block ∷ []) old now new d.blocks (b ∷ []) d.takes (new, k.takes, refl));
+    takes = subst (λ l. Takes before.tables l old (d.blocks ++ b ∷ []) new) (sym needs_join) (takes_join before.tables (map (λ t. least_block) (take n missing)) (least_block ∷ []) old now new d.blocks (b ∷ []) d.takes (new, subst (λ ts. TakesOne ts least_block now b new) d.tables k.takes, refl));
     starting = table_in_hand next words t (drop (n + 1) missing) after new b k.starting (omega (arith, k.small));
     tables = k.tables ∙ d.tables;
     room = λ j low. k.room j (d.room j low);
@@ -182,7 +183,7 @@ module _ (next : Option Event) (words : List ℕ) (missing : List TableName) (n 
 pub draws_all : (next : Option Event) (words : List ℕ) (missing : List TableName) (n : ℕ) (before hand : Hand) (old now : Parts) → n ≡ length missing → Drawing next words missing n before hand old now → TakesTables next words missing before hand old now
 draws_all next words missing n before hand old now all d = record {
   blocks = d.blocks;
-  takes = subst (λ l. Takes (map (λ t. least_block) l) old d.blocks now) (take_all n missing (omega (arith, all))) d.takes;
+  takes = subst (λ l. Takes before.tables (map (λ t. least_block) l) old d.blocks now) (take_all n missing (omega (arith, all))) d.takes;
   starting = subst (λ l. IsStarting next words l [] hand now) (drop_all n missing (omega (arith, all))) d.starting;
   tables = d.tables;
   room = d.room;
@@ -191,14 +192,14 @@ draws_all next words missing n before hand old now all d = record {
 
 -- ---- a need gets none
 
-module _ (done : List ℕ) (need : ℕ) (rest : List ℕ) (next : Option Event) (words : List ℕ) (missing : List TableName) (others : List Block) (before hand : Hand) (old mid last : Parts) (blocks : List Block) (e : NoTile) (takes : Takes done old blocks mid) (some : PrunesSome need next words missing others before hand mid last) (none : HasNone need last e) (least : least_block ≤ need) (room : KeepsRoom old mid) where
+module _ (done : List ℕ) (need : ℕ) (rest : List ℕ) (next : Option Event) (words : List ℕ) (missing : List TableName) (others : List Block) (before hand : Hand) (tables : List TableName) (same : before.tables ≡ tables) (old mid last : Parts) (blocks : List Block) (e : NoTile) (takes : Takes tables done old blocks mid) (some : PrunesSome need next words missing others before hand mid last) (none : HasNone need last e) (least : least_block ≤ need) (room : KeepsRoom old mid) where
   size_is : e ≡ record { need = need; largest = largest_free last.tiles }
   size_is = none.lacks.answer
 
   -- these blocks were given back, and others are held still
-  pub stops : (given held : List Block) → ((b : Block) → times b (table_blocks hand.fresh ++ others) ≡ times b held + times b given) → Stops next words (done ++ need ∷ rest) held old (record last { tiles = after_release given last.tiles }) e
+  pub stops : (given held : List Block) → ((b : Block) → times b (table_blocks hand.fresh ++ others) ≡ times b held + times b given) → Stops tables next words (done ++ need ∷ rest) held old (record last { tiles = after_release given last.tiles }) e
   stops given held split = record {
-    short = record { done = done; need = need; rest = rest; split = refl; blocks = blocks; mid = mid; takes = takes; count = some.count; last = last; prunes = some.prunes; lacks = none.lacks; given = given; server = refl };
+    short = record { done = done; need = need; rest = rest; split = refl; blocks = blocks; mid = mid; takes = takes; count = some.count; last = last; prunes = subst (λ ts. PrunesMany ts need some.count mid last) same some.prunes; lacks = none.lacks; given = given; server = refl };
     licensed = subst (λ (x : NoTile). LacksRoom last.options last.journal.events x.need x.largest) (sym size_is) none.licensed;
     least = subst (λ (x : NoTile). least_block ≤ x.need) (sym size_is) least;
     names = some.starting.names;
@@ -210,8 +211,8 @@ module _ (done : List ℕ) (need : ℕ) (rest : List ℕ) (next : Option Event) 
   given_out given held split = held_out (holds next (table_blocks hand.fresh ++ others)) held given some.starting.names words last some.starting.whole split
 
 -- blocks that are held still are given back
-pub stops_more : (next : Option Event) (words needs : List ℕ) (held : List Block) (old s : Parts) (e : NoTile) → Stops next words needs held old s e → Stops next words needs [] old (record s { tiles = after_release held s.tiles }) e
-stops_more next words needs held old s e h =
+pub stops_more : (tables : List TableName) (next : Option Event) (words needs : List ℕ) (held : List Block) (old s : Parts) (e : NoTile) → Stops tables next words needs held old s e → Stops tables next words needs [] old (record s { tiles = after_release held s.tiles }) e
+stops_more tables next words needs held old s e h =
     let i = h.short in
     record {
       short = record {
@@ -237,8 +238,9 @@ stops_more next words needs held old s e h =
     }
 
 -- needs that stand in front of these got theirs
-pub stops_after : (next : Option Event) (words front needs : List ℕ) (held : List Block) (old mid s : Parts) (blocks : List Block) (e : NoTile) → Takes front old blocks mid → KeepsRoom old mid → Stops next words needs held mid s e → Stops next words (front ++ needs) held old s e
-stops_after next words front needs held old mid s blocks e takes room h =
+pub stops_after : (tables : List TableName) (next : Option Event) (words front needs : List ℕ) (held : List Block) (old mid s : Parts) (blocks : List Block) (e : NoTile) → Takes tables front old blocks mid → KeepsRoom old mid → Stops tables next words needs held mid s e
+    → Stops tables next words (front ++ needs) held old s e
+stops_after tables next words front needs held old mid s blocks e takes room h =
     let i = h.short in
     record {
       short = record {
@@ -248,7 +250,7 @@ stops_after next words front needs held old mid s blocks e takes room h =
         split = ap (λ l. front ++ l) i.split ∙ sym (append_assoc front i.done (i.need ∷ i.rest));
         blocks = blocks ++ i.blocks;
         mid = i.mid;
-        takes = takes_join front i.done old mid i.mid blocks i.blocks takes i.takes;
+        takes = takes_join tables front i.done old mid i.mid blocks i.blocks takes i.takes;
         count = i.count;
         last = i.last;
         prunes = i.prunes;
@@ -264,8 +266,8 @@ stops_after next words front needs held old mid s blocks e takes room h =
     }
 
 -- and none of those behind matters
-pub stops_before : (next : Option Event) (words needs more : List ℕ) (held : List Block) (old s : Parts) (e : NoTile) → Stops next words needs held old s e → Stops next words (needs ++ more) held old s e
-stops_before next words needs more held old s e h =
+pub stops_before : (tables : List TableName) (next : Option Event) (words needs more : List ℕ) (held : List Block) (old s : Parts) (e : NoTile) → Stops tables next words needs held old s e → Stops tables next words (needs ++ more) held old s e
+stops_before tables next words needs more held old s e h =
     let i = h.short in
     record {
       short = record {
@@ -301,7 +303,7 @@ module _ (bytes : ℕ) (hand : Hand) (s : Parts) (u : MayTake [] bytes hand s) w
 
   module _ (first : Block) (next_hand : Hand) (mid : Parts) (t : TakesKeeping (unit_words s.options) (next_of [] bytes hand s u) u.words [] [] hand next_hand s first mid) where
     pub mid_options : mid.options ≡ s.options
-    mid_options = takes_options (unit_words s.options ∷ []) s mid (first ∷ []) (mid, t.takes, refl)
+    mid_options = takes_options hand.tables (unit_words s.options ∷ []) s mid (first ∷ []) (mid, t.takes, refl)
 
     abbrev pub may_take_text : MayTakeOne (raised (words_of_bytes bytes)) next_hand mid
     may_take_text = record {
@@ -319,7 +321,7 @@ module _ (bytes : ℕ) (hand : Hand) (s : Parts) (u : MayTake [] bytes hand s) w
     pub pair_so : (text : Block) (after : Hand) (new : Parts) → TakesKeeping (raised (words_of_bytes bytes)) (next_of [] bytes hand s u) u.words [] (first ∷ []) next_hand after mid text new
         → TakesPair (next_of [] bytes hand s u) u.words bytes hand after s (record { first = first; text = text }) new
     pair_so text after new q = record {
-      takes = (mid, t.takes, (new, q.takes, refl));
+      takes = (mid, t.takes, (new, subst (λ ts. TakesOne ts (raised (words_of_bytes bytes)) mid text new) t.tables q.takes, refl));
       sizes = record { full = omega (arith, t.large, least_unit); small = omega (arith, t.small, least_unit); few = omega (arith, q.large); fits = omega (arith, q.small) };
       starting = q.starting;
       tables = q.tables ∙ t.tables;
@@ -343,10 +345,11 @@ may_take_pair missing bytes hand after s new u t = record {
 pub all_so : (missing : List TableName) (bytes : ℕ) (hand after last : Hand) (s mid new : Parts) (u : MayTake missing bytes hand s) (t : TakesTables (next_of missing bytes hand s u) u.words missing hand after s mid) (taken : Taken)
     → TakesPair (next_of [] bytes after mid (may_take_pair missing bytes hand after s mid u t)) u.words bytes after last mid taken new → TakesAll (next_of missing bytes hand s u) u.words missing bytes hand last s taken new
 all_so missing bytes hand after last s mid new u t taken q =
-    let options = takes_options (map (λ t. least_block) missing) s mid t.blocks t.takes in
+    let options = takes_options hand.tables (map (λ t. least_block) missing) s mid t.blocks t.takes in
     record {
       blocks = t.blocks;
-      takes = takes_join (map (λ t. least_block) missing) (unit_words s.options ∷ raised (words_of_bytes bytes) ∷ []) s mid new t.blocks (taken.first ∷ taken.text ∷ []) t.takes (subst (λ (o : Options). Takes (unit_words o ∷ raised (words_of_bytes bytes) ∷ []) mid (taken.first ∷ taken.text ∷ []) new) options q.takes);
+      takes = takes_join hand.tables (map (λ t. least_block) missing) (unit_words s.options ∷ raised (words_of_bytes bytes) ∷ []) s mid new t.blocks (taken.first ∷ taken.text ∷ []) t.takes
+          (subst (λ (p : List TableName × Options). Takes p.0 (unit_words p.1 ∷ raised (words_of_bytes bytes) ∷ []) mid (taken.first ∷ taken.text ∷ []) new) (λ i. (t.tables i, options i)) q.takes);
       sizes = subst (λ (o : Options). HaveSizes o bytes taken) options q.sizes;
       starting = subst (λ ts. IsStarting (starts u.who u.number u.key ts) u.words [] (taken.text ∷ taken.first ∷ []) last new) t.tables q.starting;
       tables = q.tables ∙ t.tables;
@@ -370,9 +373,9 @@ err_weaker (Err e) P Q f h = f e h
 
 -- the first block of the chain, or the key's, isn't found
 pub all_stops : (missing : List TableName) (bytes : ℕ) (hand after : Hand) (s mid new : Parts) (u : MayTake missing bytes hand s) (t : TakesTables (next_of missing bytes hand s u) u.words missing hand after s mid) (held : List Block) (e : NoTile)
-    → Stops (next_of [] bytes after mid (may_take_pair missing bytes hand after s mid u t)) u.words (unit_words mid.options ∷ raised (words_of_bytes bytes) ∷ []) held mid new e → Stops (next_of missing bytes hand s u) u.words (needs_for s.options missing bytes) held s new e
+    → Stops after.tables (next_of [] bytes after mid (may_take_pair missing bytes hand after s mid u t)) u.words (unit_words mid.options ∷ raised (words_of_bytes bytes) ∷ []) held mid new e → Stops hand.tables (next_of missing bytes hand s u) u.words (needs_for s.options missing bytes) held s new e
 all_stops missing bytes hand after s mid new u t held e h =
-    let options = takes_options (map (λ t. least_block) missing) s mid t.blocks t.takes in
-    let same : Stops (next_of missing bytes hand s u) u.words (unit_words s.options ∷ raised (words_of_bytes bytes) ∷ []) held mid new e =
-    subst (λ (q : List TableName × Options). Stops (starts u.who u.number u.key q.0) u.words (unit_words q.1 ∷ raised (words_of_bytes bytes) ∷ []) held mid new e) (λ i. (t.tables i, options i)) h in
-    stops_after (next_of missing bytes hand s u) u.words (map (λ t. least_block) missing) (unit_words s.options ∷ raised (words_of_bytes bytes) ∷ []) held s mid new t.blocks e t.takes t.room same
+    let options = takes_options hand.tables (map (λ t. least_block) missing) s mid t.blocks t.takes in
+    let same : Stops hand.tables (next_of missing bytes hand s u) u.words (unit_words s.options ∷ raised (words_of_bytes bytes) ∷ []) held mid new e =
+    subst (λ (q : List TableName × Options). Stops q.0 (starts u.who u.number u.key q.0) u.words (unit_words q.1 ∷ raised (words_of_bytes bytes) ∷ []) held mid new e) (λ i. (t.tables i, options i)) h in
+    stops_after hand.tables (next_of missing bytes hand s u) u.words (map (λ t. least_block) missing) (unit_words s.options ∷ raised (words_of_bytes bytes) ∷ []) held s mid new t.blocks e t.takes t.room same

@@ -36,9 +36,10 @@ use Rattle.qc_sound.proofs.Laws.{completed_ended}
 use Rattle.qc_core.specs.declared.parts.RunningTask.{RunningTask}
 use Rattle.qc_core.specs.declared.parts.Parts.{Parts}
 use Rattle.qc_core.specs.contracts.server.ServerKept.TheImpl.{ghosts}
-use Rattle.qc_core.specs.Whole.{Named, is_named, IsNamedAs, chain_blocks, task_blocks, listed_in, work_in, plain, tasks_of, IsWhole}
+use Rattle.qc_core.specs.Whole.{Named, is_named, IsNamedAs, chain_blocks, task_blocks, listed_in, work_in, plain, tasks_of, with_event, IsWhole}
 use Rattle.qc_core.specs.Strikes.{is_of}
-use Rattle.qc_core.specs.Allocates.{MayAllocate, PrunesMany}
+use Rattle.qc_core.specs.Leaves.{has_task, left_by}
+use Rattle.qc_core.specs.Allocates.{MayAllocate, Prunes, PrunesMany}
 use Rattle.qc_core.specs.Overtaken.{overtakes, WasOvertaken}
 use Rattle.qc_core.proofs.Uses.{find_all}
 use Rattle.qc_core.proofs.Seeking.{pair_of, pair_there}
@@ -170,20 +171,25 @@ any_join : {A : Type 0} (p : A → Bool) (xs ys : List A) → list_any p xs ≡ 
 any_join p [] ys h k = k
 any_join p (x ∷ xs) ys h k = elim (p x) as (λ b. (b || list_any p xs) ≡ false → (b || list_any p (xs ++ ys)) ≡ false) [ true ↦ λ f. absurd (true≢false f) | false ↦ λ f. any_join p xs ys f k ] h
 
-pub pruned_after : (need count : ℕ) (s t : Parts) → PrunesMany need count s t → IsAfter s t
-pruned_after need zero s t h = subst (IsAfter s) (sym h) (record { options = refl; running = refl; listed = refl; connected = refl; later = []; events = sym (append-nil s.journal.events); unended = λ n. refl; left = λ ts. refl; others = λ k. refl })
-pruned_after need (suc k) s t h =
+-- what went with an entry that was pruned
+pub prune_is : (tables : List TableName) (need : ℕ) (s t : Parts) → (p : Prunes tables need s t) → t ≡ with_event (event.Prune p.serial need (largest_free s.tiles)) (left_by p.mid.dir (has_task p.serial s) p.may.entry p.may.held p.left.others s)
+prune_is tables need s t p = p.server ∙ ap (with_event (event.Prune p.serial need (largest_free s.tiles))) p.left.server
+
+pub pruned_after : (tables : List TableName) (need count : ℕ) (s t : Parts) → PrunesMany tables need count s t → IsAfter s t
+pruned_after tables need zero s t h = subst (IsAfter s) (sym h) (record { options = refl; running = refl; listed = refl; connected = refl; later = []; events = sym (append-nil s.journal.events); unended = λ n. refl; left = λ ts. refl; others = λ k. refl })
+pruned_after tables need (suc k) s t h =
     let mid = h.0 in
-    let a = pruned_after need k s mid h.1 in
+    let a = pruned_after tables need k s mid h.1 in
     let p = h.2 in
     let e = event.Prune p.serial need (largest_free mid.tiles) in
+    let is = prune_is tables need mid t p in
     record {
-      options = p.options ∙ a.options;
-      running = p.running ∙ a.running;
+      options = ap (λ (x : Parts). x.options) is ∙ a.options;
+      running = ap (λ (x : Parts). x.tasks) is ∙ a.running;
       listed = p.tasks ∙ a.listed;
-      connected = p.connected ∙ a.connected;
+      connected = ap (λ (x : Parts). x.connected) is ∙ a.connected;
       later = a.later ++ e ∷ [];
-      events = p.events ∙ (ap (λ l. l ++ e ∷ []) a.events ∙ append_assoc s.journal.events a.later (e ∷ []));
+      events = ap (λ (x : Parts). x.journal.events) is ∙ (ap (λ l. l ++ e ∷ []) a.events ∙ append_assoc s.journal.events a.later (e ∷ []));
       unended = λ n. any_join _ a.later (e ∷ []) (a.unended n) refl;
       left = λ ts. any_join (overtakes ts) a.later (e ∷ []) (a.left ts) refl;
       others = λ k. filter-append _ a.later (e ∷ []) ∙ ap (λ l. l ++ []) (a.others k);

@@ -360,7 +360,7 @@ module _ (s : Parts) (n : ℕ) (r : Ranged) (u : MayGrowOn n s r) (e : Entry) (e
     mid = a.mid
 
     after : IsAfter s mid
-    after = pruned_after (unit_words s.options) a.pruned.count s mid a.pruned.prunes
+    after = pruned_after [] (unit_words s.options) a.pruned.count s mid a.pruned.prunes
 
     second : FillTask u.seat n r.blocks mid.chains mid.tasks.items
     second = fill_task u.seat n r.blocks mid.chains mid.tasks.items (ap (listed_for u.seat) after.listed ∙ u.fills.listed)
@@ -448,7 +448,7 @@ module _ (s : Parts) (n : ℕ) (r : Ranged) (u : MayGrowOn n s r) (e : Entry) (e
 -- the server where there was no block
 pub stays_short : (s new : Parts) (n : ℕ) (r : Ranged) (u : MayGrowOn n s r) (need : ℕ) → IsPruned need (at_rest hash) u.words s new → StaysFilling n s new r u.words u.seat
 stays_short s new n r u need p =
-    let a = pruned_after need p.count s new p.prunes in
+    let a = pruned_after [] need p.count s new p.prunes in
     record { names = p.names; whole = p.whole; others = λ k ne. ap (listed_for k) a.listed; alone = ap (listed_for u.seat) a.listed ∙ u.fills.listed }
 
 pub stays_same : (s : Parts) (n : ℕ) (r : Ranged) (u : MayGrowOn n s r) → StaysFilling n s s r u.words u.seat
@@ -474,12 +474,12 @@ onward_after s t a = record { options = a.options; connected = a.connected; late
 
 onward_grown : (n : ℕ) (s t : Parts) (b : Block) → Grows n s b t → Onward s t
 onward_grown n s t b g =
-    let a = pruned_after (unit_words s.options) g.count s g.mid g.prunes in
+    let a = pruned_after [] (unit_words s.options) g.count s g.mid g.prunes in
     subst (Onward s) (sym g.server) (record { options = a.options; connected = a.connected; later = a.later; events = a.events; others = a.others })
 
 onward_short : (n : ℕ) (s t : Parts) (e : Short) → IsShort n s t e → Onward s t
 onward_short n s t (short.Overtaken by) h = subst (Onward s) (sym h.2) (record { options = refl; connected = refl; later = []; events = sym (append-nil s.journal.events); others = λ k. refl })
-onward_short n s t (short.NoRoom need largest) h = onward_after s t (pruned_after (unit_words s.options) h.1 s t h.2)
+onward_short n s t (short.NoRoom need largest) h = onward_after s t (pruned_after [] (unit_words s.options) h.1 s t h.2)
 
 onward_either : (n : ℕ) (s t : Parts) (P : Block → Type 0) (Q : Type 0) (r : Result Block Short) → IfOk r (λ b. Grows n s b t × P b) → IfErr r (λ e. IsShort n s t e × Q) → Onward s t
 onward_either n s t P Q (Ok b) g h = onward_grown n s t b g.0

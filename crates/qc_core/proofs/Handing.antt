@@ -18,7 +18,8 @@ use Rattle.qc_dir.proofs.Totals.{total-append}
 use Rattle.qc_sound.specs.parts.Memory.{are_once}
 use Rattle.qc_sound.proofs.Matched.{fewer_tables}
 use Rattle.qc_core.specs.declared.hands.Hand.{Hand}
-use Rattle.qc_core.specs.Hands.{own_in, AreSorted, blocks_of, names_of, IsInHand}
+use Rattle.qc_core.specs.Hands.{own_in, blocks_of, names_of, IsInHand}
+use Rattle.qc_core.specs.Leaves.{AreSorted}
 use Rattle.qc_core.specs.Starts.{without_block}
 
 -- ---- tables that pass a test, and those that don't

@@ -29,14 +29,13 @@ use Rattle.qc_sound.proofs.Holding.{hold_step}
 use Rattle.qc_sound.proofs.Needs.{needs_prune}
 use Rattle.qc_core.specs.declared.hands.Hand.{Hand}
 use Rattle.qc_core.specs.declared.parts.Parts.{Parts}
-use Rattle.qc_core.specs.Whole.{Named, stored, table_pair, plain, with_event, IsWhole}
+use Rattle.qc_core.specs.Whole.{Named, stored, table_pair, plain, tasks_of, with_event, IsWhole}
 use Rattle.qc_core.specs.Leaves.{MayLeave, Leaves, left_by, own_blocks, free_chain, has_task, table_blocks}
 use Rattle.qc_core.specs.Prunes.{MayPruneOne, PrunesOne}
-use Rattle.qc_core.specs.Allocates.{Prunes}
 use Rattle.qc_core.specs.Cuts.{cut}
 use Rattle.qc_core.specs.Hands.{IsInHand}
 use Rattle.qc_core.specs.Takes.{holds, MayKeep, LeavesKeeping, MayTakeOne, PrunesKeeping}
-use Rattle.qc_core.proofs.Allocating.{held_small, going_less, prunes_so}
+use Rattle.qc_core.proofs.Allocating.{held_small, going_less}
 use Rattle.qc_core.proofs.Cutting.{whole_blocks, count, tiles_after}
 use Rattle.qc_core.proofs.OwnBlocks.{pair_blocks, use_count}
 use Rattle.qc_core.proofs.Remaining.{words_left}
@@ -233,27 +232,19 @@ module _ (need : ℕ) (hand : Hand) (s : Parts) (u : MayTakeOne need hand s) whe
 
       pub prunes_keeping : PrunesKeeping need u.next u.words u.missing u.others hand after s v
       prunes_keeping =
-          let q = prunes_so need s (with_event ev all) one p in
           let less = going_less need s (with_event ev all) one p in
           let dirs : v.dir.tables ≡ t.dir.tables = ap (λ (x : Parts). x.dir.tables) v_is in
           record {
-            prunes = subst (Prunes need s) (sym v_is) (record {
-              small = q.small;
+            prunes = record {
+              small = small;
               serial = n;
               oldest = oldest;
-              events = λ i. s.journal.events ++ event.Prune n need (size i) ∷ [];
-              options = q.options;
-              database = q.database;
-              connected = q.connected;
-              running = q.running;
-              tasks = q.tasks;
-              alloc = q.alloc;
-              kept = gone.kept;
               may = may_leave m u.words u.starting.names s n u.starting.whole o.idle;
               mid = t;
-              left = record { others = gone.others; freed = gone.freed; removed = gone.removed; parts = gone.parts; server = gone.server };
-              server = sym v_is ∙ (pushed ∙ (λ i. with_event (event.Prune n need (size i)) t));
-            });
+              left = record { kept = gone.kept; others = gone.others; freed = gone.freed; removed = gone.removed; parts = gone.parts; sorts = gone.sorts; server = gone.server };
+              server = pushed ∙ (λ i. with_event (event.Prune n need (size i)) t);
+              tasks = ap tasks_of v_is ∙ p.tasks;
+            };
             starting = record {
               names = names;
               whole = subst (IsWhole (holds u.next held_now) names u.words) (sym v_is) real_whole;

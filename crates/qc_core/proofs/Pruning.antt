@@ -1,5 +1,5 @@
 -- One prune, as the code makes it.
-use Rattle.std.proofs.Common.{◌≡◌, ℕ, ◌≤◌, List, [], ◌∷◌, ◌++◌, sym, ap, subst, ◌∙◌, arith}
+use Rattle.std.proofs.Common.{◌≡◌, ℕ, ◌≤◌, List, sym, ap, subst, ◌∙◌, arith}
 use Rattle.std.specs.Prelude.{Some}
 use Rattle.qc_model.specs.declared.events.Event.TheVariants as event
 use Rattle.qc_model.specs.Licence.{IsLicensed}
@@ -26,19 +26,12 @@ pruned_one s t v n need largest u oldest size left valid pushed =
     let needs = needs_prune s.options s.journal.events u.moment.next n need largest u.whole.sound.journal.needs u.needs in
     let whole = pruned_whole u.moment u.words u.names s n u.whole o.idle t need largest gone.0 gone.1 valid licensed needs in
     let same = pruned_tasks u.moment u.words u.names s n u.whole o.idle t need largest gone.0 gone.1 valid licensed needs in
-    let server = gone.1.server in
     record {
       serial = n;
       oldest = oldest;
-      events = ap (λ (x : Parts). x.journal.events) pushed ∙ (λ i. (server i).journal.events ++ event.Prune n need (size i) ∷ []);
       names = names_left u.moment u.words u.names s n u.whole o.idle t need largest gone.0 gone.1 valid;
       whole = subst (λ x. IsWhole u.moment (names_left u.moment u.words u.names s n u.whole o.idle t need largest gone.0 gone.1 valid) u.words x) (sym pushed) whole;
       tasks = ap tasks_of pushed ∙ same;
-      options = ap (λ (x : Parts). x.options) pushed ∙ ap (λ (x : Parts). x.options) server;
-      database = ap (λ (x : Parts). x.database) pushed ∙ ap (λ (x : Parts). x.database) server;
-      connected = ap (λ (x : Parts). x.connected) pushed ∙ ap (λ (x : Parts). x.connected) server;
-      running = ap (λ (x : Parts). x.tasks) pushed ∙ ap (λ (x : Parts). x.tasks) server;
-      alloc = ap (λ (x : Parts). x.alloc) pushed ∙ ap (λ (x : Parts). x.alloc) server;
       may = may_leave u.moment u.words u.names s n u.whole o.idle;
       freed = gone.0;
       mid = t;

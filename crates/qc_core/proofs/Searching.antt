@@ -23,7 +23,7 @@ use Rattle.qc_core.specs.declared.hands.Hand.{Hand}
 use Rattle.qc_core.specs.declared.parts.Parts.{Parts}
 use Rattle.qc_core.specs.Whole.{stored, plain}
 use Rattle.qc_core.specs.Leaves.{table_blocks}
-use Rattle.qc_core.specs.Allocates.{holding}
+use Rattle.qc_core.specs.Allocates.{Prunes, holding}
 use Rattle.qc_core.specs.Takes.{holds, IsStarting, MayTakeOne, PrunesKeeping, PrunesSome, HasNone, TakesKeeping}
 use Rattle.qc_core.proofs.Allocating.{held_whole, holds_some}
 use Rattle.qc_core.proofs.FillTasks.{pruned_after}
@@ -35,7 +35,7 @@ none_yet need hand s u = record { count = 0; prunes = refl; starting = u.startin
 
 module _ (need : ℕ) (hand now : Hand) (old s : Parts) (u : MayTakeOne need hand old) (p : PrunesSome need u.next u.words u.missing u.others hand now old s) where
   pub options_stay : s.options ≡ old.options
-  options_stay = (pruned_after need p.count old s p.prunes).options
+  options_stay = (pruned_after hand.tables need p.count old s p.prunes).options
 
   abbrev pub may_go_on : MayTakeOne need now s
   may_go_on = record {
@@ -54,7 +54,7 @@ module _ (need : ℕ) (hand now : Hand) (old s : Parts) (u : MayTakeOne need han
   pub goes_on : (after : Hand) (new : Parts) → PrunesKeeping need u.next u.words u.missing u.others now after s new → PrunesSome need u.next u.words u.missing u.others hand after old new
   goes_on after new q = record {
     count = suc p.count;
-    prunes = (s, p.prunes, q.prunes);
+    prunes = (s, p.prunes, subst (λ ts. Prunes ts need s new) p.tables q.prunes);
     starting = q.starting;
     tables = q.tables ∙ p.tables;
     room = λ k low. q.room k (p.room k low);

@@ -16,8 +16,8 @@ use Rattle.qc_dir.specs.declared.tables.TableBlock.{TableBlock}
 use Rattle.qc_dir.specs.Keys.{bit}
 use Rattle.qc_dir.proofs.Totals.{total-append}
 use Rattle.qc_core.specs.declared.hands.Hand.{Hand}
-use Rattle.qc_core.specs.Leaves.{table_blocks}
-use Rattle.qc_core.specs.Hands.{own_in, AreSorted, Sorts}
+use Rattle.qc_core.specs.Leaves.{table_blocks, AreSorted}
+use Rattle.qc_core.specs.Hands.{own_in, Sorts}
 use Rattle.qc_core.proofs.Leaving.{release_append, out_front}
 
 -- ---- the last block of some

@@ -63,6 +63,7 @@ use Rattle.qc_core.specs.Texts.{MayStore, HasStored}
 use Rattle.qc_core.specs.Adds.{MayAdd, IsAdded, HoldsBlocks, HoldsText, HoldsNothing}
 use Rattle.qc_core.proofs.Adding.{block_within, text_held, may_add, names, added_whole, added_others, added_alone, adds_so}
 use Rattle.qc_core.proofs.Compacting.{free_words}
+use Rattle.qc_core.proofs.FillTasks.{prune_is}
 use Rattle.qc_core.proofs.Handing.{hand_begins}
 use Rattle.qc_core.proofs.Noting.{alone, event_follows}
 use Rattle.qc_core.proofs.Reserving.{reserved_is}
@@ -109,20 +110,23 @@ none_kept p n (y ∷ ys) h =
       | false ↦ none_kept p n ys parts.1
     ]
 
-onto_prune : (need : ℕ) (s t : Parts) → Prunes need s t → Onto s t
-onto_prune need s t p =
+onto_prune : (kept : List TableName) (need : ℕ) (s t : Parts) → Prunes kept need s t → Onto s t
+onto_prune kept need s t p =
     let e = event.Prune p.serial need (largest_free s.tiles) in
+    let is = prune_is kept need s t p in
+    let options : t.options ≡ s.options = ap (λ (x : Parts). x.options) is in
+    let events : t.journal.events ≡ s.journal.events ++ e ∷ [] = ap (λ (x : Parts). x.journal.events) is in
     record {
-      options = p.options;
+      options = options;
       listed = p.tasks;
-      running = p.running;
-      connected = p.connected;
-      database = p.database;
+      running = ap (λ (x : Parts). x.tasks) is;
+      connected = ap (λ (x : Parts). x.connected) is;
+      database = ap (λ (x : Parts). x.database) is;
       later = e ∷ [];
-      events = p.events;
+      events = events;
       others = λ k. refl;
-      counts = λ n. ap (λ j. event_count j n) p.events ∙ counted_none (is_by n) s.journal.events e refl;
-      may = λ serial key tables h. subst (λ (q : Options × Journal). MayStart q.0 q.1 serial key tables) (λ i. (sym p.options i, sym p.events i)) (record {
+      counts = λ n. ap (λ j. event_count j n) events ∙ counted_none (is_by n) s.journal.events e refl;
+      may = λ serial key tables h. subst (λ (q : Options × Journal). MayStart q.0 q.1 serial key tables) (λ i. (sym options i, sym events i)) (record {
         next = h.next ∙ ap (λ k. k + 1) (sym (counted_none (is_run is_start) s.journal.events e refl));
         has_answer = ap (λ d. is_some (answer key d)) (present_push s.journal.events e) ∙ h.has_answer;
         of_select = h.of_select;
@@ -137,24 +141,24 @@ onto_prune need s t p =
         let none : ◌≡◌ {A = ℕ} (cond (p e) 1 0) 0 = ap (λ b. cond b 1 0) h in
         omega (arith, sum, none)
 
-onto_prunes : (need count : ℕ) (s t : Parts) → PrunesMany need count s t → Onto s t
-onto_prunes need zero s t h = subst (Onto s) (sym h) (onto_same s)
-onto_prunes need (suc k) s t h = onto_join s h.0 t (onto_prunes need k s h.0 h.1) (onto_prune need h.0 t h.2)
+onto_prunes : (kept : List TableName) (need count : ℕ) (s t : Parts) → PrunesMany kept need count s t → Onto s t
+onto_prunes kept need zero s t h = subst (Onto s) (sym h) (onto_same s)
+onto_prunes kept need (suc k) s t h = onto_join s h.0 t (onto_prunes kept need k s h.0 h.1) (onto_prune kept need h.0 t h.2)
 
 onto_tiles : (s t : Parts) (tiles : List Tile) → t ≡ record s { tiles = tiles } → Onto s t
 onto_tiles s t tiles h = subst (Onto s) (sym h) (record { options = refl; listed = refl; running = refl; connected = refl; database = refl; later = []; events = sym (append-nil s.journal.events); others = λ k. refl; counts = λ n. refl; may = λ serial key tables h. h })
 
-pub onto_takes : (needs : List ℕ) (s t : Parts) (bs : List Block) → Takes needs s bs t → Onto s t
-onto_takes [] s t [] h = subst (Onto s) (sym h) (onto_same s)
-onto_takes [] s t (b ∷ bs) h = absurd h
-onto_takes (n ∷ needs) s t [] h = absurd h
-onto_takes (n ∷ needs) s t (b ∷ bs) h = onto_join s h.0 t (one n s h.0 b h.1) (onto_takes needs h.0 t bs h.2)
+pub onto_takes : (kept : List TableName) (needs : List ℕ) (s t : Parts) (bs : List Block) → Takes kept needs s bs t → Onto s t
+onto_takes kept [] s t [] h = subst (Onto s) (sym h) (onto_same s)
+onto_takes kept [] s t (b ∷ bs) h = absurd h
+onto_takes kept (n ∷ needs) s t [] h = absurd h
+onto_takes kept (n ∷ needs) s t (b ∷ bs) h = onto_join s h.0 t (one n s h.0 b h.1) (onto_takes kept needs h.0 t bs h.2)
   where
-    one : (n : ℕ) (s t : Parts) (b : Block) → TakesOne n s b t → Onto s t
-    one n s t b o = onto_join s o.mid t (onto_prunes n o.count s o.mid o.prunes) (onto_tiles o.mid t _ o.server)
+    one : (n : ℕ) (s t : Parts) (b : Block) → TakesOne kept n s b t → Onto s t
+    one n s t b o = onto_join s o.mid t (onto_prunes kept n o.count s o.mid o.prunes) (onto_tiles o.mid t _ o.server)
 
-pub onto_short : (needs : List ℕ) (s t : Parts) (e : NoTile) → IsShortOf needs s t e → Onto s t
-onto_short needs s t e h = onto_join s h.mid t (onto_takes h.done s h.mid h.blocks h.takes) (onto_join h.mid h.last t (onto_prunes h.need h.count h.mid h.last h.prunes) (onto_tiles h.last t _ h.server))
+pub onto_short : (kept : List TableName) (needs : List ℕ) (s t : Parts) (e : NoTile) → IsShortOf kept needs s t e → Onto s t
+onto_short kept needs s t e h = onto_join s h.mid t (onto_takes kept h.done s h.mid h.blocks h.takes) (onto_join h.mid h.last t (onto_prunes kept h.need h.count h.mid h.last h.prunes) (onto_tiles h.last t _ h.server))
 
 pub onto_follows : (s t : Parts) (seat : ℕ) (idle : List ℕ) → Onto s t → Follows ghosts seat idle s t
 onto_follows s t seat idle o = record {
@@ -332,7 +336,7 @@ module _ (who : Who) (serial : ℕ) (key : List ℕ) (tables : List TableName) (
   pub holds_blocks : (hand : Hand) (t : Taken) (x : Parts) → h.value.options.size ≤ 512 * h.ranges.room → TakesAll (next_of (without_block h.value.dir.tables tables) (length key) empty h.value taking) (words h) (without_block h.value.dir.tables tables) (length key) empty hand h.value t x
       → HoldsBlocks who serial key tables hand t (with_value h x)
   holds_blocks hand t x size a =
-      let o = onto_takes (needs_for h.value.options (without_block h.value.dir.tables tables) (length key)) h.value x (a.blocks ++ t.first ∷ t.text ∷ []) a.takes in
+      let o = onto_takes tables (needs_for h.value.options (without_block h.value.dir.tables tables) (length key)) h.value x (a.blocks ++ t.first ∷ t.text ∷ []) a.takes in
       let k = keeps_value h x (keeps_released h st) (onto_follows h.value x (holder h).number (idle_of (holder h).found) o) in
       let within = block_within 0 (region_words x.options) x.tiles t.text a.starting.whole.sound.memory.tiles.tiling.covers (text_held who serial key tables hand t (words h) x a.starting) in
       record {
@@ -351,9 +355,9 @@ module _ (who : Who) (serial : ℕ) (key : List ℕ) (tables : List TableName) (
         ranges = subst (λ (q : Options). q.size ≤ 512 * h.ranges.room) (sym o.options) size;
       }
 
-  pub holds_nothing : (needs : List ℕ) (x : Parts) (e : NoTile) → Stops (next_of (without_block h.value.dir.tables tables) (length key) empty h.value taking) (words h) needs [] h.value x e → HoldsNothing who e (with_value h x)
+  pub holds_nothing : (needs : List ℕ) (x : Parts) (e : NoTile) → Stops tables (next_of (without_block h.value.dir.tables tables) (length key) empty h.value taking) (words h) needs [] h.value x e → HoldsNothing who e (with_value h x)
   holds_nothing needs x e a =
-      let o = onto_short needs h.value x e a.short in
+      let o = onto_short tables needs h.value x e a.short in
       let k = keeps_value h x (keeps_released h st) (onto_follows h.value x (holder h).number (idle_of (holder h).found) o) in
       let left = a.room 2 room in
       record {
@@ -430,8 +434,8 @@ module _ (who : Who) (serial : ℕ) (key : List ℕ) (tables : List TableName) (
     put_follows = record {
       journal = (event.Run who (how.Start serial key tables) ∷ [], put_events);
       others = λ k ne. ap (of_seat ghosts k) put_events ∙ of_seat_else ghosts k h.value.journal.events (event.Run who (how.Start serial key tables)) who.session refl (λ z. ne (omega (arith, z, seated.low, b.next.session)));
-      fixed = ap (λ (o : Options). o.size ∷ o.limit ∷ o.unit ∷ o.kind ∷ []) put_adds.options;
-      connected = λ k ne. ap (λ c. list_any (λ m. m == k) c.items) put_adds.connected;
+      fixed = ap (λ (o : Options). o.size ∷ o.limit ∷ o.unit ∷ o.kind ∷ []) (ap (λ (z : Parts). z.options) put_adds.server);
+      connected = λ k ne. ap (λ (z : Parts). list_any (λ m. m == k) z.connected.items) put_adds.server;
       tasks = λ k ne. inl (added_others who serial key tables hand t (words h) h.value b.starting b.may.next (holder h).number new a x.text b.room b.may b.same seated b.next.session b.next.number b.next.free b.full b.small b.fits some v v_is k ne);
     }
 

@@ -1,2 +1,3 @@
-mod Rows
+mod Regions
 mod Commits
+mod Blocks

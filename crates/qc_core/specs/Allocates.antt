@@ -1,6 +1,7 @@
 -- A block is allocated, after as many prunes as that takes.
-use Rattle.std.specs.Prelude.{◌≡◌, ℕ, zero, suc, ◌+◌, ◌<◌, ◌≤◌, List, [], ◌∷◌, ◌++◌, length, Some, None}
+use Rattle.std.specs.Prelude.{◌≡◌, ℕ, zero, suc, ◌+◌, ◌<◌, ◌≤◌, List, [], ◌∷◌, length, Some, None}
 use Rattle.std.specs.List.{AllByRecursion}
+use Rattle.qc_types.specs.declared.names.TableName.{TableName}
 use Rattle.qc_types.specs.Blocks.{least_block}
 use Rattle.qc_model.specs.declared.events.Event.TheVariants as event
 use Rattle.qc_model.specs.Licence.{unit_words}
@@ -8,7 +9,6 @@ use Rattle.qc_model.specs.Needs.{PruneHasNeed}
 use Rattle.qc_tiles.specs.declared.blocks.Block.{Block}
 use Rattle.qc_tiles.specs.declared.blocks.NoTile.{NoTile}
 use Rattle.qc_tiles.specs.Tiles.{taken, after_take, largest_free}
-use Rattle.qc_dir.specs.declared.tables.TableBlock.{TableBlock}
 use Rattle.qc_dir.specs.Directory.{oldest_idle}
 use Rattle.qc_sound.specs.Moment.{Moment}
 use Rattle.qc_core.specs.declared.parts.Parts.{Parts}
@@ -28,33 +28,27 @@ pub record MayAllocate (need : ℕ) (s : Parts) : Type 0 where
   pub held : AllByRecursion (λ b. b.words ≤ unit_words s.options + 63) moment.held
 
 -- One entry was pruned: no free block held the need, the least recently used entry that is complete and without users went, and its event has the need
--- and the largest free block as that was. Its blocks were given back, but for those of its tables that a start keeps for its own. Nothing else changed.
-pub record Prunes (need : ℕ) (old new : Parts) : Type 0 where
+-- and the largest free block as that was. Its blocks were given back, but for those of these tables, which a start keeps for its own. Nothing else
+-- changed, and what is listed for each seat stays.
+pub record Prunes (tables : List TableName) (need : ℕ) (old new : Parts) : Type 0 where
   pub small : largest_free old.tiles < need
   pub serial : ℕ
   pub oldest : oldest_idle old.dir.entries ≡ Some serial
-  pub events : new.journal.events ≡ old.journal.events ++ event.Prune serial need (largest_free old.tiles) ∷ []
-  pub options : new.options ≡ old.options
-  pub database : new.database ≡ old.database
-  pub connected : new.connected ≡ old.connected
-  pub running : new.tasks ≡ old.tasks
-  pub tasks : tasks_of new ≡ tasks_of old
-  pub alloc : new.alloc ≡ old.alloc
-  pub kept : List TableBlock
   pub may : MayLeave serial old
   pub mid : Parts
-  pub left : LeavesBut kept serial may.entry may.held old mid
+  pub left : LeavesBut tables serial may.entry may.held old mid
   pub server : new ≡ with_event (event.Prune serial need (largest_free old.tiles)) mid
+  pub tasks : tasks_of new ≡ tasks_of old
 
 -- so many entries were, one after another
-abbrev pub PrunesMany : ℕ → ℕ → Parts → Parts → Type 0
-PrunesMany need zero old new = new ≡ old
-PrunesMany need (suc k) old new = (mid : Parts) × PrunesMany need k old mid × Prunes need mid new
+abbrev pub PrunesMany : List TableName → ℕ → ℕ → Parts → Parts → Type 0
+PrunesMany tables need zero old new = new ≡ old
+PrunesMany tables need (suc k) old new = (mid : Parts) × PrunesMany tables need k old mid × Prunes tables need mid new
 
--- some entries were, and the server is as sound as before
+-- some entries were, nothing was kept of them, and the server is as sound as before
 pub record IsPruned (need : ℕ) (moment : Moment) (words : List ℕ) (old new : Parts) : Type 0 where
   pub count : ℕ
-  pub prunes : PrunesMany need count old new
+  pub prunes : PrunesMany [] need count old new
   pub names : List Named
   pub whole : IsWhole moment names words new
 

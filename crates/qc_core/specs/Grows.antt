@@ -53,12 +53,13 @@ pub record FillsOn (seat n : ℕ) (s : Parts) (r : Ranged) : Type 0 where
   pub more : 8 * words_of r.blocks < length (unwrap_or (answer start.key (present start.earlier)) [])
   pub room : s.options.size ≤ 512 * r.room
 
--- The entry is still filled. Some entries were pruned for a unit, then the block was taken that a unit gets, and it is the last one of the entry's chain.
+-- The entry is still filled. Some entries were pruned for a unit, nothing was kept of them, then the block was taken that a unit gets, and it is the last
+-- one of the entry's chain.
 pub record Grows (n : ℕ) (old : Parts) (block : Block) (new : Parts) : Type 0 where
   pub filling : IsFilling old.journal.events n
   pub count : ℕ
   pub mid : Parts
-  pub prunes : PrunesMany (unit_words old.options) count old mid
+  pub prunes : PrunesMany [] (unit_words old.options) count old mid
   pub taken : taken (unit_words old.options) mid.tiles ≡ Some block
   pub entry : Entry
   pub held : Chain
@@ -71,7 +72,7 @@ pub record Grows (n : ℕ) (old : Parts) (block : Block) (new : Parts) : Type 0 
 abbrev pub IsShort : ℕ → Parts → Parts → Short → Type 0
 IsShort n old new (short.Overtaken by) = (entry_of n (cache old.journal.events) ≡ None) × IsOvertaken old.journal.events n by × (new ≡ old)
 IsShort n old new (short.NoRoom need largest) =
-    IsFilling old.journal.events n × (count : ℕ) × PrunesMany (unit_words old.options) count old new × LacksTile (unit_words old.options) new (record { need = need; largest = largest })
+    IsFilling old.journal.events n × (count : ℕ) × PrunesMany [] (unit_words old.options) count old new × LacksTile (unit_words old.options) new (record { need = need; largest = largest })
 
 -- what a call for one block more makes of the server and the ranges, and answers
 pub record TellsGrowth (n : ℕ) (old : Parts) (before : Ranged) (new : Parts) (after : Ranged) (told : Result Block Short) : Type 0 where

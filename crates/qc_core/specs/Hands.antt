@@ -1,6 +1,6 @@
 -- What a start under way has in hand: blocks of its tables that no entry names.
 use Rattle.std.specs.Prelude.{◌≡◌, ℕ, ◌+◌, ◌≤◌, true, false, List, ◌++◌, length, IsPermutation}
-use Rattle.std.specs.List.{list_any, AllByRecursion}
+use Rattle.std.specs.List.{list_any}
 use Rattle.qc_types.specs.declared.names.TableName.{TableName}
 use Rattle.qc_sql.specs.Database.{same_table}
 use Rattle.qc_tiles.specs.declared.blocks.Tile.{Tile}
@@ -9,16 +9,11 @@ use Rattle.qc_dir.specs.declared.tables.TableBlock.{TableBlock}
 use Rattle.qc_dir.specs.Directory.{is_block_of}
 use Rattle.qc_dir.specs.Keys.{total, bit}
 use Rattle.qc_core.specs.declared.hands.Hand.{Hand}
-use Rattle.qc_core.specs.Leaves.{table_blocks}
+use Rattle.qc_core.specs.Leaves.{table_blocks, AreSorted}
 
 -- how many of the blocks are of one of the tables
 abbrev pub own_in : List TableName → List TableBlock → ℕ
 own_in tables bs = total (λ b. bit (list_any (same_table b.table) tables)) bs
-
--- the first blocks are of some of the tables, and the others of none
-pub record AreSorted (tables : List TableName) (kept others : List TableBlock) : Type 0 where
-  pub own : AllByRecursion (λ b. list_any (same_table b.table) tables ≡ true) kept
-  pub foreign : AllByRecursion (λ b. list_any (same_table b.table) tables ≡ false) others
 
 -- Of some blocks those of the hand's tables came into the hand, and the others were given back.
 pub record Sorts (freed : List TableBlock) (old new : Hand) (ts us : List Tile) : Type 0 where

@@ -1,6 +1,8 @@
 -- An entry leaves.
-use Rattle.std.specs.List.{list_any}
+use Rattle.std.specs.List.{list_any, AllByRecursion}
 use Rattle.std.specs.Prelude.{◌≡◌, ℕ, ◌+◌, Bool, true, false, List, [], ◌∷◌, ◌++◌, map, length, drop, Option, Some, None, slice_set, IsPermutation}
+use Rattle.qc_types.specs.declared.names.TableName.{TableName}
+use Rattle.qc_sql.specs.Database.{same_table}
 use Rattle.qc_tiles.specs.declared.blocks.Tile.{Tile}
 use Rattle.qc_tiles.specs.declared.blocks.Block.{Block}
 use Rattle.qc_tiles.specs.Tiles.{IsTiling, region_words}
@@ -62,12 +64,19 @@ pub record Leaves (serial : ℕ) (e : Entry) (held : Chain) (freed : List TableB
   pub removed : RemovesEntry serial freed old.dir new.dir
   pub server : new ≡ left_by new.dir (has_task serial old) e held freed old
 
--- The entry is out, and its blocks were given back, but for these, of tables that no other entry names.
-pub record LeavesBut (kept : List TableBlock) (serial : ℕ) (e : Entry) (held : Chain) (old new : Parts) : Type 0 where
+-- the first blocks are of some of the tables, and the others of none
+pub record AreSorted (tables : List TableName) (kept others : List TableBlock) : Type 0 where
+  pub own : AllByRecursion (λ b. list_any (same_table b.table) tables ≡ true) kept
+  pub foreign : AllByRecursion (λ b. list_any (same_table b.table) tables ≡ false) others
+
+-- The entry is out, and its blocks were given back, but for those of these tables that no other entry names.
+pub record LeavesBut (tables : List TableName) (serial : ℕ) (e : Entry) (held : Chain) (old new : Parts) : Type 0 where
+  pub kept : List TableBlock
   pub others : List TableBlock
   pub freed : List TableBlock
   pub removed : RemovesEntry serial freed old.dir new.dir
   pub parts : IsPermutation freed (kept ++ others)
+  pub sorts : AreSorted tables kept others
   pub server : new ≡ left_by new.dir (has_task serial old) e held others old
 
 -- so many of the places have been gone through

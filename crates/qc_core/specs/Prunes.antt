@@ -1,5 +1,5 @@
 -- The oldest idle entry is pruned.
-use Rattle.std.specs.Prelude.{◌≡◌, ℕ, ◌<◌, ◌≤◌, List, [], ◌∷◌, ◌++◌, length, Some}
+use Rattle.std.specs.Prelude.{◌≡◌, ℕ, ◌<◌, ◌≤◌, List, length, Some}
 use Rattle.std.specs.List.{AllByRecursion}
 use Rattle.qc_model.specs.declared.events.Event.TheVariants as event
 use Rattle.qc_model.specs.Licence.{word_bound}
@@ -23,21 +23,15 @@ pub record MayPruneOne (need : ℕ) (s : Parts) : Type 0 where
   pub few : length moment.held ≤ 9
   pub held : AllByRecursion (λ b. b.words ≤ word_bound s.options s.journal.events need) moment.held
 
--- The oldest idle entry went, by a licensed event, and the server is still sound. What is listed for each seat stays.
+-- The oldest idle entry went, by a licensed event, all its blocks were given back, and the server is still sound. What is listed for each seat stays.
 pub record PrunesOne (need : ℕ) (old new : Parts) (u : MayPruneOne need old) : Type 0 where
   pub serial : ℕ
   pub oldest : oldest_idle old.dir.entries ≡ Some serial
-  pub events : new.journal.events ≡ old.journal.events ++ event.Prune serial need (largest_free old.tiles) ∷ []
-  pub names : List Named
-  pub whole : IsWhole u.moment names u.words new
-  pub tasks : tasks_of new ≡ tasks_of old
-  pub options : new.options ≡ old.options
-  pub database : new.database ≡ old.database
-  pub connected : new.connected ≡ old.connected
-  pub running : new.tasks ≡ old.tasks
-  pub alloc : new.alloc ≡ old.alloc
   pub may : MayLeave serial old
   pub freed : List TableBlock
   pub mid : Parts
   pub left : Leaves serial may.entry may.held freed old mid
   pub server : new ≡ with_event (event.Prune serial need (largest_free old.tiles)) mid
+  pub names : List Named
+  pub whole : IsWhole u.moment names u.words new
+  pub tasks : tasks_of new ≡ tasks_of old

@@ -1,5 +1,5 @@
 -- What a start needs of the region, and in which order.
-use Rattle.std.specs.Prelude.{◌≡◌, ℕ, ◌+◌, ◌*◌, ◌^◌, ◌<◌, ◌≤◌, true, false, List, [], ◌∷◌, ◌++◌, map, length, is_none, Some, Contains}
+use Rattle.std.specs.Prelude.{◌≡◌, ℕ, ◌+◌, ◌-◌, ◌*◌, ◌^◌, ◌<◌, ◌≤◌, true, false, List, [], ◌∷◌, ◌++◌, map, length, slice_get, is_none, Some, None, Contains}
 use Rattle.std.specs.List.{filter, AllByRecursion}
 use Rattle.qc_key.specs.Hash.{hash}
 use Rattle.qc_model.specs.declared.events.Who.{Who}
@@ -10,7 +10,7 @@ use Rattle.qc_model.specs.Cache.{cache}
 use Rattle.qc_tiles.specs.declared.blocks.Block.{Block}
 use Rattle.qc_tiles.specs.declared.blocks.NoTile.{NoTile}
 use Rattle.qc_tiles.specs.Tiles.{taken, after_take, after_pin}
-use Rattle.qc_chain.specs.Chains.{Begun, Ranged, whole_chain, after_release}
+use Rattle.qc_chain.specs.Chains.{Ranged, empty_chain, with_chain, after_append, after_release}
 use Rattle.qc_dir.specs.declared.entries.Entry.{Entry}
 use Rattle.qc_turn.specs.declared.task.ListedTask.{ListedTask}
 use Rattle.qc_turn.specs.declared.task.Task.TheVariants as task
@@ -58,32 +58,32 @@ HasStartRoom s = reserved (cache s.journal.events) + 2 < s.journal.spare
 
 -- ---- the blocks
 
--- Some entries were pruned for the need, then the block was taken that it gets.
-pub record TakesOne (need : ℕ) (old : Parts) (block : Block) (new : Parts) : Type 0 where
+-- Some entries were pruned for the need, and blocks of these tables kept, then the block was taken that it gets.
+pub record TakesOne (tables : List TableName) (need : ℕ) (old : Parts) (block : Block) (new : Parts) : Type 0 where
   pub count : ℕ
   pub mid : Parts
-  pub prunes : PrunesMany need count old mid
+  pub prunes : PrunesMany tables need count old mid
   pub taken : taken need mid.tiles ≡ Some block
   pub server : new ≡ record mid { tiles = after_take need mid.tiles }
 
 -- a block for each need, one after another
-abbrev pub Takes : List ℕ → Parts → List Block → Parts → Type 0
-Takes [] old [] new = new ≡ old
-Takes (need ∷ needs) old (b ∷ bs) new = (mid : Parts) × TakesOne need old b mid × Takes needs mid bs new
-Takes needs old bs new = ⊥
+abbrev pub Takes : List TableName → List ℕ → Parts → List Block → Parts → Type 0
+Takes tables [] old [] new = new ≡ old
+Takes tables (need ∷ needs) old (b ∷ bs) new = (mid : Parts) × TakesOne tables need old b mid × Takes tables needs mid bs new
+Takes tables needs old bs new = ⊥
 
--- The first needs got their blocks, and the next one got none after some prunes, since none was left. Some of the blocks were given back then.
-pub record IsShortOf (needs : List ℕ) (old new : Parts) (e : NoTile) : Type 0 where
+-- The first needs got their blocks, and the next one got none after some prunes, since none was left. Some blocks were given back then.
+pub record IsShortOf (tables : List TableName) (needs : List ℕ) (old new : Parts) (e : NoTile) : Type 0 where
   pub done : List ℕ
   pub need : ℕ
   pub rest : List ℕ
   pub split : needs ≡ done ++ need ∷ rest
   pub blocks : List Block
   pub mid : Parts
-  pub takes : Takes done old blocks mid
+  pub takes : Takes tables done old blocks mid
   pub count : ℕ
   pub last : Parts
-  pub prunes : PrunesMany need count mid last
+  pub prunes : PrunesMany tables need count mid last
   pub lacks : LacksTile need last e
   pub given : List Block
   pub server : new ≡ record last { tiles = after_release given last.tiles }
@@ -96,16 +96,19 @@ new_entry serial key tables text chain = record { serial = serial; hash = hash k
 abbrev pub fill_of : ℕ → ℕ → ℕ → RunningTask
 fill_of seat serial chain = record { seat = seat; task = task.Fill serial; chain = record { number = chain } }
 
--- The entry is the most recently used one, with a chain of one block, which is pinned, and the seat fills it.
+-- The entry is the most recently used one, with a chain of one block, which is pinned, and the seat fills it. No other chain changed, and nothing else but
+-- the directory's tables and the journal.
 pub record AddsFill (seat serial : ℕ) (key : List ℕ) (tables : List TableName) (first text : Block) (old new : Parts) : Type 0 where
   pub chain : ℕ
+  pub free : slice_get old.chains.chains chain ≡ Some None
   pub entries : new.dir.entries ≡ old.dir.entries ++ new_entry serial key tables text chain ∷ []
-  pub begun : Begun chain new.chains (whole_chain (first ∷ []))
-  pub tiles : new.tiles ≡ after_pin true first.first old.tiles
-  pub tasks : new.tasks.items ≡ old.tasks.items ++ fill_of seat serial chain ∷ []
-  pub options : new.options ≡ old.options
-  pub database : new.database ≡ old.database
-  pub connected : new.connected ≡ old.connected
+  pub server : new ≡ record old {
+    journal = new.journal;
+    dir = new.dir;
+    chains = after_append chain first empty_chain (with_chain chain (Some empty_chain) old.chains);
+    tiles = after_pin true first.first old.tiles;
+    tasks = record { items = old.tasks.items ++ fill_of seat serial chain ∷ []; room = old.tasks.room - 1 };
+  }
 
 -- ---- the call
 
@@ -124,7 +127,7 @@ pub record Starts (seat : ℕ) (who : Who) (key : List ℕ) (tables : List Table
   pub first : Block
   pub text : Block
   pub mid : Parts
-  pub takes : Takes (needs_of old.options old.dir.tables tables key) old (blocks ++ first ∷ text ∷ []) mid
+  pub takes : Takes tables (needs_of old.options old.dir.tables tables key) old (blocks ++ first ∷ text ∷ []) mid
   pub adds : AddsFill seat b.serial key tables first text mid new
   pub kept : HaveTheirBlocks (without_block old.dir.tables tables) blocks old.dir.tables new.dir.tables
   pub events : new.journal.events ≡ mid.journal.events ++ event.Run who (how.Start b.serial key tables) ∷ []
@@ -133,7 +136,7 @@ pub record Starts (seat : ℕ) (who : Who) (key : List ℕ) (tables : List Table
 -- One of the needs got no block, what was taken was given back, and the event pushed that says so.
 pub record LacksRoomFor (who : Who) (key : List ℕ) (tables : List TableName) (old new : Parts) (before after : Ranged) (need largest number : ℕ) : Type 0 where
   pub mid : Parts
-  pub short : IsShortOf (needs_of old.options old.dir.tables tables key) old mid (record { need = need; largest = largest })
+  pub short : IsShortOf tables (needs_of old.options old.dir.tables tables key) old mid (record { need = need; largest = largest })
   pub server : new ≡ with_event (event.Run who (how.Plain (reason.NoRoom need largest))) mid
   pub place : number ≡ length new.journal.events
   pub ranges : after ≡ before

@@ -26,9 +26,9 @@ use Rattle.qc_core.specs.declared.hands.Hand.{Hand}
 use Rattle.qc_core.specs.declared.takes.Taken.{Taken}
 use Rattle.qc_core.specs.declared.parts.Parts.{Parts}
 use Rattle.qc_core.specs.Whole.{Named, IsWhole}
-use Rattle.qc_core.specs.Leaves.{table_blocks, has_task, left_by}
+use Rattle.qc_core.specs.Leaves.{table_blocks, has_task, left_by, AreSorted}
 use Rattle.qc_core.specs.Allocates.{Prunes, PrunesMany, LacksTile}
-use Rattle.qc_core.specs.Hands.{own_in, AreSorted, IsInHand}
+use Rattle.qc_core.specs.Hands.{own_in, IsInHand}
 use Rattle.qc_core.specs.Starts.{TakesOne, Takes, IsShortOf, needs_for}
 
 -- ---- the server while a start is under way
@@ -96,7 +96,7 @@ pub record MayTakeOne (need : ℕ) (hand : Hand) (s : Parts) : Type 0 where
 
 -- the least recently used entry went that is complete and without users
 pub record PrunesKeeping (need : ℕ) (next : Option Event) (words : List ℕ) (missing : List TableName) (others : List Block) (before after : Hand) (old new : Parts) : Type 0 where
-  pub prunes : Prunes need old new
+  pub prunes : Prunes before.tables need old new
   pub fewer : reserved (cache new.journal.events) < reserved (cache old.journal.events)
   pub starting : IsStarting next words missing others after new
   pub tables : after.tables ≡ before.tables
@@ -106,7 +106,7 @@ pub record PrunesKeeping (need : ℕ) (next : Option Event) (words : List ℕ) (
 -- some entries went, one after another
 pub record PrunesSome (need : ℕ) (next : Option Event) (words : List ℕ) (missing : List TableName) (others : List Block) (before after : Hand) (old new : Parts) : Type 0 where
   pub count : ℕ
-  pub prunes : PrunesMany need count old new
+  pub prunes : PrunesMany before.tables need count old new
   pub starting : IsStarting next words missing others after new
   pub tables : after.tables ≡ before.tables
   pub room : KeepsRoom old new
@@ -119,7 +119,7 @@ pub record HasNone (need : ℕ) (s : Parts) (e : NoTile) : Type 0 where
 
 -- some entries were pruned, and then the block was taken that the need gets
 pub record TakesKeeping (need : ℕ) (next : Option Event) (words : List ℕ) (missing : List TableName) (others : List Block) (before after : Hand) (old : Parts) (block : Block) (new : Parts) : Type 0 where
-  pub takes : TakesOne need old block new
+  pub takes : TakesOne before.tables need old block new
   pub large : raised need ≤ block.words
   pub small : block.words ≤ raised need + 63
   pub starting : IsStarting next words missing (block ∷ others) after new
@@ -149,7 +149,7 @@ next_of missing bytes hand s u = starts u.who u.number u.key hand.tables
 -- a block was taken for each of the tables that were missing
 pub record TakesTables (next : Option Event) (words : List ℕ) (missing : List TableName) (before after : Hand) (old new : Parts) : Type 0 where
   pub blocks : List Block
-  pub takes : Takes (map (λ t. least_block) missing) old blocks new
+  pub takes : Takes before.tables (map (λ t. least_block) missing) old blocks new
   pub starting : IsStarting next words [] [] after new
   pub tables : after.tables ≡ before.tables
   pub room : KeepsRoom old new
@@ -164,7 +164,7 @@ pub record HaveSizes (options : Options) (bytes : ℕ) (taken : Taken) : Type 0 
 
 -- the first block of the chain was taken, and then that of the key
 pub record TakesPair (next : Option Event) (words : List ℕ) (bytes : ℕ) (before after : Hand) (old : Parts) (taken : Taken) (new : Parts) : Type 0 where
-  pub takes : Takes (unit_words old.options ∷ raised (words_of_bytes bytes) ∷ []) old (taken.first ∷ taken.text ∷ []) new
+  pub takes : Takes before.tables (unit_words old.options ∷ raised (words_of_bytes bytes) ∷ []) old (taken.first ∷ taken.text ∷ []) new
   pub sizes : HaveSizes old.options bytes taken
   pub starting : IsStarting next words [] (taken.text ∷ taken.first ∷ []) after new
   pub tables : after.tables ≡ before.tables
@@ -174,7 +174,7 @@ pub record TakesPair (next : Option Event) (words : List ℕ) (bytes : ℕ) (bef
 -- all blocks of the start were
 pub record TakesAll (next : Option Event) (words : List ℕ) (missing : List TableName) (bytes : ℕ) (before after : Hand) (old : Parts) (taken : Taken) (new : Parts) : Type 0 where
   pub blocks : List Block
-  pub takes : Takes (needs_for old.options missing bytes) old (blocks ++ taken.first ∷ taken.text ∷ []) new
+  pub takes : Takes before.tables (needs_for old.options missing bytes) old (blocks ++ taken.first ∷ taken.text ∷ []) new
   pub sizes : HaveSizes old.options bytes taken
   pub starting : IsStarting next words [] (taken.text ∷ taken.first ∷ []) after new
   pub tables : after.tables ≡ before.tables
@@ -182,8 +182,8 @@ pub record TakesAll (next : Option Event) (words : List ℕ) (missing : List Tab
   pub gives : GivesBlocks missing blocks before after old new
 
 -- One of the needs got no block. Some blocks were given back then, and these are held still.
-pub record Stops (next : Option Event) (words : List ℕ) (needs : List ℕ) (held : List Block) (old new : Parts) (e : NoTile) : Type 0 where
-  pub short : IsShortOf needs old new e
+pub record Stops (tables : List TableName) (next : Option Event) (words : List ℕ) (needs : List ℕ) (held : List Block) (old new : Parts) (e : NoTile) : Type 0 where
+  pub short : IsShortOf tables needs old new e
   pub licensed : LacksRoom new.options new.journal.events e.need e.largest
   pub least : least_block ≤ e.need
   pub names : List Named

@@ -58,8 +58,8 @@ fn boxed(alloc: Global, parts: Parts) -> Result<Server, NoMemory>
 }
 
 impl Server {
-    /// A server with these options, and nothing else: no event, no database, no session and no entry. Takes the memory of the directory, of the chains
-    /// and of the tables of blocks, whose cost is linear in the size.
+    /// A server with these options, as in MySQL's "Query Cache Configuration", and nothing else: no event, no database, no session and no entry. Takes the
+    /// memory of the directory, of the chains and of the tables of blocks, whose cost is linear in the size. The one error is want of memory.
     pub fn new(alloc: Global, options: Options) -> Result<Server, NoMemory>
         requires size { (options.size % 1024 ≡ 0) × (options.size ≤ 67108864) }
         requires unit { (options.unit % 8 ≡ 0) × (512 ≤ options.unit) × (options.unit ≤ 1048576) }

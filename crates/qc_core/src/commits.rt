@@ -107,10 +107,11 @@ impl Server {
     }
 }
 
-/// Commits operations: carries them out on the database where it stands, takes the entries out that use a table which they touch, complete or not, pushes
-/// the event, and answers its number. Refused exactly where a table would have too many rows, by the first such table. Nothing changes then, nor where
-/// memory lacks. An entry's blocks are given back but for its chain where a seat streams or fills that. Costs what `Database::change` costs, a look-up for
-/// each operation and each table of a database that is dropped, and what the entries hold that leave.
+/// Commits operations: carries them out on the database where it stands, takes the entries out that use a table which they touch, complete or not, as in
+/// MySQL's "How the Query Cache Operates", pushes the event, and answers its number. There is one at least, they fit the database, and they are small: names
+/// that they make have at most 64 bytes, and what they store is bounded. Refused exactly where a table would have too many rows, by the first such table.
+/// Nothing changes then, nor where memory lacks. An entry's blocks are given back but for its chain where a seat streams or fills that. Costs what
+/// `Database::change` costs, a look-up for each operation and each table of a database that is dropped, and what the entries hold that leave.
 pub fn commit(
     held: &mut Held<'_, Server>,
     alloc: Global,

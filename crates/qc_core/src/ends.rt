@@ -98,7 +98,8 @@ impl Server {
 
 /// Completes the entry that the seat fills, which is the most recently used one then, and answers the number of its event. The chain is unpinned, and cut to
 /// the words that the bytes use. Where the entry has left, it answers the number of the event that
-/// overtook the fill: the first commit on one of its tables, or reset, after its start. After either the seat has no task. It takes no memory.
+/// overtook the fill: the first commit on one of its tables, or reset, after its start. After either the seat has no task. It takes no memory. Costs the
+/// blocks of the chain, and, where the entry has left, the events since its start.
 pub fn done(held: &mut Held<'_, Server>, serial: u64, bytes: u32) -> Result<u64, u64>
     requires stands { MayRelease held.old }
     requires fills { ListsFill serial held.old }
@@ -134,7 +135,8 @@ fn end_done(held: &mut Held<'_, Server>, serial: u64, bytes: u32) -> u64
 }
 
 /// Gives up the fill of an entry, and answers the number of its event. Where the entry has left, it answers the number of the event that overtook the
-/// fill: the first commit on one of its tables, or reset, after its start. After either the seat has no task. It takes no memory.
+/// fill: the first commit on one of its tables, or reset, after its start. After either the seat has no task. It takes no memory. Costs what the entry
+/// holds, or, where it has left, the blocks of its chain and the events since its start.
 pub fn gone(held: &mut Held<'_, Server>, serial: u64, why: GoneWhy) -> Result<u64, u64>
     requires stands { MayRelease held.old }
     requires fills { ListsFill serial held.old }

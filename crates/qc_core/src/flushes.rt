@@ -89,9 +89,9 @@ fn push_flush(held: &mut Held<'_, Server>, who: Who) -> u64
     held.value().push(Event::Flush { who })
 }
 
-/// FLUSH QUERY CACHE: moves blocks down, each with its words, until no block that isn't pinned has a free block just below it, pushes its event, and answers
-/// its number. Before that the streams that other seats have ended are struck off. No entry leaves, and no block of a task moves. It takes no memory, and
-/// costs the words that move.
+/// FLUSH QUERY CACHE, as in MySQL's "Query Cache Status and Maintenance": moves blocks down, each with its words, until no block that isn't pinned has a free
+/// block just below it, pushes its event, and answers its number. Before that the streams that other seats have ended are struck off. No entry leaves, and no
+/// block of a task moves. It takes no memory, and costs the words that move.
 pub fn flush(held: &mut Held<'_, Server>, who: Who) -> u64
     requires stands { MayRelease held.old }
     requires next { IsNext held.old who }

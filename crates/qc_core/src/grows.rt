@@ -89,7 +89,8 @@ impl Server {
 /// The chain of the entry that the seat fills gets one block more, of a unit, and the seat's ranges are the chain again. It takes no memory. The streams
 /// that other seats have ended are struck off before. Where no free block has a unit, the least recently used entries that are complete and without users
 /// are pruned, one after another; they stay pruned whatever comes of it. Refused as `Overtaken` exactly where the entry has left the cache, and as `NoRoom`
-/// exactly where it is there, and no block is found.
+/// exactly where it is there, and no block is found. Costs the blocks of the chain and of what is struck off and pruned, and, where the entry has left, the
+/// events since its start.
 pub fn grow(held: &mut Held<'_, Server>, serial: u64) -> Result<Block, Short>
     requires stands { MayRelease held.old }
     requires fills { FillsOn (holder held.old).number serial held.old.value held.old.ranges }

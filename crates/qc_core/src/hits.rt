@@ -22,11 +22,14 @@ use qc_model::events::{Event, How, Who};
 use qc_turn::{Held, Task};
 use std::mem::replace;
 
-/// A hit: the serial of the entry, the number of its event, and the bytes of the reply.
+/// A hit.
 #[derive(Clone, Copy, Drop)]
 pub struct Hit {
+    /// The serial of the entry.
     pub serial: u64,
+    /// The number of its event.
     pub place: u64,
+    /// How many bytes the reply has.
     pub bytes: u32,
 }
 

@@ -58,7 +58,8 @@ impl Server {
 }
 
 /// Looks for a complete entry of the key that the session may see. Where there is one, the session hits it: the seat streams it from now on, and has its
-/// chain in hand. Otherwise nothing changes. It takes no memory.
+/// chain in hand, as in MySQL's "How the Query Cache Operates". Otherwise nothing changes. It takes no memory. Costs the key's bytes, as far as hashes
+/// spread, for each table of the entry the operations of the session's own transaction, and the blocks of the hit.
 pub fn look(held: &mut Held<'_, Server>, who: Who, key: &[u8], state: &SessionState) -> Option<Hit>
     requires stands { MayRelease held.old }
     requires next { IsNext held.old who }

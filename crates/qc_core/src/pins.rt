@@ -37,7 +37,7 @@ impl Unpinner {
         })
     }
 
-    /// Unpins the blocks of a chain. Costs the chain's blocks times a logarithm.
+    /// Unpins the blocks of a chain. Costs the chain's blocks.
     pub(crate) fn unpin(&mut self, chains: &Chains, chain: ChainName, tiles: &mut Tiles)
         requires begun { (held : Chain) × Begun chain.number chains.now held × (length held.blocks ≤ self.old) × AllByRecursion (Contains (handed_out tiles.old)) held.blocks }
         requires tiling { IsTiling (region_words tiles.old) tiles.old }

@@ -47,8 +47,9 @@ impl Server {
     }
 }
 
-/// RESET QUERY CACHE: takes all entries out, complete or not, pushes the event, and answers its number. The blocks of their texts and of all tables are
-/// given back, and each chain that no task is on; what a seat streams or fills stays where it is. It takes no memory, and costs what the entries hold.
+/// RESET QUERY CACHE, as in MySQL's "Query Cache Status and Maintenance": takes all entries out, complete or not, pushes the event, and answers its number. The
+/// blocks of their texts and of all tables are given back, and each chain that no task is on; what a seat streams or fills stays where it is. It takes no
+/// memory, and costs what the entries hold.
 pub fn reset(held: &mut Held<'_, Server>, who: Who) -> u64
     requires stands { MayRelease held.old }
     requires next { IsNext held.old who }

@@ -24,7 +24,8 @@ impl Server {
     }
 }
 
-/// The serial of the entry with this key that is still being filled, if any. Nothing changes, and it takes no memory.
+/// The serial of the entry with this key that is still being filled, if any. Nothing changes, and it takes no memory. Costs the key's bytes, as far as hashes
+/// spread.
 pub fn rival(held: &mut Held<'_, Server>, key: &[u8]) -> Option<u64>
     requires stands { MayRelease held.old }
     ensures same { IsSame held.old held.new }

@@ -37,8 +37,8 @@ fn make_room(held: &mut Held<'_, Server>) -> Result<(), NoMemory>
 }
 
 /// Makes room in the journal for one deciding event, beside one for each entry and one more for each fill that is under way. Before that the seat's own
-/// stream, which has ended, is struck off where it is listed still, so that nothing is listed for the seat afterwards. Where memory lacks, no more than
-/// that was done.
+/// stream, which has ended, is struck off where it is listed still, so that nothing is listed for the seat afterwards. Where memory lacks, that was
+/// done, and there may be more room. Costs the blocks of that stream, and what `Journal::reserve` costs.
 pub fn reserve(held: &mut Held<'_, Server>) -> Result<(), NoMemory>
     requires stands { MayRelease held.old }
     requires rests { Rests held.old }

@@ -98,7 +98,7 @@ pub fn enter(held: &mut Held<'_, Server>) -> Result<u8, Full>
 }
 
 /// Ends the connection of the seat that holds the turn, whose session this is. Before that the seat's own stream, which has ended, is struck off where it
-/// is listed still.
+/// is listed still. Costs the blocks of that stream.
 pub fn leave(held: &mut Held<'_, Server>, session: u8)
     requires stands { MayRelease held.old }
     requires session { session + 1 ≡ (holder held.old).number }

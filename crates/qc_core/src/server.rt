@@ -94,7 +94,7 @@ impl Server {
         &self.parts.database
     }
 
-    /// The counters of SHOW STATUS at this moment. Constant time.
+    /// The counters of SHOW STATUS at this moment, as in MySQL's "Query Cache Status and Maintenance". Constant time.
     pub fn counters(&self) -> Counters
         requires sound { IsSomewhereSound self.now }
         ensures { result ≡ meant.counters self.now.journal.events }
@@ -109,7 +109,7 @@ impl Server {
         self.parts.journal.count(session) + 1
     }
 
-    /// The entry with a serial, borrowed, if any: a removed one is none. Logarithmic in the number of entries.
+    /// The entry with a serial, borrowed, if any: a removed one is none. Constant time, as far as serials spread over the directory's lists.
     pub fn entry(&self, serial: u64) -> Option<&Entry>
         ensures entry { option_copied result ≡ entry_at serial self.now.dir.entries }
     {

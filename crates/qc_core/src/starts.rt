@@ -35,10 +35,12 @@ use qc_types::{NoMemory, Tables, Text};
 use std::alloc::Global;
 use std::mem::replace;
 
-/// An entry that was begun: its serial, and the number of its event.
+/// An entry that was begun.
 #[derive(Clone, Copy, Debug, PartialEq, Eq)]
 pub struct Started {
+    /// Its serial.
     pub serial: u64,
+    /// The number of its event.
     pub place: u64,
 }
 
@@ -166,7 +168,7 @@ impl Server {
     ) -> Result<Taken, NoTile>
         requires { MayTake missing bytes hand.old self.old }
         ensures ok { (u : MayTake missing bytes hand.old self.old) → IfOk result (λ taken. TakesAll (next_of missing bytes hand.old self.old u) u.words missing bytes hand.old hand.new self.old taken self.new) }
-        ensures err { (u : MayTake missing bytes hand.old self.old) → IfErr result (λ e. Stops (next_of missing bytes hand.old self.old u) u.words (needs_for self.old.options missing bytes) [] self.old self.new e) }
+        ensures err { (u : MayTake missing bytes hand.old self.old) → IfErr result (λ e. Stops hand.old.tables (next_of missing bytes hand.old self.old u) u.words (needs_for self.old.options missing bytes) [] self.old self.new e) }
     {
         self.parts.take_blocks(hand, missing, bytes)
     }

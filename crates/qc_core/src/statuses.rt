@@ -27,8 +27,9 @@ impl Server {
     }
 }
 
-/// Pushes the event of a SHOW STATUS, and answers its number, the counters there, and the totals of the blocks. Before that it reads the task words of the
-/// other seats whose streams are listed, and strikes those streams off that have ended, so that no block counts for them.
+/// Pushes the event of a SHOW STATUS, and answers its number, the counters there, and the totals of the blocks, as in MySQL's "Query Cache Status and
+/// Maintenance". Before that it reads the task words of the other seats whose streams are listed, and strikes those streams off that have ended, so that no
+/// block counts for them. Costs one load for each of these streams, and the blocks of those that are struck off.
 pub fn status(held: &mut Held<'_, Server>, who: Who) -> (u64, Counters, Totals)
     requires stands { MayRelease held.old }
     requires next { IsNext held.old who }

@@ -93,7 +93,7 @@ impl Parts {
     fn take_tables(&mut self, hand: &mut Hand, missing: Tables) -> Result<(), NoTile>
         requires { (bytes : ℕ) × MayTake missing bytes hand.old self.old }
         ensures ok { (bytes : ℕ) (u : MayTake missing bytes hand.old self.old) → OnOk result (TakesTables (next_of missing bytes hand.old self.old u) u.words missing hand.old hand.new self.old self.new) }
-        ensures err { (bytes : ℕ) (u : MayTake missing bytes hand.old self.old) → IfErr result (λ e. Stops (next_of missing bytes hand.old self.old u) u.words (map (λ t. least_block) missing) (table_blocks hand.new.fresh) self.old self.new e) }
+        ensures err { (bytes : ℕ) (u : MayTake missing bytes hand.old self.old) → IfErr result (λ e. Stops hand.old.tables (next_of missing bytes hand.old self.old u) u.words (map (λ t. least_block) missing) (table_blocks hand.new.fresh) self.old self.new e) }
     {
         for table in missing.into_vec() {
             let block = self.allocate_keeping(TABLE_WORDS, hand)?;
@@ -106,7 +106,7 @@ impl Parts {
     fn take_pair(&mut self, hand: &mut Hand, bytes: usize) -> Result<Taken, NoTile>
         requires { MayTake [] bytes hand.old self.old }
         ensures ok { (u : MayTake [] bytes hand.old self.old) → IfOk result (λ taken. TakesPair (next_of [] bytes hand.old self.old u) u.words bytes hand.old hand.new self.old taken self.new) }
-        ensures err { (u : MayTake [] bytes hand.old self.old) → IfErr result (λ e. Stops (next_of [] bytes hand.old self.old u) u.words (unit_words self.old.options ∷ raised (words_of_bytes bytes) ∷ []) (table_blocks hand.new.fresh) self.old self.new e) }
+        ensures err { (u : MayTake [] bytes hand.old self.old) → IfErr result (λ e. Stops hand.old.tables (next_of [] bytes hand.old self.old u) u.words (unit_words self.old.options ∷ raised (words_of_bytes bytes) ∷ []) (table_blocks hand.new.fresh) self.old self.new e) }
     {
         let first = self.allocate_keeping(self.options.unit / 8, hand)?;
         let taken = self.allocate_keeping((bytes.div_ceil(8) as u32).max(TABLE_WORDS), hand);
@@ -123,7 +123,7 @@ impl Parts {
     fn take_all(&mut self, hand: &mut Hand, missing: Tables, bytes: usize) -> Result<Taken, NoTile>
         requires { MayTake missing bytes hand.old self.old }
         ensures ok { (u : MayTake missing bytes hand.old self.old) → IfOk result (λ taken. TakesAll (next_of missing bytes hand.old self.old u) u.words missing bytes hand.old hand.new self.old taken self.new) }
-        ensures err { (u : MayTake missing bytes hand.old self.old) → IfErr result (λ e. Stops (next_of missing bytes hand.old self.old u) u.words (needs_for self.old.options missing bytes) (table_blocks hand.new.fresh) self.old self.new e) }
+        ensures err { (u : MayTake missing bytes hand.old self.old) → IfErr result (λ e. Stops hand.old.tables (next_of missing bytes hand.old self.old u) u.words (needs_for self.old.options missing bytes) (table_blocks hand.new.fresh) self.old self.new e) }
     {
         self.take_tables(hand, missing)?;
         self.take_pair(hand, bytes)
@@ -138,7 +138,7 @@ impl Parts {
     ) -> Result<Taken, NoTile>
         requires { MayTake missing bytes hand.old self.old }
         ensures ok { (u : MayTake missing bytes hand.old self.old) → IfOk result (λ taken. TakesAll (next_of missing bytes hand.old self.old u) u.words missing bytes hand.old hand.new self.old taken self.new) }
-        ensures err { (u : MayTake missing bytes hand.old self.old) → IfErr result (λ e. Stops (next_of missing bytes hand.old self.old u) u.words (needs_for self.old.options missing bytes) [] self.old self.new e) }
+        ensures err { (u : MayTake missing bytes hand.old self.old) → IfErr result (λ e. Stops hand.old.tables (next_of missing bytes hand.old self.old u) u.words (needs_for self.old.options missing bytes) [] self.old self.new e) }
     {
         match self.take_all(hand, missing, bytes) {
             Ok(taken) => Ok(taken),

@@ -74,12 +74,12 @@ onward_after s t a = record { later = a.later; events = a.events; quiet = a.othe
 
 onward_grown : (n : ℕ) (s t : Parts) (b : Block) → Grows n s b t → Onward s t
 onward_grown n s t b g =
-    let o = onward_after s g.mid (pruned_after (unit_words s.options) g.count s g.mid g.prunes) in
+    let o = onward_after s g.mid (pruned_after [] (unit_words s.options) g.count s g.mid g.prunes) in
     subst (Onward s) (sym g.server) (record { later = o.later; events = o.events; quiet = o.quiet; options = o.options; connected = o.connected })
 
 onward_short : (n : ℕ) (s t : Parts) (e : Short) → IsShort n s t e → Onward s t
 onward_short n s t (short.Overtaken by) h = subst (Onward s) (sym h.2) (onward_same s)
-onward_short n s t (short.NoRoom need largest) h = onward_after s t (pruned_after (unit_words s.options) h.1 s t h.2)
+onward_short n s t (short.NoRoom need largest) h = onward_after s t (pruned_after [] (unit_words s.options) h.1 s t h.2)
 
 -- ---- what is struck off
 
@@ -237,7 +237,7 @@ more_words n s t q r b some g is =
 pub was_short : (n : ℕ) (s t : Parts) (e : Short) → IsLawful t.options t.journal.events → IsShort n s t e → WasShort n t e
 was_short n s t (short.Overtaken by) lawful h = (ap (λ (x : Parts). entry_of n (cache x.journal.events)) h.2 ∙ h.0, subst (λ (x : Parts). IsOvertaken x.journal.events n by) (sym h.2) h.1)
 was_short n s t (short.NoRoom need largest) lawful h =
-    let a = pruned_after (unit_words s.options) h.1 s t h.2 in
+    let a = pruned_after [] (unit_words s.options) h.1 s t h.2 in
     (still_filling t.options s t n lawful a h.0, subst (λ o. LacksTile (unit_words o) t (record { need = need; largest = largest })) (sym a.options) h.3)
 
 found_none : (es : List Entry) → option_map (λ (e : Entry). e.serial) (find is_idle es) ≡ None → find is_idle es ≡ None

@@ -70,8 +70,9 @@ impl Fill {
         }
     }
 
-    /// Stores the next packet of the entry's answer, behind those that were stored before. It takes the turn only where the blocks don't hold the packet, or the
-    /// reply is longer than the limit. After each answer but `More` the fill has ended, and the seat rests. It takes no memory.
+    /// Stores the next packet of the entry's answer, behind those that were stored before. It takes the turn, for which it may wait, only where the blocks
+    /// don't hold the packet, or the reply is longer than the limit (`query_cache_limit` in MySQL's "Query Cache Configuration"). After each answer but `More`
+    /// the fill has ended, and the seat rests. It takes no memory. Costs the packet's bytes, and what `grow` and `gone` cost under the turn.
     pub fn put<R: Wait>(
         &mut self,
         rt: &R,
@@ -99,7 +100,8 @@ impl Fill {
         FillStep::More
     }
 
-    /// Ends the fill after the last packet: the entry is complete, unless it was taken out of the cache before. The seat then rests. It takes no memory.
+    /// Ends the fill after the last packet: the entry is complete, unless it was taken out of the cache before. The seat then rests. It takes the turn, for
+    /// which it may wait, and no memory. Costs what `done` costs.
     pub fn end<R: Wait>(self, rt: &R, turn: &Turn<Server>, seat: &mut Seat<Server>) -> Ended
         requires seated { IsSeatOf turn.now seat.old }
         requires fills { IsFillOf self seat.old }
@@ -112,7 +114,7 @@ impl Fill {
         end_whole(rt, turn, seat, self.serial, self.bytes)
     }
 
-    /// Gives the fill up, for a session that ends. The seat then rests. It takes no memory.
+    /// Gives the fill up, for a session that ends. The seat then rests. It takes the turn, for which it may wait, and no memory. Costs what `gone` costs.
     pub fn abandon<R: Wait>(self, rt: &R, turn: &Turn<Server>, seat: &mut Seat<Server>)
         requires seated { IsSeatOf turn.now seat.old }
         requires fills { (view seat.old).task ≡ task.Fill self.serial }

@@ -39,7 +39,7 @@ impl Stream {
     }
 
     /// Writes the next 512 bytes of the entry, as it was at the hit, to the front of `out`, or all that are left where these are fewer, and answers how many
-    /// these are: 0 exactly after the last. It doesn't wait for the turn, and takes no memory.
+    /// these are: 0 exactly after the last. It loads at most 64 words, doesn't wait for the turn, and takes no memory.
     pub fn next(
         &mut self,
         turn: &Turn<Server>,

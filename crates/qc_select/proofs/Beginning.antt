@@ -23,6 +23,7 @@ use Rattle.qc_core.specs.declared.parts.Parts.{Parts}
 use Rattle.qc_core.specs.declared.starts.Started.{Started}
 use Rattle.qc_core.specs.Allocates.{PrunesMany}
 use Rattle.qc_core.specs.Starts.{LacksRoomFor, Starts, Takes, needs_of, without_block}
+use Rattle.qc_core.proofs.FillTasks.{prune_is}
 use Rattle.qc_select.proofs.Needing.{is_own_prune}
 
 -- ---- prunes for needs of a key
@@ -50,33 +51,34 @@ then_pruned key a b c h k = record {
   options = k.options ∙ h.options;
 }
 
-many_pruned : (key : List ℕ) (need count : ℕ) (old new : Parts) → is_need old.options key need ≡ true → PrunesMany need count old new → ArePruned key old new
-many_pruned key need zero old new is h = none_pruned key old new h
-many_pruned key need (suc k) old new is h =
+many_pruned : (key : List ℕ) (tables : List TableName) (need count : ℕ) (old new : Parts) → is_need old.options key need ≡ true → PrunesMany tables need count old new → ArePruned key old new
+many_pruned key tables need zero old new is h = none_pruned key old new h
+many_pruned key tables need (suc k) old new is h =
     let mid = h.0 in
     let one = h.2 in
-    let first = many_pruned key need k old mid is h.1 in
+    let first = many_pruned key tables need k old mid is h.1 in
+    let went = prune_is tables need mid new one in
     then_pruned key old mid new first (record {
       prunes = event.Prune one.serial need (largest_free mid.tiles) ∷ [];
       own = and_from (is_need mid.options key need) true (subst (λ o. is_need o key need ≡ true) (sym first.options) is) refl;
-      events = one.events;
-      options = one.options;
+      events = ap (λ (s : Parts). s.journal.events) went;
+      options = ap (λ (s : Parts). s.options) went;
     })
 
 same_events : (key : List ℕ) (a b c : Parts) → c.journal ≡ b.journal → c.options ≡ b.options → ArePruned key a b → ArePruned key a c
 same_events key a b c journal options h = record { prunes = h.prunes; own = h.own; events = ap (λ j. j.events) journal ∙ h.events; options = options ∙ h.options }
 
-takes_pruned : (key : List ℕ) (needs : List ℕ) (old : Parts) (bs : List Block) (new : Parts) → list_all (is_need old.options key) needs ≡ true → Takes needs old bs new → ArePruned key old new
-takes_pruned key [] old [] new own h = none_pruned key old new h
-takes_pruned key [] old (b ∷ bs) new own h = absurd h
-takes_pruned key (need ∷ needs) old [] new own h = absurd h
-takes_pruned key (need ∷ needs) old (b ∷ bs) new own h =
+takes_pruned : (key : List ℕ) (tables : List TableName) (needs : List ℕ) (old : Parts) (bs : List Block) (new : Parts) → list_all (is_need old.options key) needs ≡ true → Takes tables needs old bs new → ArePruned key old new
+takes_pruned key tables [] old [] new own h = none_pruned key old new h
+takes_pruned key tables [] old (b ∷ bs) new own h = absurd h
+takes_pruned key tables (need ∷ needs) old [] new own h = absurd h
+takes_pruned key tables (need ∷ needs) old (b ∷ bs) new own h =
     let parts = and_parts (is_need old.options key need) (list_all (is_need old.options key) needs) own in
     let next = h.0 in
     let one = h.1 in
-    let first = many_pruned key need one.count old one.mid parts.0 one.prunes in
+    let first = many_pruned key tables need one.count old one.mid parts.0 one.prunes in
     let taken = same_events key old one.mid next (ap (λ (s : Parts). s.journal) one.server) (ap (λ (s : Parts). s.options) one.server) first in
-    then_pruned key old next new taken (takes_pruned key needs next bs new (subst (λ o. list_all (is_need o key) needs ≡ true) (sym taken.options) parts.1) h.2)
+    then_pruned key old next new taken (takes_pruned key tables needs next bs new (subst (λ o. list_all (is_need o key) needs ≡ true) (sym taken.options) parts.1) h.2)
 
 -- ---- the needs of a start
 
@@ -120,7 +122,7 @@ then_runs key who old mid new h p e = record { prunes = p.prunes; own = p.own; e
 pub started_runs : (seat : ℕ) (who : Who) (key : List ℕ) (tables : List TableName) (old new : Parts) (before after : Ranged) (b : Started) → 64 ≤ unit_words old.options → Starts seat who key tables old new before after b
     → Runs key who old new (how.Start b.serial key tables)
 started_runs seat who key tables old new before after b least s =
-    then_runs key who old s.mid new (how.Start b.serial key tables) (takes_pruned key (needs_of old.options old.dir.tables tables key) old _ s.mid (needs_are_own old.options key old.dir.tables tables least) s.takes) s.events
+    then_runs key who old s.mid new (how.Start b.serial key tables) (takes_pruned key tables (needs_of old.options old.dir.tables tables key) old _ s.mid (needs_are_own old.options key old.dir.tables tables least) s.takes) s.events
 
 pub record RunsShort (key : List ℕ) (who : Who) (old new : Parts) (need largest : ℕ) : Type 0 where
   pub runs : Runs key who old new (how.Plain (reason.NoRoom need largest))
@@ -134,8 +136,8 @@ short_runs who key tables old new before after need largest place least l =
     let parts = and_parts (list_all (is_need old.options key) s.done) (list_all (is_need old.options key) (s.need ∷ s.rest)) (sym (list_all-append (is_need old.options key) s.done (s.need ∷ s.rest)) ∙ all) in
     let own = and_parts (is_need old.options key s.need) (list_all (is_need old.options key) s.rest) parts.1 in
     let told : need ≡ s.need = ap (λ (e : NoTile). e.need) s.lacks.answer in
-    let first = takes_pruned key s.done old s.blocks s.mid parts.0 s.takes in
-    let more = many_pruned key s.need s.count s.mid s.last (subst (λ o. is_need o key s.need ≡ true) (sym first.options) own.0) s.prunes in
+    let first = takes_pruned key tables s.done old s.blocks s.mid parts.0 s.takes in
+    let more = many_pruned key tables s.need s.count s.mid s.last (subst (λ o. is_need o key s.need ≡ true) (sym first.options) own.0) s.prunes in
     let all_pruned = same_events key old s.last l.mid (ap (λ (x : Parts). x.journal) s.server) (ap (λ (x : Parts). x.options) s.server) (then_pruned key old s.mid s.last first more) in
     record {
       runs = then_runs key who old l.mid new (how.Plain (reason.NoRoom need largest)) all_pruned (ap (λ (x : Parts). x.journal.events) l.server);

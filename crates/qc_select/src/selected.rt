@@ -10,16 +10,22 @@ use qc_types::SqlError;
 pub enum Selected {
     /// An entry answers it, which the seat streams.
     Hit(Hit),
-    /// An entry was begun, which the seat fills. The plan gives its rows.
+    /// An entry was begun, which the seat fills.
     Start {
+        /// The serial of the entry.
         serial: u64,
+        /// The number of the event.
         place: u64,
+        /// The plan that gives its rows.
         plan: Plan,
     },
-    /// It runs outside of the cache, for this reason. The plan gives its rows, or it is refused with the error.
+    /// It runs outside of the cache.
     Plain {
+        /// Why it does.
         reason: Reason,
+        /// The number of the event.
         place: u64,
+        /// The plan that gives its rows, or the error with which it is refused.
         plan: Result<Plan, SqlError>,
     },
 }

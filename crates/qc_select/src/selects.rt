@@ -39,12 +39,13 @@ use qc_turn::Held;
 use qc_types::{NoMemory, SqlError, TableName, Tables, Text};
 use std::alloc::Global;
 
-/// Decides a SELECT under the lock. It is a hit exactly where the cache is asked and has a complete entry of the key that the session may see. Else it runs
-/// plain with the first reason that applies: it is refused, the cache is off, it isn't asked, the text keeps the SELECT out, a table was written by the
-/// session's own transaction, a table changed since its snapshot, or another session fills an entry of the key. Else an entry is begun, or it runs plain for
-/// want of room. The plan, or the refusal, is that of the database which the session sees at the place of the event, and is made once, before any event.
-/// Before all that the seat's own stream, which has ended, is struck off where it is listed still. Where memory lacks, that was done, there may be more room
-/// in the journal, and nothing else changed; nothing is listed for the seat then.
+/// Decides a SELECT under the lock, as in MySQL's "How the Query Cache Operates". It is a hit exactly where the cache is asked and has a complete entry of the
+/// key that the session may see. Else it runs plain with the first reason that applies: it is refused, the cache is off, it isn't asked, the text keeps the
+/// SELECT out, a table was written by the session's own transaction, a table changed since its snapshot, or another session fills an entry of the key. Else an
+/// entry is begun, or it runs plain for want of room. The plan, or the refusal, is that of the database which the session sees at the place of the event, and
+/// is made once, before any event. Before all that the seat's own stream, which has ended, is struck off where it is listed still. Where memory lacks, that was
+/// done, there may be more room in the journal, and nothing else changed; nothing is listed for the seat then. Costs what `look`, `rival`, the plan and `start`
+/// cost; no stored row is read.
 pub fn run_select(
     held: &mut Held<'_, Server>,
     alloc: Global,

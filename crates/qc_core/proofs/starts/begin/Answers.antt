@@ -43,7 +43,7 @@ run_without_room-requires c =
     let above = ap (λ (x : Ready). x.serial) r.ready in
     let x = c.take_blocks.new.self in
     let e = c.in-Err.none in
-    let a = subst (λ (q : List TableName × List ℕ × Hand × Parts). (u : MayTake q.0 (length q.1) q.2 q.3) → Stops (next_of q.0 (length q.1) q.2 q.3 u) u.words (needs_for q.3.options q.0 (length q.1)) [] q.3 x e)
+    let a = subst (λ (q : List TableName × List ℕ × Hand × Parts). (u : MayTake q.0 (length q.1) q.2 q.3) → Stops q.2.tables (next_of q.0 (length q.1) q.2 q.3 u) u.words (needs_for q.3.options q.0 (length q.1)) [] q.3 x e)
     (λ i. (ap (λ (x : Ready). x.missing) r.ready i, c.bytes-bytes.ensures i, ap (λ (x : Ready). x.hand) r.ready i, c.value.ensures.value i)) (c.in-Err.ensures {u = tt}).err
     (taking c.args.who c.args.ready.serial c.args.key c.args.tables h r.stands r.next r.may r.room above) in
     holds_nothing c.args.who c.args.ready.serial c.args.key c.args.tables h r.stands r.next r.may r.room above (needs_for h.value.options (without_block h.value.dir.tables c.args.tables) (length c.args.key)) x e a
@@ -97,7 +97,7 @@ returns-in-Err-clause-begun c =
     let above = ap (λ (x : Ready). x.serial) r.ready in
     let x = c.take_blocks.new.self in
     let e = c.in-Err.none in
-    let a = subst (λ (q : List TableName × List ℕ × Hand × Parts). (u : MayTake q.0 (length q.1) q.2 q.3) → Stops (next_of q.0 (length q.1) q.2 q.3 u) u.words (needs_for q.3.options q.0 (length q.1)) [] q.3 x e)
+    let a = subst (λ (q : List TableName × List ℕ × Hand × Parts). (u : MayTake q.0 (length q.1) q.2 q.3) → Stops q.2.tables (next_of q.0 (length q.1) q.2 q.3 u) u.words (needs_for q.3.options q.0 (length q.1)) [] q.3 x e)
     (λ i. (ap (λ (x : Ready). x.missing) r.ready i, c.bytes-bytes.ensures i, ap (λ (x : Ready). x.hand) r.ready i, c.value.ensures.value i)) (c.in-Err.ensures {u = tt}).err
     (taking c.args.who c.args.ready.serial c.args.key c.args.tables h r.stands r.next r.may r.room above) in
     record {

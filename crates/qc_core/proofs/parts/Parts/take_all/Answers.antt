@@ -11,7 +11,7 @@ returns-in_err-take_tables-clause-err c = λ u.
     let s = c.args.self.now in
     let e = c.in_err-take_tables.field-0.0 in
     err_same c.from_residual.result e _ c.from_residual.ensures.1
-    (stops_before (next_of c.args.missing c.args.bytes c.args.hand.now s u) u.words (map (λ t. least_block) c.args.missing) (unit_words s.options ∷ raised (words_of_bytes c.args.bytes) ∷ []) (table_blocks c.take_tables.new.hand.fresh) s c.take_tables.new.self e ((c.in_err-take_tables.ensures {u = tt}).err c.args.bytes u))
+    (stops_before c.args.hand.now.tables (next_of c.args.missing c.args.bytes c.args.hand.now s u) u.words (map (λ t. least_block) c.args.missing) (unit_words s.options ∷ raised (words_of_bytes c.args.bytes) ∷ []) (table_blocks c.take_tables.new.hand.fresh) s c.take_tables.new.self e ((c.in_err-take_tables.ensures {u = tt}).err c.args.bytes u))
 
 pub take_pair-requires : goal.take_pair-requires
 take_pair-requires c = may_take_pair c.args.missing c.args.bytes c.args.hand.now c.take_tables.new.hand c.args.self.now c.take_tables.new.self c.requires ((c.in_ok-take_tables.ensures {u = tt}).ok c.args.bytes c.requires)

@@ -28,5 +28,5 @@ returns-in-Err-clause-err c = λ u.
     let next = next_of c.args.missing c.args.bytes c.args.hand.now c.args.self.now u in
     let held = table_blocks c.take_all.new.hand.fresh in
     let needs = needs_for c.args.self.now.options c.args.missing c.args.bytes in
-    subst (λ (ts : List Tile). Stops next u.words needs [] c.args.self.now (record c.take_all.new.self { tiles = ts }) c.in-Err.none) (sym c.give_back.ensures)
-    (stops_more next u.words needs held c.args.self.now c.take_all.new.self c.in-Err.none p)
+    subst (λ (ts : List Tile). Stops c.args.hand.now.tables next u.words needs [] c.args.self.now (record c.take_all.new.self { tiles = ts }) c.in-Err.none) (sym c.give_back.ensures)
+    (stops_more c.args.hand.now.tables next u.words needs held c.args.self.now c.take_all.new.self c.in-Err.none p)

@@ -18,7 +18,7 @@ returns-in_err-first-clause-err c = λ u.
     let next = next_of [] c.args.bytes hand s u in
     let after = c.allocate_keeping.new.hand in
     err_same c.from_residual.result c.in_err-first.field-0.0 _ c.from_residual.ensures.1
-    (stops [] (unit_words s.options) (raised (words_of_bytes c.args.bytes) ∷ []) next u.words [] [] hand after s s c.allocate_keeping.new.self [] c.in_err-first.field-0.0 refl p.0 p.1 may.least (λ k low. low) [] (table_blocks after.fresh) (λ b. let sum = times_append b (table_blocks after.fresh) [] in omega (arith, sum)))
+    (stops [] (unit_words s.options) (raised (words_of_bytes c.args.bytes) ∷ []) next u.words [] [] hand after hand.tables refl s s c.allocate_keeping.new.self [] c.in_err-first.field-0.0 refl p.0 p.1 may.least (λ k low. low) [] (table_blocks after.fresh) (λ b. let sum = times_append b (table_blocks after.fresh) [] in omega (arith, sum)))
 
 pub allocate_keeping-taken-requires : goal.allocate_keeping-taken-requires
 allocate_keeping-taken-requires c =
@@ -43,7 +43,7 @@ give_back-requires c =
     let size : c.max.result ≡ raised (words_of_bytes c.args.bytes) = c.max.ensures ∙ ap (λ n. max n 64) (c.div_ceil.ensures ∙ words_are c.args.bytes) in
     let may = may_take_text c.args.bytes hand s u first one mid t in
     let p = subst (λ n. (v : MayTakeOne n one mid) → PrunesSome n v.next v.words v.missing v.others one after mid last × HasNone n last c.in-Err.none) size (c.in-Err.ensures {u = tt}).err may in
-    (given_out (unit_words s.options ∷ []) (raised (words_of_bytes c.args.bytes)) [] (next_of [] c.args.bytes hand s u) u.words [] (first ∷ []) one after s mid last (first ∷ []) c.in-Err.none (mid, t.takes, refl) p.0 p.1 may.least t.room (first ∷ []) (table_blocks after.fresh) (λ b. let sum = times_append b (table_blocks after.fresh) (first ∷ []) in omega (arith, sum))).each.0
+    (given_out (unit_words s.options ∷ []) (raised (words_of_bytes c.args.bytes)) [] (next_of [] c.args.bytes hand s u) u.words [] (first ∷ []) one after hand.tables t.tables s mid last (first ∷ []) c.in-Err.none (mid, t.takes, refl) p.0 p.1 may.least t.room (first ∷ []) (table_blocks after.fresh) (λ b. let sum = times_append b (table_blocks after.fresh) (first ∷ []) in omega (arith, sum))).each.0
 
 pub returns-in-Ok-clause-ok : goal.returns-in-Ok-clause-ok
 returns-in-Ok-clause-ok c = λ u.
@@ -73,5 +73,5 @@ returns-in-Err-clause-err c = λ u.
     let may = may_take_text c.args.bytes hand s u first one mid t in
     let p = subst (λ n. (v : MayTakeOne n one mid) → PrunesSome n v.next v.words v.missing v.others one after mid last × HasNone n last c.in-Err.none) size (c.in-Err.ensures {u = tt}).err may in
     let next = next_of [] c.args.bytes hand s u in
-    let r = stops (unit_words s.options ∷ []) (raised (words_of_bytes c.args.bytes)) [] next u.words [] (first ∷ []) one after s mid last (first ∷ []) c.in-Err.none (mid, t.takes, refl) p.0 p.1 may.least t.room (first ∷ []) (table_blocks after.fresh) (λ b. let sum = times_append b (table_blocks after.fresh) (first ∷ []) in omega (arith, sum)) in
-    subst (λ (ts : List Tile). Stops next u.words (unit_words s.options ∷ raised (words_of_bytes c.args.bytes) ∷ []) (table_blocks after.fresh) s (record last { tiles = ts }) c.in-Err.none) (sym c.give_back.ensures.tiles) r
+    let r = stops (unit_words s.options ∷ []) (raised (words_of_bytes c.args.bytes)) [] next u.words [] (first ∷ []) one after hand.tables t.tables s mid last (first ∷ []) c.in-Err.none (mid, t.takes, refl) p.0 p.1 may.least t.room (first ∷ []) (table_blocks after.fresh) (λ b. let sum = times_append b (table_blocks after.fresh) (first ∷ []) in omega (arith, sum)) in
+    subst (λ (ts : List Tile). Stops hand.tables next u.words (unit_words s.options ∷ raised (words_of_bytes c.args.bytes) ∷ []) (table_blocks after.fresh) s (record last { tiles = ts }) c.in-Err.none) (sym c.give_back.ensures.tiles) r

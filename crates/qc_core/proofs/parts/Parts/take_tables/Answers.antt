@@ -42,9 +42,9 @@ returns-in_err-block-clause-err c = λ bytes u.
     let p = (c.in_err-block.ensures {u = tt}).err may in
     let after = c.allocate_keeping.new.hand in
     let e = c.in_err-block.field-0.0 in
-    let r = stops (map (λ t. least_block) (take n missing)) least_block (map (λ t. least_block) (drop (n + 1) missing)) next u.words (c.in-Some.table ∷ drop (n + 1) missing) [] c.loop-table.hand after s now c.allocate_keeping.new.self d.blocks e d.takes p.0 p.1 may.least d.room [] (table_blocks after.fresh) (λ b. let sum = times_append b (table_blocks after.fresh) [] in omega (arith, sum)) in
+    let r = stops (map (λ t. least_block) (take n missing)) least_block (map (λ t. least_block) (drop (n + 1) missing)) next u.words (c.in-Some.table ∷ drop (n + 1) missing) [] c.loop-table.hand after c.args.hand.now.tables d.tables s now c.allocate_keeping.new.self d.blocks e d.takes p.0 p.1 may.least d.room [] (table_blocks after.fresh) (λ b. let sum = times_append b (table_blocks after.fresh) [] in omega (arith, sum)) in
     err_same c.from_residual.result e _ c.from_residual.ensures.1
-    (subst (λ l. Stops next u.words l (table_blocks after.fresh) s c.allocate_keeping.new.self e) (sym (needs_split next u.words missing n c.args.hand.now c.loop-table.hand s now d c.in-Some.table t.0 t.1)) r)
+    (subst (λ l. Stops c.args.hand.now.tables next u.words l (table_blocks after.fresh) s c.allocate_keeping.new.self e) (sym (needs_split next u.words missing n c.args.hand.now c.loop-table.hand s now d c.in-Some.table t.0 t.1)) r)
 
 pub push-requires : goal.push-requires
 push-requires c =

@@ -13,5 +13,5 @@ returns-clause-ok c =
 
 pub returns-clause-err : goal.returns-clause-err
 returns-clause-err c =
-    subst (λ (v : Parts). (u : MayTake c.args.missing c.args.bytes c.args.hand.now v) → IfErr c.take_blocks.result (λ e. Stops (next_of c.args.missing c.args.bytes c.args.hand.now v u) u.words (needs_for v.options c.args.missing c.args.bytes) [] v c.take_blocks.new.self e))
+    subst (λ (v : Parts). (u : MayTake c.args.missing c.args.bytes c.args.hand.now v) → IfErr c.take_blocks.result (λ e. Stops c.args.hand.now.tables (next_of c.args.missing c.args.bytes c.args.hand.now v u) u.words (needs_for v.options c.args.missing c.args.bytes) [] v c.take_blocks.new.self e))
     (c.deref_mut.ensures.value ∙ c.self.view_is) c.take_blocks.ensures.err
