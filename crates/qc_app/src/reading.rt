@@ -15,7 +15,9 @@ const PIECE: usize = 16_384;
 /// Why an input was not read.
 #[derive(Clone, Copy, Debug, PartialEq, Eq)]
 pub enum Unread {
+    /// A read failed.
     Failed,
+    /// Memory ran out.
     Memory,
 }
 

@@ -1,5 +1,4 @@
 -- Which types of a session and of the server may cross threads.
-use denote.RattleType.{RattleType}
 use denote.Builtin.{u32, u64}
 use denote.Struct.Field.{u64-field}
 use denote.Param.Send.{IsSend, IsSync, sendable, view_send}
@@ -15,20 +14,9 @@ use Rattle.qc_dir.proofs.dir.Dir.TheSendSync as dir
 use Rattle.qc_dir.specs.contracts.dir.Dir as Dir
 use Rattle.qc_table.proofs.database.Database.TheSendSync as database
 use Rattle.qc_table.specs.contracts.database.Database as Database
-use Rattle.qc_index.specs.contracts.index.Index as Index
-use Rattle.qc_index.proofs.tree.Tree.TheLaws.TheKnot as tree
-use Rattle.qc_index.proofs.keys.Keyed.TheSendSync as keyed
-use Rattle.qc_tiles.proofs.blocks.Block.TheSendSync as block
-use Rattle.qc_tiles.proofs.places.Places.TheSendSync as places
-use Rattle.qc_tiles.specs.contracts.blocks.Block as Block
+use Rattle.qc_tiles.proofs.tiles.Tiles.TheSendSync as tiles
 use Rattle.qc_tiles.specs.contracts.tiles.Tiles as Tiles
-use Rattle.qc_chain.proofs.members.FreeName.TheSendSync as free_name
-use Rattle.qc_chain.proofs.members.Held.TheSendSync as held
-use Rattle.qc_chain.proofs.members.PlacedBlock.TheSendSync as placed
-use Rattle.qc_chain.proofs.names.Extent.TheSendSync as extent
-use Rattle.qc_chain.specs.contracts.members.FreeName as FreeName
-use Rattle.qc_chain.specs.contracts.members.Held as Held
-use Rattle.qc_chain.specs.contracts.members.PlacedBlock as PlacedBlock
+use Rattle.qc_chain.proofs.chains.Chains.TheSendSync as chains
 use Rattle.qc_chain.specs.contracts.chains.Chains as Chains
 use Rattle.qc_core.proofs.counted.CountedJournal.TheSendSync as counted
 use Rattle.qc_core.proofs.reserved.ReservedList.TheSendSync as reserved
@@ -59,20 +47,6 @@ use Rattle.qc_serve.proofs.ending.End.TheSendSync as end
 use Rattle.qc_serve.specs.contracts.session.Session as Session
 use Rattle.qc_run.specs.contracts.slots.Slot as Slot
 
-index_send : (T : RattleType) → IsSend T → IsSend (Index.the_row T)
-index_send T s = let k = keyed.the_send T s in search (sendable, crosses, tree.send-Tree, tree.send-Fork) depth 40
-
-tiles_send : IsSend Tiles.the_row
-tiles_send = let i = index_send Block.the_row block.the_send in let p = places.the_send in search (sendable, crosses) depth 20
-
-chains_send : IsSend Chains.the_row
-chains_send =
-    let i = index_send FreeName.the_row free_name.the_send in
-    let j = index_send Held.the_row held.the_send in
-    let k = index_send PlacedBlock.the_row placed.the_send in
-    let e = extent.the_send in
-    search (sendable, crosses) depth 20
-
 u32_send : IsSend u32
 u32_send = search sendable
 
@@ -87,9 +61,9 @@ parts_send =
           (
             as_row_send Dir.the_field dir.the_send,
             (
-              as_row_send Chains.the_field chains_send,
+              as_row_send Chains.the_field chains.the_send,
               (
-                as_row_send Tiles.the_field tiles_send,
+                as_row_send Tiles.the_field tiles.the_send,
                 (
                   as_row_send (Reserved.the_field u32) (reserved.the_send u32 u32_send),
                   (

@@ -23,11 +23,14 @@ use std::alloc::Global;
 use std::sync::Wait;
 use std::thread::Threads;
 
-/// A run of a script: its report, the server as the last seat left it, and a receipt of each session, in the order of the report.
+/// A run of a script.
 #[derive(Drop)]
 pub struct Ran {
+    /// Its report.
     pub report: Report,
+    /// The server as the last seat left it.
     pub server: Server,
+    /// A receipt of each session, in the order of the report.
     pub receipts: Receipts,
 }
 

@@ -27,8 +27,9 @@ use Rattle.qc_steps.proofs.Words.{others_end}
 use Rattle.qc_turn.specs.declared.turn.Turn.{Turn}
 use Rattle.qc_core.specs.declared.parts.Parts.{Parts}
 use Rattle.qc_serve.specs.declared.session.Session.{Session}
-use Rattle.qc_serve.specs.Going.{DoesOne, DoesStatement, GivesOut, TellsOut, next_who, number_of, position_of, seen_by}
+use Rattle.qc_serve.specs.Going.{DoesOne, DoesStatement, GivesOut, IsEventOf, IsGivenBy, Stops, StopsStatement, TellsOut, next_who, number_of, position_of, seen_by}
 use Rattle.qc_serve.proofs.Givens.{used_own}
+use Rattle.qc_serve.proofs.Resting.{stops_as}
 
 -- ---- of any machine
 
@@ -68,7 +69,7 @@ answers_told m options s I state after place c reply h =
 -- ---- an event that isn't a SELECT's
 
 -- it needs nothing
-others_need : (options : Options) (earlier : Journal) (key : List ℕ) (e : Event) → word_of e ≡ word.Other → HasOwnNeeds options earlier key e
+pub others_need : (options : Options) (earlier : Journal) (key : List ℕ) (e : Event) → word_of e ≡ word.Other → HasOwnNeeds options earlier key e
 others_need options earlier key (event.Run who (how.Start serial k tables)) h = tt
 others_need options earlier key (event.Run who (how.Hit serial)) h = tt
 others_need options earlier key (event.Run who (how.Plain why)) h = absurd cc
@@ -157,3 +158,31 @@ statement_told t s old new bytes r next local_is session out = λ text is.
 pub fault_told : (t : Turn Parts Event) (text : List ℕ) (fault : ParseFault) (old new : Session) (bytes : List ℕ) → meaning (trimmed text) old.state.state.ansi ≡ Err fault → TellsOut t old new bytes (refused (fault_error fault)) old.state.state
     → DoesOne t (command.Query text) old new bytes
 fault_told t text fault old new bytes is out = told_does t (command.Query text) old new bytes (refused (fault_error fault)) old.state.state (rw is refl) refl out
+
+-- ---- memory lacked
+
+-- what is given is the command's own event
+given_event : (c : Command) (old : Session) (given : Journal → Given) (J : Journal) (e : Event) → local old.state.state c ≡ None → Executes old.options (next_who old) old.state.state c J (given J).event (given J).reply (given J).next
+    → IsGivenBy given J e → IsEventOf c old J e
+given_event c old given J e none does is = record {
+  has_one = none;
+  reply = (given J).reply;
+  next = (given J).next;
+  executes = subst (λ (x : Event). Executes old.options (next_who old) old.state.state c J x (given J).reply (given J).next) (sym is) does;
+}
+
+pub choose_stops : (t : Turn Parts Event) (name : Name) (old new : Session) → Stops t old new (IsGivenBy (λ journal. used (next_who old) old.state.state journal name)) → Stops t old new (IsEventOf (command.InitDb name) old)
+choose_stops t name old new stops =
+    let given : Journal → Given = λ journal. used (next_who old) old.state.state journal name in
+    stops_as t old new (IsGivenBy given) (IsEventOf (command.InitDb name) old) (λ J e is. given_event (command.InitDb name) old given J e refl (refl, refl, refl) is) stops
+
+-- of a query
+pub statement_event : (text : List ℕ) (s : Statement) (old : Session) (given : Journal → Given) (J : Journal) (e : Event) → meaning (trimmed text) old.state.state.ansi ≡ Ok s → local_text old.state.state (Ok s) ≡ None
+    → ExecutesStatement old.options (next_who old) (arrived (length J + 1) s old.state.state) text J s (given J).event (given J).reply (given J).next → IsGivenBy given J e → IsEventOf (command.Query text) old J e
+statement_event text s old given J e means no_local does is = given_event (command.Query text) old given J e (rw means no_local) (rw means does) is
+
+pub statement_stops : (t : Turn Parts Event) (s : Statement) (old new : Session) (given : Journal → Given) → local_text old.state.state (Ok s) ≡ None
+    → ((text : List ℕ) (J : Journal) → ExecutesStatement old.options (next_who old) (arrived (length J + 1) s old.state.state) text J s (given J).event (given J).reply (given J).next)
+    → Stops t old new (IsGivenBy given) → StopsStatement t s old new
+statement_stops t s old new given no_local does stops = λ text means.
+    stops_as t old new (IsGivenBy given) (IsEventOf (command.Query text) old) (λ J e is. statement_event text s old given J e means no_local (does text J) is) stops

@@ -1,5 +1,6 @@
 -- A session ends at a command.
 use Rattle.std.proofs.Common.{◌≡◌, ℕ, ◌+◌, ◌-◌, ◌≤◌, List, [], ◌∷◌, ◌++◌, length, take, refl, sym, ap, ◌∙◌, subst, arith, append-nil, inl, inr, Option, Some, None, Result, Ok, Err, OnErr}
+use Rattle.std.specs.List.{AllByRecursion}
 use Rattle.std.specs.Prelude.{◌⊎◌, MatchOption, map}
 use lib.Seq.{take-append-le}
 use Rattle.qc_types.specs.declared.options.Options.{Options}
@@ -13,10 +14,11 @@ use Rattle.qc_model.specs.declared.reports.ReportLine.{ReportLine}
 use Rattle.qc_model.specs.declared.reports.Word.TheVariants as word
 use Rattle.qc_model.specs.Agrees.{Machine, key_of_command, line, who_of, whole_machine, word_of, word_of_how}
 use Rattle.qc_model.specs.Journal.{Journal, before}
-use Rattle.qc_model.specs.Machine.{Local}
+use Rattle.qc_model.specs.Machine.{Executes, Local}
 use Rattle.qc_model.specs.Needs.{HasOwnNeeds}
 use Rattle.qc_laws.specs.runs.Runs.{HasItsEvent, HasNoEvent, Position, own}
 use Rattle.qc_laws.proofs.runs.Composes.{events_below}
+use Rattle.qc_laws.proofs.runs.Whole.{own_count}
 use Rattle.qc_turn.specs.declared.seat.Seat.{Seat}
 use Rattle.qc_turn.specs.declared.turn.Turn.{Turn}
 use Rattle.qc_turn.specs.Seats.{view}
@@ -29,11 +31,12 @@ use Rattle.qc_serve.specs.declared.log.Logged.{Logged}
 use Rattle.qc_serve.specs.declared.session.Session.{Session}
 use Rattle.qc_serve.specs.declared.sinks.Piece.{Piece}
 use Rattle.qc_serve.specs.Executed.{HasEnded, HasEventLine, Leaves, MustEnd, Quits, SendsPart}
-use Rattle.qc_serve.specs.Going.{DoesOne, Stops, number_of, position_of, seen_by, standing_of}
+use Rattle.qc_serve.specs.Going.{DoesOne, IsEventOf, Stops, number_of, position_of, seen_by, standing_of}
 use Rattle.qc_serve.specs.Leaving.{HasLeft}
 use Rattle.qc_serve.specs.Logs.{DropsLocal, Lines, kept_line, logged, logged_event, logged_line}
 use Rattle.qc_serve.specs.Seats.{GoesOn, SeatRests}
 use Rattle.qc_serve.specs.Sent.{SendsFrontOf}
+use Rattle.qc_serve.proofs.Answering.{others_need}
 
 -- ---- the line of a command with an event stays
 
@@ -108,12 +111,35 @@ put_failed t c old middle new reply held out does log front = subst (λ (s : Ses
 
 -- ---- memory lacked, before anything went out
 
-pub stopped : (t : Turn Parts Event) (c : Command) (old new : Session) (held : Option (List Piece)) → Stops t old new → MustEnd t c old new held held
+-- the empty front of a reply
+front_none : (held : Option (List Piece)) (bytes : List ℕ) → SendsFrontOf held held bytes
+front_none None bytes = refl
+front_none (Some pieces) bytes = ([], ap (λ (x : List Piece). Some x) (sym (append-nil pieces)), (bytes, refl))
+
+-- no event came, or the command's
+stopped_sent : (c : Command) (old new : Session) (held : Option (List Piece)) (events : List (ℕ × Event)) → length events ≤ 1 → AllByRecursion (λ (x : ℕ × Event). word_of x.1 ≡ word.Other) events
+    → AllByRecursion (λ (x : ℕ × Event). IsEventOf c old (before x.0 (seen_by new)) x.1) events → own (number_of old) (seen_by new) ≡ own (number_of old) (seen_by old) ++ events → ((events ≡ []) × (held ≡ held)) ⊎ SendsPart c old new held held
+stopped_sent c old new held [] few others so grows = inl (refl, refl)
+stopped_sent c old new held ((n, e) ∷ []) few (other, rest) (its, more) grows =
+    let s : ℕ = number_of old in
+    let J : Journal = before n (seen_by new) in
+    let l : ReportLine = line n (word_of e) its.reply in
+    let executed : Executes old.options (who_of s (length (own s (seen_by old)) + 1)) old.state.state c J e its.reply its.next
+    = subst (λ (k : ℕ). Executes old.options (who_of s (k + 1)) old.state.state c J e its.reply its.next) (sym (own_count s (seen_by old))) its.executes in
+    inr (
+      l,
+      subst (λ (o : Local). MatchOption o (HasEventLine whole_machine old.options s (position_of old) c l (seen_by new)) (λ given. (l ≡ line old.place word.Local given.0) × (own s (seen_by new) ≡ own s (seen_by old)))) (sym its.has_one)
+          (e, its.reply, its.next, grows, executed, refl, others_need old.options J (key_of_command old.state.state c) e other),
+      front_none held l.reply,
+    )
+stopped_sent c old new held (x ∷ y ∷ more) few others so grows = absurd (omega (arith, few))
+
+pub stopped : (t : Turn Parts Event) (c : Command) (old new : Session) (held : Option (List Piece)) → Stops t old new (IsEventOf c old) → MustEnd t c old new held held
 stopped t c old new held stops =
     let again = stops.rests in
     record {
       rests = again.rests;
-      breaks = record { begins = stops.begins; events = stops.events; few = stops.few; grows = stops.grows; lines = stops.lines; session = stops.session; standing = λ i. (again.fixed i, again.registry i); sent = inl refl };
+      breaks = record { begins = stops.begins; events = stops.events; few = stops.few; grows = stops.grows; lines = stops.lines; session = stops.session; standing = λ i. (again.fixed i, again.registry i); sent = stopped_sent c old new held stops.events stops.few stops.others stops.are_so stops.grows };
     }
 
 -- nothing was done
@@ -128,7 +154,7 @@ untouched t c old log held rests same = record {
     lines = same ∙ sym (append-nil old.log.lines);
     session = refl;
     standing = refl;
-    sent = inl refl;
+    sent = inl (refl, refl);
   };
 }
 
@@ -165,10 +191,10 @@ line_on : (m : Machine) (options : Options) (s : ℕ) (from : Position) (c : Com
 line_on m options s from c l seen now None on h = event_line_on m options s from c l seen now on h
 line_on m options s from c l seen now (Some given) on h = (h.0, on.none ∙ h.1)
 
-sent_on : (c : Command) (old middle : Session) (seat : Seat Parts Event ghosts) (end : Option End) (held out : Option (List Piece)) → GoesOn (number_of old) (seen_by middle) (seen_by (record middle { seat = seat; end = end }))
-    → (out ≡ held) ⊎ SendsPart c old middle held out → (out ≡ held) ⊎ SendsPart c old (record middle { seat = seat; end = end }) held out
-sent_on c old middle seat end held out on (inl same) = inl same
-sent_on c old middle seat end held out on (inr (l, has, front)) =
+sent_on : (c : Command) (old middle : Session) (seat : Seat Parts Event ghosts) (end : Option End) (events : List (ℕ × Event)) (held out : Option (List Piece)) → GoesOn (number_of old) (seen_by middle) (seen_by (record middle { seat = seat; end = end }))
+    → ((events ≡ []) × (out ≡ held)) ⊎ SendsPart c old middle held out → ((events ≡ []) × (out ≡ held)) ⊎ SendsPart c old (record middle { seat = seat; end = end }) held out
+sent_on c old middle seat end events held out on (inl none) = inl none
+sent_on c old middle seat end events held out on (inr (l, has, front)) =
     inr (l, line_on whole_machine old.options (number_of old) (position_of old) c l (seen_by middle) (seen_by (record middle { seat = seat; end = end })) (whole_machine.without_event old.state.state (take old.place (seen_by old)) c) on has, front)
 
 ends_with : (t : Turn Parts Event) (c : Command) (old middle : Session) (seat : Seat Parts Event ghosts) (held out : Option (List Piece)) (e : End) → MustEnd t c old middle held out → HasLeft t (number_of middle) seat → ((view seat).fixed, (view seat).registry) ≡ standing_of middle
@@ -179,7 +205,7 @@ ends_with t c old middle seat held out e must left standing on =
     record {
       left = subst (λ (n : ℕ). HasLeft t n seat) b.session left;
       end = refl;
-      breaks = record { begins = starts_trans (seen_by (record middle { seat = seat; end = Some e })) (seen_by middle) (seen_by old) goes.begins b.begins; events = b.events; few = b.few; grows = goes.none ∙ b.grows; lines = b.lines; session = b.session; standing = standing ∙ b.standing; sent = sent_on c old middle seat (Some e) held out goes b.sent };
+      breaks = record { begins = starts_trans (seen_by (record middle { seat = seat; end = Some e })) (seen_by middle) (seen_by old) goes.begins b.begins; events = b.events; few = b.few; grows = goes.none ∙ b.grows; lines = b.lines; session = b.session; standing = standing ∙ b.standing; sent = sent_on c old middle seat (Some e) b.events held out goes b.sent };
     }
 
 pub ended : (t : Turn Parts Event) (c : Command) (old middle new : Session) (held out : Option (List Piece)) (e : End) → MustEnd t c old middle held out → Leaves t middle new e → HasEnded t c old new held out e

@@ -1,5 +1,5 @@
 -- A SELECT is decided under the turn: what its seat then may go on with, and what was decided.
-use Rattle.std.proofs.Common.{◌≡◌, ℕ, zero, suc, ◌+◌, ◌*◌, ◌≤◌, Bool, true, false, cond, List, [], ◌∷◌, ◌++◌, refl, sym, ap, ◌∙◌, subst, arith}
+use Rattle.std.proofs.Common.{◌≡◌, ℕ, ◌+◌, ◌*◌, ◌≤◌, Bool, true, false, cond, List, [], ◌∷◌, ◌++◌, refl, sym, ap, ◌∙◌, subst, arith}
 use Rattle.std.specs.Prelude.{◌==◌, Option, Some, None, option_map}
 use Rattle.std.specs.List.{list_any}
 use Rattle.std.proofs.lemmas.Option.{none-some}
@@ -40,6 +40,7 @@ use Rattle.qc_core.specs.Starts.{IsBegun, Takes, needs_of}
 use Rattle.qc_core.specs.Strikes.{rested}
 use Rattle.qc_core.specs.Sweeps.{Finds, swept}
 use Rattle.qc_core.specs.Whole.{tasks_of}
+use Rattle.qc_core.proofs.FillTasks.{pruned_after}
 use Rattle.qc_select.specs.declared.selected.Selected.{Selected}
 use Rattle.qc_select.specs.declared.selected.Selected.TheVariants as selected
 use Rattle.qc_select.specs.Selects.{Decided, Decides, Does, MayAsk, how_of, place_of, selected_tasks}
@@ -58,24 +59,23 @@ use Rattle.qc_serve.proofs.Seating.{found_seat}
 
 -- ---- who is connected stays so
 
-many_connected : (need count : ℕ) (s t : Parts) → PrunesMany need count s t → t.connected ≡ s.connected
-many_connected need zero s t h = ap (λ (x : Parts). x.connected) h
-many_connected need (suc k) s t h = let one = h.2 in one.connected ∙ many_connected need k s h.0 h.1
+many_connected : (tables : List TableName) (need count : ℕ) (s t : Parts) → PrunesMany tables need count s t → t.connected ≡ s.connected
+many_connected tables need count s t h = let after = pruned_after tables need count s t h in after.connected
 
-takes_connected : (needs : List ℕ) (s : Parts) (bs : List Block) (t : Parts) → Takes needs s bs t → t.connected ≡ s.connected
-takes_connected [] s [] t h = ap (λ (x : Parts). x.connected) h
-takes_connected [] s (b ∷ bs) t h = absurd h
-takes_connected (need ∷ needs) s [] t h = absurd h
-takes_connected (need ∷ needs) s (b ∷ bs) t h =
+takes_connected : (tables : List TableName) (needs : List ℕ) (s : Parts) (bs : List Block) (t : Parts) → Takes tables needs s bs t → t.connected ≡ s.connected
+takes_connected tables [] s [] t h = ap (λ (x : Parts). x.connected) h
+takes_connected tables [] s (b ∷ bs) t h = absurd h
+takes_connected tables (need ∷ needs) s [] t h = absurd h
+takes_connected tables (need ∷ needs) s (b ∷ bs) t h =
     let one = h.1 in
-    takes_connected needs h.0 bs t h.2 ∙ (ap (λ (x : Parts). x.connected) one.server ∙ many_connected need one.count s one.mid one.prunes)
+    takes_connected tables needs h.0 bs t h.2 ∙ (ap (λ (x : Parts). x.connected) one.server ∙ many_connected tables need one.count s one.mid one.prunes)
 
 begun_connected : (seat : ℕ) (who : Who) (key : List ℕ) (tables : List TableName) (s t : Parts) (before after : Ranged) (b : Begun) → IsBegun seat who key tables s t before after b → t.connected ≡ s.connected
-begun_connected seat who key tables s t before after (begun.Started b) h = let adds = h.adds in adds.connected ∙ takes_connected (needs_of s.options s.dir.tables tables key) s (h.blocks ++ h.first ∷ h.text ∷ []) h.mid h.takes
+begun_connected seat who key tables s t before after (begun.Started b) h = let adds = h.adds in ap (λ (x : Parts). x.connected) adds.server ∙ takes_connected tables (needs_of s.options s.dir.tables tables key) s (h.blocks ++ h.first ∷ h.text ∷ []) h.mid h.takes
 begun_connected seat who key tables s t before after (begun.NoRoom need largest place) h =
     let short = h.short in
     ap (λ (x : Parts). x.connected) h.server
-    ∙ (ap (λ (x : Parts). x.connected) short.server ∙ (many_connected short.need short.count short.mid short.last short.prunes ∙ takes_connected short.done s short.blocks short.mid short.takes))
+    ∙ (ap (λ (x : Parts). x.connected) short.server ∙ (many_connected tables short.need short.count short.mid short.last short.prunes ∙ takes_connected tables short.done s short.blocks short.mid short.takes))
 
 swept_connected : (found : List FoundWord) (s : Parts) → (swept found s).connected ≡ s.connected
 swept_connected found s = let b = swept_books found s in b.connected

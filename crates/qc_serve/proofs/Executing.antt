@@ -3,6 +3,7 @@ use Rattle.std.proofs.Common.{◌≡◌, ℕ, ◌+◌, true, false, List, length
 use Rattle.std.specs.Prelude.{MatchResult}
 use Rattle.qc_types.specs.declared.sql_error.SqlError.{SqlError}
 use Rattle.qc_types.specs.declared.totals.Totals.{Totals}
+use Rattle.qc_sql.specs.declared.commands.Command.TheVariants as command
 use Rattle.qc_sql.specs.declared.statements.Delete.{Delete}
 use Rattle.qc_sql.specs.declared.statements.Insert.{Insert}
 use Rattle.qc_sql.specs.declared.statements.Select.{Select}
@@ -25,9 +26,10 @@ use Rattle.qc_steps.proofs.Switches.{set_session}
 use Rattle.qc_turn.specs.declared.turn.Turn.{Turn}
 use Rattle.qc_core.specs.declared.parts.Parts.{Parts}
 use Rattle.qc_serve.specs.declared.session.Session.{Session}
-use Rattle.qc_serve.specs.Going.{DoesStatement, GivesOut, SetsOther, TellsOut, event_given, next_who, number_of, rows_given, status_given}
-use Rattle.qc_serve.proofs.Answering.{statement_given, statement_told}
+use Rattle.qc_serve.specs.Going.{DoesStatement, GivesOut, IsEventOf, IsGivenBy, SetsOther, Stops, StopsStatement, StopsWithout, TellsOut, event_given, next_who, number_of, rows_given, status_given}
+use Rattle.qc_serve.proofs.Answering.{statement_event, statement_given, statement_stops, statement_told}
 use Rattle.qc_serve.proofs.Givens.{autocommit_own, ended_own, forms_own, rows_own, used_own}
+use Rattle.qc_serve.proofs.Resting.{stops_as, stops_without}
 
 -- ---- INSERT, UPDATE and DELETE
 
@@ -114,6 +116,46 @@ tables_does t old new bytes out = statement_given t statement.FlushTables old ne
 
 pub reset_does : (t : Turn Parts Event) (old new : Session) (bytes : List ℕ) → GivesOut t old new bytes (λ journal. event_given (event.Reset (next_who old)) old.state.state) → DoesStatement t statement.ResetCache old new bytes
 reset_does t old new bytes out = statement_given t statement.ResetCache old new bytes (λ journal. event_given (event.Reset (next_who old)) old.state.state) refl (λ text J. (refl, refl, refl)) (λ J. refl) out
+
+-- ---- memory lacked
+
+pub rows_stops : (t : Turn Parts Event) (s : Statement) (old new : Session) → changes_rows s ≡ true → Stops t old new (IsGivenBy (rows_given (next_who old) old.state.state s)) → StopsStatement t s old new
+rows_stops t (statement.Insert i) old new is stops = let s = statement.Insert i in statement_stops t s old new (rows_given (next_who old) old.state.state s) refl (λ text J. (refl, refl, refl)) stops
+rows_stops t (statement.Update u) old new is stops = let s = statement.Update u in statement_stops t s old new (rows_given (next_who old) old.state.state s) refl (λ text J. (refl, refl, refl)) stops
+rows_stops t (statement.Delete d) old new is stops = let s = statement.Delete d in statement_stops t s old new (rows_given (next_who old) old.state.state s) refl (λ text J. (refl, refl, refl)) stops
+rows_stops t s old new is stops = absurd (true≢false (sym is))
+
+pub forms_stops : (t : Turn Parts Event) (s : Statement) (old new : Session) → changes_tables s ≡ true → Stops t old new (IsGivenBy (λ journal. changed_form (next_who old) old.state.state journal s)) → StopsStatement t s old new
+forms_stops t (statement.Truncate n) old new is stops = let s = statement.Truncate n in statement_stops t s old new (λ journal. changed_form (next_who old) old.state.state journal s) refl (λ text J. (refl, refl, refl)) stops
+forms_stops t (statement.CreateTable n parts) old new is stops =
+    let s = statement.CreateTable n parts in
+    statement_stops t s old new (λ journal. changed_form (next_who old) old.state.state journal s) refl (λ text J. (refl, refl, refl)) stops
+forms_stops t (statement.DropTable n) old new is stops = let s = statement.DropTable n in statement_stops t s old new (λ journal. changed_form (next_who old) old.state.state journal s) refl (λ text J. (refl, refl, refl)) stops
+forms_stops t (statement.CreateDb n) old new is stops = let s = statement.CreateDb n in statement_stops t s old new (λ journal. changed_form (next_who old) old.state.state journal s) refl (λ text J. (refl, refl, refl)) stops
+forms_stops t (statement.DropDb n) old new is stops = let s = statement.DropDb n in statement_stops t s old new (λ journal. changed_form (next_who old) old.state.state journal s) refl (λ text J. (refl, refl, refl)) stops
+forms_stops t s old new is stops = absurd (true≢false (sym is))
+
+pub use_db_stops : (t : Turn Parts Event) (name : Name) (old new : Session) → Stops t old new (IsGivenBy (λ journal. used (next_who old) old.state.state journal name)) → StopsStatement t (statement.UseDb name) old new
+use_db_stops t name old new stops = statement_stops t (statement.UseDb name) old new (λ journal. used (next_who old) old.state.state journal name) refl (λ text J. (refl, refl, refl)) stops
+
+pub begin_stops : (t : Turn Parts Event) (old new : Session) → Stops t old new (IsGivenBy (λ journal. ended_with (next_who old) old.state.state journal (begun old.state.state))) → StopsStatement t statement.Begin old new
+begin_stops t old new stops = statement_stops t statement.Begin old new (λ journal. ended_with (next_who old) old.state.state journal (begun old.state.state)) refl (λ text J. (refl, refl, refl)) stops
+
+pub commit_stops : (t : Turn Parts Event) (old new : Session) → Stops t old new (IsGivenBy (λ journal. ended_with (next_who old) old.state.state journal (with_transaction old.state.state None))) → StopsStatement t statement.Commit old new
+commit_stops t old new stops = statement_stops t statement.Commit old new (λ journal. ended_with (next_who old) old.state.state journal (with_transaction old.state.state None)) refl (λ text J. (refl, refl, refl)) stops
+
+pub autocommit_stops : (t : Turn Parts Event) (x : Setting) (old new : Session) → is_autocommit x ≡ true → Stops t old new (IsGivenBy (λ journal. set_autocommit (next_who old) old.state.state journal (set_to old.state.state x))) → StopsStatement t (statement.Set x) old new
+autocommit_stops t x old new is stops =
+    statement_stops t (statement.Set x) old new (λ journal. set_autocommit (next_who old) old.state.state journal (set_to old.state.state x)) (rw is refl) (λ text J. (is, (refl, refl, refl))) stops
+
+pub status_stops : (t : Turn Parts Event) (old new : Session) → Stops t old new (λ journal e. (x : Totals) × IsGivenBy (status_given (next_who old) old.state.state x) journal e) → StopsStatement t statement.ShowStatus old new
+status_stops t old new stops = λ text means.
+    stops_as t old new (λ journal e. (x : Totals) × IsGivenBy (status_given (next_who old) old.state.state x) journal e) (IsEventOf (command.Query text) old)
+    (λ J e so. statement_event text statement.ShowStatus old (status_given (next_who old) old.state.state so.0) J e means refl (so.0, refl, refl, refl) so.1) stops
+
+-- before the statement's event, or it has none
+pub without_stops : (t : Turn Parts Event) (s : Statement) (old new : Session) → StopsWithout t old new → StopsStatement t s old new
+without_stops t s old new stops = λ text is. stops_without t old new (IsEventOf (command.Query text) old) stops
 
 -- ---- the statements that are left
 

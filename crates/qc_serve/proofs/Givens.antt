@@ -10,6 +10,7 @@ use Rattle.qc_sql.specs.Database.{Name, Tables, apply, tables_of}
 use Rattle.qc_sql.specs.Effects.{Effect, effect}
 use Rattle.qc_model.specs.declared.events.Event.{Event}
 use Rattle.qc_model.specs.declared.events.Event.TheVariants as event
+use Rattle.qc_model.specs.declared.events.How.TheVariants as how
 use Rattle.qc_model.specs.declared.events.Who.{Who}
 use Rattle.qc_model.specs.declared.reports.Word.TheVariants as word
 use Rattle.qc_model.specs.Agrees.{word_of}
@@ -74,6 +75,19 @@ used_own who J state name = by (tables_of name (base state J)) refl
     by : (o : Option Tables) → tables_of name (base state J) ≡ o → IsOwn who state.session (used who state J name)
     by None h = subst (IsOwn who state.session) (used_none who J state name h) (record { event = record { other = refl; by = refl }; session = refl })
     by (Some ts) h = subst (IsOwn who state.session) (used_there who J state name ts h) (record { event = record { other = refl; by = refl }; session = refl })
+
+-- USE says nothing of what it did
+pub used_run : (who : Who) (J : Journal) (state : State) (name : Name) → (used who state J name).event ≡ event.Run who how.Other
+used_run who J state name = by (tables_of name (base state J)) refl
+  where
+    by : (o : Option Tables) → tables_of name (base state J) ≡ o → (used who state J name).event ≡ event.Run who how.Other
+    by None h = subst (λ (g : Given). g.event ≡ event.Run who how.Other) (used_none who J state name h) refl
+    by (Some ts) h = subst (λ (g : Given). g.event ≡ event.Run who how.Other) (used_there who J state name ts h) refl
+
+-- nor does a statement on rows in a transaction
+pub changed_run : (who : Who) (state : State) (x : Transaction) (r : Result Effect SqlError) → state.transaction ≡ Some x → (changed_rows who state r).event ≡ event.Run who how.Other
+changed_run who state x (Err e) is = refl
+changed_run who state x (Ok y) is = rw is refl
 
 pub other_own : (who : Who) (state : State) (r : Reply) → IsOwn who state.session (other who state r)
 other_own who state r = record { event = record { other = refl; by = refl }; session = refl }

@@ -29,9 +29,9 @@ use Rattle.qc_trx.specs.SnapshotStates.{SnapshotState}
 use Rattle.qc_turn.specs.declared.turn.Turn.{Turn}
 use Rattle.qc_core.specs.declared.parts.Parts.{Parts}
 use Rattle.qc_serve.specs.declared.session.Session.{Session}
-use Rattle.qc_serve.specs.Going.{GivesOut, IsAtRest, Logs, Stops, event_given, next_who, number_of, rows_given, status_given}
+use Rattle.qc_serve.specs.Going.{GivesOut, IsAtRest, IsGivenBy, Logs, Stops, event_given, next_who, number_of, rows_given, status_given}
 use Rattle.qc_serve.proofs.Givens.{IsOf, IsOwn, ended_own, forms_own, other_own, rows_own}
-use Rattle.qc_serve.proofs.Resting.{Meets, event_stops, gives_out, rest_ended, rest_same, same_gives}
+use Rattle.qc_serve.proofs.Resting.{Meets, event_stops, gives_out, rest_ended, rest_same, same_gives, stops_as}
 use Rattle.qc_replies.proofs.Calls.{if_ok}
 
 -- ---- of any kind
@@ -58,6 +58,12 @@ pub ends_of : (who : Who) (state : State) (J : Journal) (e : Event) (x : Ended) 
 ends_of who state J e ended.Conflict h = given_of who state.session (ended_with who state J state) e (refused write_conflict) (with_transaction state None) (h state) (ended_own who J state state refl)
 ends_of who state J e (ended.Full t) h = given_of who state.session (ended_with who state J state) e (refused (table_full t)) (with_transaction state None) (h.1 state) (ended_own who J state state refl)
 ends_of who state J e ended.Commits h = given_of who state.session (ended_with who state J state) e (ok_reply state 0) state (h state) (ended_own who J state state refl)
+
+-- it is the one that is given, whatever state a commit leaves
+pub ends_given : (who : Who) (state next : State) (J : Journal) (e : Event) (x : Ended) → EndsAs who state J e x → e ≡ (ended_with who state J next).event
+ends_given who state next J e ended.Conflict h = (h next).event
+ends_given who state next J e (ended.Full t) h = (h.1 next).event
+ends_given who state next J e ended.Commits h = (h next).event
 
 pub ends_fit : (who : Who) (state : State) (J : Journal) (e : Event) (x : Ended) → EndsAs who state J e x → HasFittingError x
 ends_fit who state J e ended.Conflict h = tt
@@ -88,6 +94,14 @@ pub rows_of : (who : Who) (state : State) (s : Statement) (J : Journal) (e : Eve
 rows_of who state s J e (rows.Refused error) h = given_of who state.session (changed_rows who state (effect s (base state J) state.db state.session)) e (refused error) state h.1 (rows_own who state (effect s (base state J) state.db state.session))
 rows_of who state s J e (rows.Changes n) h = given_of who state.session (changed_rows who state (effect s (base state J) state.db state.session)) e (ok_reply state n) state h (rows_own who state (effect s (base state J) state.db state.session))
 
+alone_given : (who : Who) (state : State) (s : Statement) (J : Journal) (e : Event) (x : RowsEnd) → RowsAs who state s J e x → e ≡ (changed_rows who state (effect s (base state J) state.db state.session)).event
+alone_given who state s J e (rows.Refused error) h = h.1.event
+alone_given who state s J e (rows.Changes n) h = h.event
+
+pub rows_given_at : (who : Who) (state : State) (s : Statement) (J : Journal) (e : Event) (x : RowsEnd) → changes_rows s ≡ true → state.transaction ≡ None → state.autocommit ≡ true → RowsAs who state s J e x → e ≡ (rows_given who state s J).event
+rows_given_at who state s J e x kind closed auto h =
+    subst (λ (a : State). e ≡ (changed_rows who a (effect s (base a J) a.db a.session)).event) (sym (arrived_alone (length J + 1) s state kind closed auto)) (alone_given who state s J e x h)
+
 alone_meets : (who : Who) (state now : State) (s : Statement) (J : Journal) (e : Event) (x : RowsEnd) (bytes : List ℕ) → RowsAs who state s J e x → bytes ≡ packets (rows_reply state x) → now ≡ state
     → Meets (changed_rows who state (effect s (base state J) state.db state.session)) e bytes now
 alone_meets who state now s J e (rows.Refused error) bytes h reply is = given_meets (changed_rows who state (effect s (base state J) state.db state.session)) e (refused error) state now bytes h.1 reply is
@@ -109,6 +123,12 @@ forms_of who state s J e forms.Conflict h = given_of who state.session (changed_
 forms_of who state s J e (forms.Full t) h = given_of who state.session (changed_form who state J s) e (refused (table_full t)) (with_transaction state None) h.1 (forms_own who J state s)
 forms_of who state s J e (forms.Refused x) h = given_of who state.session (changed_form who state J s) e (refused x) state h.1 (forms_own who J state s)
 forms_of who state s J e (forms.Changes n) h = given_of who state.session (changed_form who state J s) e (ok_reply (with_transaction state None) n) (with_transaction state None) h (forms_own who J state s)
+
+pub forms_given : (who : Who) (state : State) (s : Statement) (J : Journal) (e : Event) (x : FormsEnd) → FormsAs who state s J e x → e ≡ (changed_form who state J s).event
+forms_given who state s J e forms.Conflict h = h.event
+forms_given who state s J e (forms.Full t) h = h.1.event
+forms_given who state s J e (forms.Refused x) h = h.1.event
+forms_given who state s J e (forms.Changes n) h = h.event
 
 pub forms_meet : (who : Who) (state now : State) (s : Statement) (J : Journal) (e : Event) (x : FormsEnd) (bytes : List ℕ) → FormsAs who state s J e x → bytes ≡ packets (forms_reply now x) → now ≡ left_state x state → Meets (changed_form who state J s) e bytes now
 forms_meet who state now s J e forms.Conflict bytes h reply is = given_meets (changed_form who state J s) e (refused write_conflict) (with_transaction state None) now bytes h reply is
@@ -147,6 +167,14 @@ status_gives t old new bytes x c logs rest state reply =
     let so : IsStatus (next_who old) x c d.journal d.event = d.is_so in
     same_gives t old new bytes (status_given (next_who old) old.state.state x) (IsStatus (next_who old) x c) logs rest state (record { event = record { other = refl; by = refl }; session = refl })
     (record { event = so.0; reply = reply ∙ (λ i. let y : SnapshotState = state i in packets (status_reply y.state (so.1 i) x)); state = refl })
+
+-- memory lacked behind it
+pub status_stop : (t : Turn Parts Event) (old new : Session) (x : Totals) (c : Counters) → Logs t old new (IsStatus (next_who old) x c) → number_of new ≡ number_of old
+    → Stops t old new (λ journal e. (y : Totals) × IsGivenBy (status_given (next_who old) old.state.state y) journal e)
+status_stop t old new x c logs session =
+    let d = logs.decides in
+    stops_as t old new (IsStatus (next_who old) x c) (λ journal e. (y : Totals) × IsGivenBy (status_given (next_who old) old.state.state y) journal e) (λ J e h. (x, h.0))
+    (event_stops t old new (IsStatus (next_who old) x c) logs (status_of_it (next_who old) x c d.journal d.event d.is_so) session)
 
 -- ---- a command that decides
 
@@ -204,10 +232,13 @@ rows_out t old new s x r logs rest state kind closed auto reply =
     if_ok (λ (bytes : List ℕ). bytes ≡ packets (rows_reply new.state.state x)) (λ (bytes : List ℕ). GivesOut t old new bytes (rows_given (next_who old) old.state.state s))
     (λ bytes h. rows_give t old new s x bytes logs rest state kind closed auto (h ∙ ap (λ (z : SnapshotState). packets (rows_reply z.state x)) state)) r reply
 
-pub rows_stop : (t : Turn Parts Event) (old new : Session) (s : Statement) (x : RowsEnd) → Logs t old new (λ journal e. RowsAs (next_who old) old.state.state s journal e x) → new.state ≡ old.state → Stops t old new
-rows_stop t old new s x logs state =
+pub rows_stop : (t : Turn Parts Event) (old new : Session) (s : Statement) (x : RowsEnd) → Logs t old new (λ journal e. RowsAs (next_who old) old.state.state s journal e x) → new.state ≡ old.state → changes_rows s ≡ true
+    → old.state.state.transaction ≡ None → old.state.state.autocommit ≡ true → Stops t old new (IsGivenBy (rows_given (next_who old) old.state.state s))
+rows_stop t old new s x logs state kind closed auto =
     let d = logs.decides in
-    event_stops t old new (λ journal e. RowsAs (next_who old) old.state.state s journal e x) logs (rows_of (next_who old) old.state.state s d.journal d.event x d.is_so) (ap (λ (z : SnapshotState). z.state.session) state)
+    let IsSo : Journal → Event → Type 0 = λ journal e. RowsAs (next_who old) old.state.state s journal e x in
+    stops_as t old new IsSo (IsGivenBy (rows_given (next_who old) old.state.state s)) (λ J e h. rows_given_at (next_who old) old.state.state s J e x kind closed auto h)
+    (event_stops t old new IsSo logs (rows_of (next_who old) old.state.state s d.journal d.event x d.is_so) (ap (λ (z : SnapshotState). z.state.session) state))
 
 pub forms_out : (t : Turn Parts Event) (old new : Session) (s : Statement) (x : FormsEnd) {F : Type 0} (r : Result (List ℕ) F) → Logs t old new (λ journal e. FormsAs (next_who old) old.state.state s journal e x) → IsAtRest t old → new.state ≡ forms_state x old.state
     → IfOk r (λ bytes. bytes ≡ packets (forms_reply new.state.state x)) → IfOk r (λ bytes. GivesOut t old new bytes (λ journal. changed_form (next_who old) old.state.state journal s))
@@ -231,7 +262,10 @@ forms_session (forms.Full n) s = refl
 forms_session (forms.Refused e) s = refl
 forms_session (forms.Changes n) s = refl
 
-pub forms_stop : (t : Turn Parts Event) (old new : Session) (s : Statement) (x : FormsEnd) → Logs t old new (λ journal e. FormsAs (next_who old) old.state.state s journal e x) → new.state ≡ forms_state x old.state → Stops t old new
+pub forms_stop : (t : Turn Parts Event) (old new : Session) (s : Statement) (x : FormsEnd) → Logs t old new (λ journal e. FormsAs (next_who old) old.state.state s journal e x) → new.state ≡ forms_state x old.state
+    → Stops t old new (IsGivenBy (λ journal. changed_form (next_who old) old.state.state journal s))
 forms_stop t old new s x logs state =
     let d = logs.decides in
-    event_stops t old new (λ journal e. FormsAs (next_who old) old.state.state s journal e x) logs (forms_of (next_who old) old.state.state s d.journal d.event x d.is_so) (ap (λ (z : SnapshotState). z.state.session) state ∙ forms_session x old.state)
+    let IsSo : Journal → Event → Type 0 = λ journal e. FormsAs (next_who old) old.state.state s journal e x in
+    stops_as t old new IsSo (IsGivenBy (λ journal. changed_form (next_who old) old.state.state journal s)) (λ J e h. forms_given (next_who old) old.state.state s J e x h)
+    (event_stops t old new IsSo logs (forms_of (next_who old) old.state.state s d.journal d.event x d.is_so) (ap (λ (z : SnapshotState). z.state.session) state ∙ forms_session x old.state))

@@ -119,10 +119,10 @@ moved_line m options s I J state place c l seen (more, is) same within h =
     let front : take place J ≡ take place I = ap (take place) is ∙ take-append-le place I more within in
     subst (Told m options s state place c l seen) (λ i. (front i, same i)) h
 
-moved_sent : (t : Turn Parts Event) (c : Command) (old : Session) (seat : Seat Parts Event ghosts) (new : Session) (held out : Option (List Piece)) → IsAtRest t old → LooksOn t (number_of old) old.seat seat
-    → (out ≡ held) ⊎ SendsPart c (record old { seat = seat }) new held out → (out ≡ held) ⊎ SendsPart c old new held out
-moved_sent t c old seat new held out rest looks (inl same) = inl same
-moved_sent t c old seat new held out rest looks (inr (l, has, front)) =
+moved_sent : (t : Turn Parts Event) (c : Command) (old : Session) (seat : Seat Parts Event ghosts) (new : Session) (events : List (ℕ × Event)) (held out : Option (List Piece)) → IsAtRest t old → LooksOn t (number_of old) old.seat seat
+    → ((events ≡ []) × (out ≡ held)) ⊎ SendsPart c (record old { seat = seat }) new held out → ((events ≡ []) × (out ≡ held)) ⊎ SendsPart c old new held out
+moved_sent t c old seat new events held out rest looks (inl none) = inl none
+moved_sent t c old seat new events held out rest looks (inr (l, has, front)) =
     let on = looks.goes_on in
     inr (l, moved_line whole_machine old.options (number_of old) (seen_by old) (view seat).seen old.state.state old.place c l (seen_by new) on.begins on.none rest.reached has, front)
 
@@ -144,7 +144,7 @@ ends_in t c old seat new held out rest looks must =
         lines = b.lines;
         session = b.session;
         standing = b.standing ∙ (λ i. (again.fixed i, again.registry i));
-        sent = moved_sent t c old seat new held out rest looks b.sent;
+        sent = moved_sent t c old seat new b.events held out rest looks b.sent;
       };
     }
 
@@ -166,7 +166,7 @@ looks_end_in t c old seat held looks =
         lines = sym (append-nil old.log.lines);
         session = refl;
         standing = λ i. (again.fixed i, again.registry i);
-        sent = inl refl;
+        sent = inl (refl, refl);
       };
     }
 

@@ -149,7 +149,7 @@ stopped_by xs (x ∷ []) l few all h is =
 stopped_by xs (x ∷ y ∷ more) l few all h is = absurd (omega (arith, few))
 
 -- memory lacked
-pub stopped_other : (t : Turn Parts Event) (old new : Session) (l : Logged) → Stops t old new → new.log.lines ≡ old.log.lines ++ l ∷ [] → l.how ≡ word.Hit → ⊥
+pub stopped_other : (t : Turn Parts Event) (old new : Session) {IsSo : Journal → Event → Type 0} (l : Logged) → Stops t old new IsSo → new.log.lines ≡ old.log.lines ++ l ∷ [] → l.how ≡ word.Hit → ⊥
 stopped_other t old new l stops is how_is = stopped_by old.log.lines stops.events l stops.few stops.others (sym stops.lines ∙ is) how_is
 
 pub none_logged : {P : Type 0} (old new : Session) (l : Logged) → new.log.lines ≡ old.log.lines → new.log.lines ≡ old.log.lines ++ l ∷ [] → P

@@ -1,15 +1,17 @@
 -- A session is at rest again, behind the event of a command.
+use Rattle.std.specs.List.{AllByRecursion}
 use Rattle.std.proofs.Common.{◌≡◌, ℕ, ◌+◌, ◌*◌, ◌<◌, ◌≤◌, true, List, [], ◌∷◌, ◌++◌, length, map, refl, sym, ap, ◌∙◌, subst, arith, append_assoc, append-nil, length-append, Option, None, Some, Result, Ok, Err, OnErr}
 use Rattle.qc_types.specs.declared.options.Options.{Options}
 use Rattle.qc_sql.specs.declared.replies.Reply.{Reply}
 use Rattle.qc_sql.specs.Packets.{packets}
 use Rattle.qc_model.specs.declared.events.Event.{Event}
 use Rattle.qc_model.specs.declared.reports.Word.TheVariants as word
-use Rattle.qc_model.specs.Journal.{Journal, is_by}
+use Rattle.qc_model.specs.Agrees.{word_of}
+use Rattle.qc_model.specs.Journal.{Journal, before, is_by}
 use Rattle.qc_model.specs.Machine.{Given}
 use Rattle.qc_model.specs.Session.{State, snapshot_of}
 use Rattle.qc_laws.specs.runs.Runs.{StartsWith, own}
-use Rattle.qc_laws.proofs.runs.Steps.{one_more}
+use Rattle.qc_laws.proofs.runs.Steps.{before_it, one_more}
 use Rattle.qc_trx.specs.SnapshotStates.{SnapshotState, after_end}
 use Rattle.qc_steps.specs.Sound.{IsFitState, IsPast}
 use Rattle.qc_steps.proofs.States.{fit_ended, fit_on}
@@ -20,7 +22,7 @@ use Rattle.qc_core.specs.contracts.server.ServerKept.TheImpl.{ghosts}
 use Rattle.qc_core.specs.declared.parts.Parts.{Parts}
 use Rattle.qc_serve.specs.declared.session.Session.{Session}
 use Rattle.qc_serve.specs.declared.log.Logged.{Logged}
-use Rattle.qc_serve.specs.Going.{GivesOut, IsAtRest, Logs, MayAnswer, Stops, TellsOut, as_fixed, next_who, number_of, seen_by, standing_of}
+use Rattle.qc_serve.specs.Going.{GivesOut, IsAtRest, Logs, MayAnswer, Stops, StopsWithout, TellsOut, as_fixed, next_who, number_of, seen_by, standing_of}
 use Rattle.qc_serve.specs.Logs.{logged, logged_event}
 use Rattle.qc_serve.proofs.Givens.{IsOf, IsOwn, mine}
 use Rattle.qc_serve.specs.Seats.{Decides, GoesOn, RestsAgain, SeatRests}
@@ -156,14 +158,15 @@ or_err (Ok x) p = tt
 or_err (Err e) p = p
 
 -- nothing happened
-pub none_stops : (t : Turn Parts Event) (old new : Session) → RestsAgain t (number_of old) old.seat new.seat → GoesOn (number_of old) (seen_by old) (seen_by new) → new.log.lines ≡ old.log.lines → number_of new ≡ number_of old → new.end ≡ old.end
-    → Stops t old new
+pub none_stops : (t : Turn Parts Event) (old new : Session) {IsSo : Journal → Event → Type 0} → RestsAgain t (number_of old) old.seat new.seat → GoesOn (number_of old) (seen_by old) (seen_by new) → new.log.lines ≡ old.log.lines → number_of new ≡ number_of old
+    → new.end ≡ old.end → Stops t old new IsSo
 none_stops t old new again goes lines session end = record {
   rests = again;
   begins = goes.begins;
   events = [];
   few = omega arith;
   others = tt;
+  are_so = tt;
   grows = goes.none ∙ sym (append-nil (own (number_of old) (seen_by old)));
   lines = lines ∙ sym (append-nil old.log.lines);
   session = session;
@@ -171,7 +174,7 @@ none_stops t old new again goes lines session end = record {
 }
 
 -- the session's event came, with its line
-pub event_stops : (t : Turn Parts Event) (old new : Session) (IsSo : Journal → Event → Type 0) (logs : Logs t old new IsSo) → IsOf (next_who old) (event_of t old new IsSo logs) → number_of new ≡ number_of old → Stops t old new
+pub event_stops : (t : Turn Parts Event) (old new : Session) (IsSo : Journal → Event → Type 0) (logs : Logs t old new IsSo) → IsOf (next_who old) (event_of t old new IsSo logs) → number_of new ≡ number_of old → Stops t old new IsSo
 event_stops t old new IsSo logs its session =
     let d = logs.decides in
     let goes = d.goes_on in
@@ -182,17 +185,42 @@ event_stops t old new IsSo logs its session =
     let long : length (seen_by new) ≡ length J + 1 = ap length d.events ∙ length-append J (e ∷ []) in
     let at : new.place ≡ n = logs.place ∙ (long ∙ omega arith) in
     let follows = decided_on s (seen_by old) (seen_by new) IsSo d in
+    let earlier : before n (seen_by new) ≡ J = ap (before n) d.events ∙ (before_it J [] [] e ∙ append-nil J) in
     record {
       rests = logs.rests;
       begins = (follows.more, follows.is);
       events = (n, e) ∷ [];
       few = omega arith;
       others = (its.other, tt);
+      are_so = (subst (λ (j : Journal). IsSo j e) (sym earlier) d.is_so, tt);
       grows = ap (own s) d.events ∙ one_more s (seen_by old) J [] [] e goes.none refl (mine (next_who old) e its) refl;
       lines = logs.lines ∙ ap (λ (l : Logged). old.log.lines ++ l ∷ []) (λ i. logged (at i) (sym its.other i));
       session = session;
       end = logs.end;
     }
+
+-- what is so of its event is so in another way
+all_so : (P Q : Journal → Event → Type 0) (now : Journal) (events : List (ℕ × Event)) → ((J : Journal) (e : Event) → P J e → Q J e) → AllByRecursion (λ (x : ℕ × Event). P (before x.0 now) x.1) events → AllByRecursion (λ (x : ℕ × Event). Q (before x.0 now) x.1) events
+all_so P Q now [] f all = tt
+all_so P Q now (x ∷ xs) f all = (f (before x.0 now) x.1 all.0, all_so P Q now xs f all.1)
+
+pub stops_as : (t : Turn Parts Event) (old new : Session) (P Q : Journal → Event → Type 0) → ((J : Journal) (e : Event) → P J e → Q J e) → Stops t old new P → Stops t old new Q
+stops_as t old new P Q f stops = record {
+  rests = stops.rests;
+  begins = stops.begins;
+  events = stops.events;
+  few = stops.few;
+  others = stops.others;
+  are_so = all_so P Q (seen_by new) stops.events f stops.are_so;
+  grows = stops.grows;
+  lines = stops.lines;
+  session = stops.session;
+  end = stops.end;
+}
+
+-- no event came
+pub stops_without : (t : Turn Parts Event) (old new : Session) (IsSo : Journal → Event → Type 0) → StopsWithout t old new → Stops t old new IsSo
+stops_without t old new IsSo stops = stops_as t old new (λ J e. ⊥) IsSo (λ J e h. absurd h) stops
 
 -- ---- a session whose state was changed before
 
@@ -201,8 +229,8 @@ pub record SameBut (old mid : Session) : Type 0 where
   pub is : mid ≡ record old { state = mid.state }
   pub session : number_of mid ≡ number_of old
 
-pub moved_stops : (t : Turn Parts Event) (old mid new : Session) → SameBut old mid → Stops t mid new → Stops t old new
-moved_stops t old mid new same stops =
+pub moved_stops : (t : Turn Parts Event) (old mid new : Session) (IsSo : Journal → Event → Type 0) → SameBut old mid → Stops t mid new IsSo → Stops t old new IsSo
+moved_stops t old mid new IsSo same stops =
     let n : number_of mid ≡ number_of old = same.session in
     let seat : mid.seat ≡ old.seat = ap (λ (s : Session). s.seat) same.is in
     let log : mid.log.lines ≡ old.log.lines = ap (λ (s : Session). s.log.lines) same.is in
@@ -212,6 +240,7 @@ moved_stops t old mid new same stops =
       events = stops.events;
       few = stops.few;
       others = stops.others;
+      are_so = stops.are_so;
       grows = subst (λ (p : ℕ × Seat Parts Event ghosts). own p.0 (seen_by new) ≡ own p.0 (view p.1).seen ++ stops.events) (λ i. (n i, seat i)) stops.grows;
       lines = stops.lines ∙ ap (λ (l : List Logged). l ++ map logged_event stops.events) log;
       session = stops.session ∙ n;
@@ -256,7 +285,7 @@ moved_tells t old mid new bytes r next same out =
     }
 
 -- it did nothing
-pub unmoved_stops : (t : Turn Parts Event) (old new : Session) → IsAtRest t old → SameBut old new → Stops t old new
+pub unmoved_stops : (t : Turn Parts Event) (old new : Session) {IsSo : Journal → Event → Type 0} → IsAtRest t old → SameBut old new → Stops t old new IsSo
 unmoved_stops t old new rest same =
     let seat : old.seat ≡ new.seat = sym (ap (λ (s : Session). s.seat) same.is) in
     let stays : RestsAgain t (number_of old) old.seat old.seat = record { rests = rest.rests; fixed = refl; registry = refl; ranges = refl } in

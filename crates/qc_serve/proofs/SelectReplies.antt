@@ -396,7 +396,7 @@ lacks_ends t c old new held lacks =
         lines = ap (λ (z : Session). z.log.lines) lacks.same ∙ sym (append-nil old.log.lines);
         session = lacks.session;
         standing = λ i. (again.fixed i, again.registry i);
-        sent = inl refl;
+        sent = inl (refl, refl);
       };
     }
 

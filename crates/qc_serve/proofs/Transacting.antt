@@ -21,12 +21,12 @@ use Rattle.qc_serve.specs.declared.ends.Ended.{Ended}
 use Rattle.qc_serve.specs.declared.ends.Ended.TheVariants as ended
 use Rattle.qc_serve.specs.declared.session.Session.{Session}
 use Rattle.qc_serve.specs.Ends.{EndsAs, ended_reply}
-use Rattle.qc_serve.specs.Going.{GivesOut, IsAtRest, Logs, MayAnswer, SetsOther, Stops, TellsOut, next_who, number_of, seen_by}
+use Rattle.qc_serve.specs.Going.{GivesOut, IsAtRest, IsGivenBy, Logs, MayAnswer, SetsOther, Stops, TellsOut, next_who, number_of, seen_by}
 use Rattle.qc_serve.specs.Seats.{next_of}
 use Rattle.qc_serve.proofs.Autocommit.{set_on, set_plain, set_refused}
 use Rattle.qc_replies.proofs.Calls.{if_ok}
-use Rattle.qc_serve.proofs.Meeting.{ended_state, ends_give, ends_of}
-use Rattle.qc_serve.proofs.Resting.{SameBut, event_stops, logs_moved, moved_gives, moved_may, moved_tells, rest_ended, rest_with}
+use Rattle.qc_serve.proofs.Meeting.{ended_state, ends_give, ends_given, ends_of}
+use Rattle.qc_serve.proofs.Resting.{SameBut, event_stops, logs_moved, moved_gives, moved_may, moved_tells, rest_ended, rest_with, stops_as}
 
 -- ---- ROLLBACK
 
@@ -126,6 +126,13 @@ on_gives t old new v bytes is off out =
     let given : (J : Journal) → ended_with (next_who old) old.state.state J (with_transaction (record old.state.state { autocommit = true }) None) ≡ set_autocommit (next_who old) old.state.state J (set_to old.state.state v) = λ J. set_on (next_who old) J v old.state.state is off in
     subst (λ (f : Journal → Given). GivesOut t old new bytes f) (λ i J. given J i) out
 
+pub on_stops : (t : Turn Parts Event) (old new : Session) (v : Setting) → set_to old.state.state v ≡ Ok (record old.state.state { autocommit = true }) → old.state.state.autocommit ≡ false
+    → Stops t old new (IsGivenBy (λ journal. ended_with (next_who old) old.state.state journal (with_transaction (record old.state.state { autocommit = true }) None)))
+    → Stops t old new (IsGivenBy (λ journal. set_autocommit (next_who old) old.state.state journal (set_to old.state.state v)))
+on_stops t old new v is off stops =
+    let given : (J : Journal) → ended_with (next_who old) old.state.state J (with_transaction (record old.state.state { autocommit = true }) None) ≡ set_autocommit (next_who old) old.state.state J (set_to old.state.state v) = λ J. set_on (next_who old) J v old.state.state is off in
+    subst (λ (f : Journal → Given). Stops t old new (IsGivenBy f)) (λ i J. given J i) stops
+
 ok_is : (x y : State) → ◌≡◌ {A = Result State SqlError} (Ok x) (Ok y) → x ≡ y
 ok_is x y h = cc
 
@@ -144,12 +151,14 @@ turned_on t old new v bytes logs rest sets is origin reply =
 -- ---- behind the end of a transaction, where the state is changed then
 
 -- memory lacked
-pub ended_stops : (t : Turn Parts Event) (old mid : Session) (e : Ended) (x : SnapshotState) → Logs t old mid (λ journal y. EndsAs (next_who old) old.state.state journal y e) → x.state.session ≡ number_of old → Stops t old (record mid { state = x })
-ended_stops t old mid e x logs session =
+pub ended_stops : (t : Turn Parts Event) (old mid : Session) (e : Ended) (x : SnapshotState) (next : State) → Logs t old mid (λ journal y. EndsAs (next_who old) old.state.state journal y e) → x.state.session ≡ number_of old
+    → Stops t old (record mid { state = x }) (IsGivenBy (λ journal. ended_with (next_who old) old.state.state journal next))
+ended_stops t old mid e x next logs session =
     let IsSo : Journal → Event → Type 0 = λ journal y. EndsAs (next_who old) old.state.state journal y e in
     let moved : Logs t old (record mid { state = x }) IsSo = logs_moved t old mid (record mid { state = x }) IsSo logs refl in
     let d = moved.decides in
-    event_stops t old (record mid { state = x }) IsSo moved (ends_of (next_who old) old.state.state d.journal d.event e d.is_so) session
+    stops_as t old (record mid { state = x }) IsSo (IsGivenBy (λ journal. ended_with (next_who old) old.state.state journal next)) (λ J y h. ends_given (next_who old) old.state.state next J y e h)
+    (event_stops t old (record mid { state = x }) IsSo moved (ends_of (next_who old) old.state.state d.journal d.event e d.is_so) session)
 
 commits_at : (t : Turn Parts Event) (old mid : Session) (e : Ended) → e ≡ ended.Commits → Logs t old mid (λ journal y. EndsAs (next_who old) old.state.state journal y e) → Logs t old mid (λ journal y. EndsAs (next_who old) old.state.state journal y ended.Commits)
 commits_at t old mid e is logs = subst (λ (z : Ended). Logs t old mid (λ journal y. EndsAs (next_who old) old.state.state journal y z)) is logs

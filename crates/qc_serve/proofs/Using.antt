@@ -29,10 +29,10 @@ use Rattle.qc_turn.specs.declared.turn.Turn.{Turn}
 use Rattle.qc_core.specs.declared.parts.Parts.{Parts}
 use Rattle.qc_serve.specs.declared.session.Session.{Session}
 use Rattle.qc_serve.specs.Ends.{Makes}
-use Rattle.qc_serve.specs.Going.{GivesOut, IsAtRest, Logs, Stops, next_who, number_of, rows_given, runs_in_transaction, seen_by}
-use Rattle.qc_serve.proofs.Givens.{IsOf, IsOwn, rows_own, used_own}
+use Rattle.qc_serve.specs.Going.{GivesOut, IsAtRest, IsGivenBy, Logs, Stops, next_who, number_of, rows_given, runs_in_transaction, seen_by}
+use Rattle.qc_serve.proofs.Givens.{IsOf, IsOwn, changed_run, rows_own, used_own, used_run}
 use Rattle.qc_serve.proofs.Meeting.{run_of}
-use Rattle.qc_serve.proofs.Resting.{decided_on, event_of, event_stops, fit_taken, gives_out, journal_of, logs_moved, past_later, rest_with}
+use Rattle.qc_serve.proofs.Resting.{decided_on, event_of, event_stops, fit_taken, gives_out, journal_of, logs_moved, past_later, rest_with, stops_as}
 use Rattle.qc_replies.proofs.Calls.{if_ok}
 
 -- what is so of the event of such a command
@@ -50,15 +50,13 @@ fit_behind t old new d logs x fit =
     subst (λ (j : Journal). IsFitState j x) (sym g.events) (fit_more g.journal g.event x (ap operations so.0) fit)
 
 -- memory lacked behind it
-pub shared_stop : (t : Turn Parts Event) (old mid new : Session) (d : Database) → Logs t old mid (IsShared (next_who old) d) → new ≡ record mid { state = new.state } → number_of new ≡ number_of old → Stops t old new
-shared_stop t old mid new d logs is session =
+pub shared_stop : (t : Turn Parts Event) (old mid new : Session) (d : Database) (given : Journal → Given) → ((J : Journal) → (given J).event ≡ event.Run (next_who old) how.Other) → Logs t old mid (IsShared (next_who old) d) → new ≡ record mid { state = new.state }
+    → number_of new ≡ number_of old → Stops t old new (IsGivenBy given)
+shared_stop t old mid new d given run logs is session =
     let IsSo : Journal → Event → Type 0 = IsShared (next_who old) d in
     let moved : Logs t old new IsSo = logs_moved t old mid new IsSo logs is in
     let h = moved.decides in
-    event_stops t old new IsSo moved (shared_of (next_who old) d h.journal h.event h.is_so) session
-
-pub shared_stops : (t : Turn Parts Event) (old mid : Session) (d : Database) (x : SnapshotState) → Logs t old mid (IsShared (next_who old) d) → x.state.session ≡ number_of old → Stops t old (record mid { state = x })
-shared_stops t old mid d x logs session = shared_stop t old mid (record mid { state = x }) d logs refl session
+    stops_as t old new IsSo (IsGivenBy given) (λ J e so. so.0 ∙ sym (run J)) (event_stops t old new IsSo moved (shared_of (next_who old) d h.journal h.event h.is_so) session)
 
 -- ---- USE
 
@@ -118,6 +116,12 @@ choice_session old mid d name x same is = by (is_some (tables_of name (seen_on d
 
 pub kept_session : (old mid : Session) (x : SnapshotState) → mid.state ≡ old.state → x ≡ mid.state → x.state.session ≡ number_of old
 kept_session old mid x same is = ap (λ (y : SnapshotState). y.state.session) (is ∙ same)
+
+-- memory lacked
+pub use_stops : (t : Turn Parts Event) (old mid : Session) (d : Database) (name : Name) (x : SnapshotState) → Logs t old mid (IsShared (next_who old) d) → x.state.session ≡ number_of old
+    → Stops t old (record mid { state = x }) (IsGivenBy (λ journal. used (next_who old) old.state.state journal name))
+use_stops t old mid d name x logs session =
+    shared_stop t old mid (record mid { state = x }) d (λ journal. used (next_who old) old.state.state journal name) (λ J. used_run (next_who old) J old.state.state name) logs refl session
 
 -- the same of the session as it is when the event has come, whose state is then changed
 pub use_give : (t : Turn Parts Event) (old mid : Session) (d : Database) (name : Name) (x : SnapshotState) {E : Type 0} (r : Result (List ℕ) E) → IsAtRest t old → Logs t old mid (IsShared (next_who old) d) → mid.state ≡ old.state → chosen name d mid.state ≡ Ok x
@@ -228,6 +232,21 @@ own_given who state (statement.Insert i) J h = let s = statement.Insert i in let
 own_given who state (statement.Update u) J h = let s = statement.Update u in let a = arrived (length J + 1) s state in rows_own who a (effect s (base a J) a.db a.session)
 own_given who state (statement.Delete d) J h = let s = statement.Delete d in let a = arrived (length J + 1) s state in rows_own who a (effect s (base a J) a.db a.session)
 own_given who state s J h = absurd (true≢false (sym h))
+
+-- it says nothing of what it did
+own_run : (who : Who) (state : State) (s : Statement) (J : Journal) → changes_rows s ≡ true → runs_in_transaction state ≡ true → (rows_given who state s J).event ≡ event.Run who how.Other
+own_run who state s J kind runs =
+    let n : ℕ = length J + 1 in
+    let x : SnapshotState = record { state = state; origin = None } in
+    let a : State = arrived n s state in
+    let o = arrived_opened n [] x runs in
+    changed_run who a o.transaction (effect s (base a J) a.db a.session) (ap (λ (y : State). y.transaction) (sym (arrived_is n [] s x kind)) ∙ o.is)
+
+-- memory lacked behind it
+pub own_stop : (t : Turn Parts Event) (old mid new : Session) (d : Database) (s : Statement) → Logs t old mid (IsShared (next_who old) d) → changes_rows s ≡ true → runs_in_transaction old.state.state ≡ true → new ≡ record mid { state = new.state } → number_of new ≡ number_of old
+    → Stops t old new (IsGivenBy (rows_given (next_who old) old.state.state s))
+own_stop t old mid new d s logs kind runs is session =
+    shared_stop t old mid new d (rows_given (next_who old) old.state.state s) (λ J. own_run (next_who old) old.state.state s J kind runs) logs is session
 
 -- the state when it has arrived: what it is, that it fits, and what it sees
 pub record HasArrived (t : Turn Parts Event) (old new : Session) (d : Database) (logs : Logs t old new (IsShared (next_who old) d)) (x : SnapshotState) : Type 0 where

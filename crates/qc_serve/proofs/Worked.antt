@@ -1,4 +1,4 @@
--- Worked rows: what goes out, and what is taken of an input.
+-- Worked examples: what goes out, and what is taken of an input.
 use Rattle.std.proofs.Common.{◌≡◌, List, ℕ, [], ◌∷◌, ◌++◌, refl, Some}
 use Rattle.qc_model.specs.declared.reports.Ending.TheVariants as ending
 use Rattle.qc_model.specs.declared.reports.Word.TheVariants as word

@@ -73,11 +73,12 @@ HasLine m options session from c l seen =
     MatchOption (m.without_event from.state (take from.place from.seen) c) (HasEventLine m options session from c l seen)
     (λ given. (l ≡ line from.place word.Local given.0) × (own session seen ≡ own session from.seen))
 
--- a front of the command's reply went out
+-- a front of the command's reply went out, which may be empty
 abbrev pub SendsPart : Command → Session → Session → Option (List Piece) → Option (List Piece) → Type 0
 SendsPart c old new held out = (l : ReportLine) × HasLine whole_machine old.options (number_of old) (position_of old) c l (seen_by new) × SendsFrontOf held out l.reply
 
--- The log has a line for the command's event, where that came, and no other. Nothing went out, or a front of the command's reply.
+-- Nothing came and nothing went out. Or the one event that came is the command's, as the machine has it at its place, the log has its line and no other, and a front
+-- of the command's reply at it went out, which may be empty; where the command has no event, none came.
 pub record BreaksOff (c : Command) (old new : Session) (held out : Option (List Piece)) : Type 0 where
   pub begins : StartsWith (seen_by new) (seen_by old)
   pub events : List (ℕ × Event)
@@ -86,7 +87,7 @@ pub record BreaksOff (c : Command) (old new : Session) (held out : Option (List 
   pub lines : new.log.lines ≡ old.log.lines ++ map logged_event events
   pub session : number_of new ≡ number_of old
   pub standing : standing_of new ≡ standing_of old
-  pub sent : (out ≡ held) ⊎ SendsPart c old new held out
+  pub sent : ((events ≡ []) × (out ≡ held)) ⊎ SendsPart c old new held out
 
 -- the session has to end: its seat rests
 pub record MustEnd (t : Turn Parts Event) (c : Command) (old new : Session) (held out : Option (List Piece)) : Type 0 where

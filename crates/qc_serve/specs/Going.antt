@@ -1,6 +1,6 @@
 -- What a session's methods do.
 use Rattle.std.specs.List.{AllByRecursion}
-use Rattle.std.specs.Prelude.{◌≡◌, ℕ, ◌+◌, ◌*◌, ◌<◌, ◌≤◌, Bool, true, not, ◌||◌, Option, is_some, List, [], ◌∷◌, ◌++◌, length, map, Ok, MatchResult}
+use Rattle.std.specs.Prelude.{◌≡◌, ℕ, ◌+◌, ◌*◌, ◌<◌, ◌≤◌, Bool, true, not, ◌||◌, Option, None, is_some, List, [], ◌∷◌, ◌++◌, length, map, take, Ok, MatchResult}
 use Rattle.qc_types.specs.declared.options.Options.{Options}
 use Rattle.qc_types.specs.declared.totals.Totals.{Totals}
 use Rattle.qc_sql.specs.declared.commands.Command.{Command}
@@ -19,7 +19,7 @@ use Rattle.qc_model.specs.declared.reports.ReportLine.{ReportLine}
 use Rattle.qc_model.specs.declared.reports.Word.TheVariants as word
 use Rattle.qc_model.specs.Agrees.{whole_machine, word_of}
 use Rattle.qc_model.specs.Cache.{counters}
-use Rattle.qc_model.specs.Journal.{Journal, is_by}
+use Rattle.qc_model.specs.Journal.{Journal, before, is_by}
 use Rattle.qc_model.specs.Machine.{Given, changed_rows, ok_reply, refused, status_reply}
 use Rattle.qc_model.specs.Session.{State, arrived, base, snapshot_of}
 use Rattle.qc_model.specs.Settings.{set_to}
@@ -69,17 +69,38 @@ pub record MayAnswer (t : Turn Parts Event) (s : Session) : Type 0 where
   pub rest : IsAtRest t s
   pub room : 0 < s.log.room
 
--- memory was wanting: the seat rests, and the log has a line for the event of the session, which is no select's, where that came
-pub record Stops (t : Turn Parts Event) (old new : Session) : Type 0 where
+-- Memory was wanting: the seat rests. At most one event of the session came, of which this is so by the journal before it, and which is no select's; the log has
+-- its line, and no other.
+pub record Stops (t : Turn Parts Event) (old new : Session) (IsSo : Journal → Event → Type 0) : Type 0 where
   pub rests : RestsAgain t (number_of old) old.seat new.seat
   pub begins : StartsWith (seen_by new) (seen_by old)
   pub events : List (ℕ × Event)
   pub few : length events ≤ 1
   pub others : AllByRecursion (λ x. word_of x.1 ≡ word.Other) events
+  pub are_so : AllByRecursion (λ x. IsSo (before x.0 (seen_by new)) x.1) events
   pub grows : own (number_of old) (seen_by new) ≡ own (number_of old) (seen_by old) ++ events
   pub lines : new.log.lines ≡ old.log.lines ++ map logged_event events
   pub session : number_of new ≡ number_of old
   pub end : new.end ≡ old.end
+
+-- it was wanting before an event came
+abbrev pub StopsWithout : Turn Parts Event → Session → Session → Type 0
+StopsWithout t old new = Stops t old new (λ journal e. ⊥)
+
+-- the event is the one that is given by the journal before it
+abbrev pub IsGivenBy : (Journal → Given) → Journal → Event → Type 0
+IsGivenBy given journal e = e ≡ (given journal).event
+
+-- the event is this command's: the command has one, and from where the session stands the machine has this one by the journal before it, with some reply and next state
+pub record IsEventOf (c : Command) (old : Session) (journal : Journal) (e : Event) : Type 0 where
+  pub has_one : whole_machine.without_event old.state.state (take old.place (seen_by old)) c ≡ None
+  pub reply : Reply
+  pub next : State
+  pub executes : whole_machine.executes old.options (next_who old) old.state.state c journal e reply next
+
+-- memory was wanting at a query of a text that means this statement
+abbrev pub StopsStatement : Turn Parts Event → Statement → Session → Session → Type 0
+StopsStatement t s old new = (text : List ℕ) → meaning (trimmed text) old.state.state.ansi ≡ Ok s → Stops t old new (IsEventOf (command.Query text) old)
 
 -- the event of a command that is no SELECT came, behind what others did, with its line
 pub record Logs (t : Turn Parts Event) (old new : Session) (IsSo : Journal → Event → Type 0) : Type 0 where

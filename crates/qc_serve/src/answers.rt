@@ -21,7 +21,7 @@ use std::alloc::Global;
 use std::sync::Wait;
 
 impl Session {
-    ghost use Rattle.qc_serve.specs.Going.{GivesOut, IsAtRest, Logs, MayAnswer, Stops, TellsOut, next_who};
+    ghost use Rattle.qc_serve.specs.Going.{GivesOut, IsAtRest, Logs, MayAnswer, StopsWithout, TellsOut, next_who};
 
     /// A line of the log.
     pub(crate) fn put_line(&mut self, place: u64, how: Word)
@@ -38,7 +38,7 @@ impl Session {
         requires { MayAnswer turn.now self.old }
         ensures logs { OnOk result (Logs turn.now self.old self.new (λ journal e. e ≡ event.Run (next_who self.old) how.Other)) }
         ensures state { self.new.state ≡ self.old.state }
-        ensures stops { OnErr result (Stops turn.now self.old self.new) }
+        ensures stops { OnErr result (StopsWithout turn.now self.old self.new) }
     {
         let session = self.state.session();
         let place = note_other(rt, turn, &mut self.seat, session)?;
@@ -55,7 +55,7 @@ impl Session {
     ) -> Result<Text, NoMemory>
         requires { MayAnswer turn.now self.old }
         ensures gives { IfOk result (λ reply. GivesOut turn.now self.old self.new reply (λ journal. other (next_who self.old) self.old.state.state (machine.ok_reply self.old.state.state 0))) }
-        ensures stops { OnErr result (Stops turn.now self.old self.new) }
+        ensures stops { OnErr result (StopsWithout turn.now self.old self.new) }
     {
         let reply = ok_reply(alloc, 0, self.state.status())?;
         self.log_other(rt, turn)?;
@@ -73,7 +73,7 @@ impl Session {
         requires rest { MayAnswer turn.now self.old }
         requires fits { FitsError error.now }
         ensures gives { IfOk result (λ reply. GivesOut turn.now self.old self.new reply (λ journal. other (next_who self.old) self.old.state.state (machine.refused error.now))) }
-        ensures stops { OnErr result (Stops turn.now self.old self.new) }
+        ensures stops { OnErr result (StopsWithout turn.now self.old self.new) }
     {
         let reply = error_reply(alloc, error)?;
         self.log_other(rt, turn)?;

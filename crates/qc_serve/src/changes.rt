@@ -29,7 +29,7 @@ use std::sync::Wait;
 use std::sync::ledger::Ledger;
 
 impl Session {
-    ghost use Rattle.qc_serve.specs.Going.{GivesOut, MayAnswer, Stops, next_who, number_of, rows_given, runs_in_transaction};
+    ghost use Rattle.qc_serve.specs.Going.{GivesOut, IsGivenBy, MayAnswer, Stops, next_who, number_of, rows_given, runs_in_transaction};
 
     /// INSERT, UPDATE and DELETE: operations of the transaction, or a commit of their own.
     pub(crate) fn change_rows<R: Wait, L: Ledger>(
@@ -44,7 +44,7 @@ impl Session {
         requires rows { changes_rows statement.now ≡ true }
         requires short { is_short_statement statement.now ≡ true }
         ensures gives { IfOk result (λ reply. GivesOut turn.now self.old self.new reply (rows_given (next_who self.old) self.old.state.state statement.now)) }
-        ensures stops { OnErr result (Stops turn.now self.old self.new) }
+        ensures stops { OnErr result (Stops turn.now self.old self.new (IsGivenBy (rows_given (next_who self.old) self.old.state.state statement.now))) }
     {
         let flags = self.state.flags();
         if flags.in_trans || !flags.autocommit {
@@ -69,7 +69,7 @@ impl Session {
         requires short { is_short_statement statement.now ≡ true }
         requires open { runs_in_transaction self.old.state.state ≡ true }
         ensures gives { IfOk result (λ reply. GivesOut turn.now self.old self.new reply (rows_given (next_who self.old) self.old.state.state statement.now)) }
-        ensures stops { OnErr result (Stops turn.now self.old self.new) }
+        ensures stops { OnErr result (Stops turn.now self.old self.new (IsGivenBy (rows_given (next_who self.old) self.old.state.state statement.now))) }
     {
         let database = self.log_sharing(rt, turn)?;
         arrive(&mut self.state, &database, self.place)?;
@@ -109,7 +109,7 @@ impl Session {
         requires closed { self.old.state.state.transaction ≡ None }
         requires autocommit { self.old.state.state.autocommit ≡ true }
         ensures gives { IfOk result (λ reply. GivesOut turn.now self.old self.new reply (rows_given (next_who self.old) self.old.state.state statement.now)) }
-        ensures stops { OnErr result (Stops turn.now self.old self.new) }
+        ensures stops { OnErr result (Stops turn.now self.old self.new (IsGivenBy (rows_given (next_who self.old) self.old.state.state statement.now))) }
     {
         let session = self.state.session();
         let (place, end) = change_rows_now(
@@ -150,7 +150,7 @@ impl Session {
         requires forms { changes_tables statement.now ≡ true }
         requires short { is_short_statement statement.now ≡ true }
         ensures gives { IfOk result (λ reply. GivesOut turn.now self.old self.new reply (λ journal. changed_form (next_who self.old) self.old.state.state journal statement.now)) }
-        ensures stops { OnErr result (Stops turn.now self.old self.new) }
+        ensures stops { OnErr result (Stops turn.now self.old self.new (IsGivenBy (λ journal. changed_form (next_who self.old) self.old.state.state journal statement.now))) }
     {
         let session = self.state.session();
         let (place, end) = change_forms_now(

@@ -56,7 +56,7 @@ impl Receipt {
 }
 
 /// Connects a seat that rests and isn't connected, and begins its session, under the options of the server. Refused exactly where the seat's number is above
-/// 65. The ranges of the seat get room for as many blocks as the region may have.
+/// 65. The ranges of the seat get room for as many blocks as the region may have. It takes the turn, for which it may wait; under it, constant time.
 pub fn connect<R: Wait>(
     rt: &R,
     alloc: Global,
@@ -98,7 +98,7 @@ fn refused(alloc: Global, seat: Seat<Server>) -> NotConnected
 }
 
 impl Session {
-    /// The seat and the receipt of a session that has ended.
+    /// The seat and the receipt of a session that has ended. Constant time.
     pub fn into_seat(self) -> (Seat<Server>, Receipt)
         requires { self.end ≢ None }
         ensures seat { result.0 ≡ self.seat }

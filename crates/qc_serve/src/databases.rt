@@ -20,7 +20,7 @@ impl Session {
     ghost use Rattle.qc_model.specs.declared.events.Event.TheVariants as event;
     ghost use Rattle.qc_model.specs.declared.events.How.TheVariants as how;
     ghost use Rattle.qc_serve.specs.Ends.{Makes};
-    ghost use Rattle.qc_serve.specs.Going.{GivesOut, Logs, MayAnswer, Stops, next_who};
+    ghost use Rattle.qc_serve.specs.Going.{GivesOut, IsGivenBy, Logs, MayAnswer, Stops, StopsWithout, next_who};
 
     /// USE, and COM_INIT_DB: another current database, where the session sees it at the event.
     pub(crate) fn use_db<R: Wait>(
@@ -32,7 +32,7 @@ impl Session {
     ) -> Result<Text, NoMemory>
         requires { MayAnswer turn.now self.old }
         ensures gives { IfOk result (λ reply. GivesOut turn.now self.old self.new reply (λ journal. used (next_who self.old) self.old.state.state journal name.now)) }
-        ensures stops { OnErr result (Stops turn.now self.old self.new) }
+        ensures stops { OnErr result (Stops turn.now self.old self.new (IsGivenBy (λ journal. used (next_who self.old) self.old.state.state journal name.now))) }
     {
         let database = self.log_sharing(rt, turn)?;
         match use_db(alloc, name, &mut self.state, &database) {
@@ -51,7 +51,7 @@ impl Session {
         requires { MayAnswer turn.now self.old }
         ensures logs { IfOk result (λ database. Logs turn.now self.old self.new (λ journal e. (e ≡ event.Run (next_who self.old) how.Other) × Makes journal database)) }
         ensures state { self.new.state ≡ self.old.state }
-        ensures stops { OnErr result (Stops turn.now self.old self.new) }
+        ensures stops { OnErr result (StopsWithout turn.now self.old self.new) }
     {
         let session = self.state.session();
         let (place, database) = note_sharing(rt, turn, &mut self.seat, session)?;

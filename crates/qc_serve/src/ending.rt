@@ -14,10 +14,15 @@ pub enum End {
     EndOfInput,
     /// Its input ended in a packet of which so many bytes stand there.
     Cut(u32),
-    /// A packet's payload would be longer than one may be.
+    /// A packet's payload would have so many bytes, more than one may have.
     TooLong(u32),
     /// A packet has another sequence number than is wanted.
-    BadSequence { found: u8, wanted: u8 },
+    BadSequence {
+        /// The number that it has.
+        found: u8,
+        /// The number that is wanted.
+        wanted: u8,
+    },
     /// A read of its input failed.
     ReadFault,
     /// A put of a reply failed.

@@ -29,9 +29,11 @@ pub enum Executed {
     Ended(End),
 }
 
-/// Executes a command of a session that hasn't ended: looks, decides and pushes its one event under the turn, and does all else outside of it. The reply goes
+/// Executes a command of a session that hasn't ended: looks, decides and pushes its one event under the turn, for which it may wait, and does all else
+/// outside of it. The reply goes
 /// out in pieces, of a packet each, or of 512 bytes where the cache has it. The session ends at COM_QUIT, and where a put fails or memory lacks; its
-/// connection ends with it. Then the log has a line for the command exactly where its event stands in the journal, and a front of its reply went out, or nothing.
+/// connection ends with it. Then no event of the session came and nothing went out; or the command's own event came, as it is at its place, the log has its
+/// line, and a front of the command's reply went out, which may be empty.
 /// Costs what the command's statement costs; where the cache has the reply, no stored row is read.
 pub fn execute<R: Wait, K: ReplySink, G: Gate, L: Ledger>(
     rt: &R,
@@ -66,7 +68,7 @@ pub fn execute<R: Wait, K: ReplySink, G: Gate, L: Ledger>(
 
 impl Session {
     ghost use Rattle.qc_serve.specs.Executed.{Leaves};
-    ghost use Rattle.qc_serve.specs.Going.{DoesOne, MayAnswer, Stops, number_of};
+    ghost use Rattle.qc_serve.specs.Going.{DoesOne, IsEventOf, MayAnswer, Stops, number_of};
     ghost use Rattle.qc_serve.specs.Seats.{SeatRests};
 
     /// Answers a command other than COM_QUIT, and sends its reply. The error is why the session has to end.
@@ -144,7 +146,7 @@ impl Session {
         requires rest { MayAnswer turn.now self.old }
         requires other { IsOther command.now }
         ensures does { IfOk result (DoesOne turn.now command.now self.old self.new) }
-        ensures stops { OnErr result (Stops turn.now self.old self.new) }
+        ensures stops { OnErr result (Stops turn.now self.old self.new (IsEventOf command.now self.old)) }
     {
         match command {
             Command::InitDb(name) => self.use_db(rt, alloc, turn, name),
@@ -155,7 +157,8 @@ impl Session {
         }
     }
 
-    /// Ends the session, and with it its connection, as `serve` does where no command is left.
+    /// Ends the session, and with it its connection, as `serve` does where no command is left. It takes the turn, for which it may wait. Costs what
+    /// `qc_core::leave` costs.
     pub fn finish<R: Wait>(&mut self, rt: &R, turn: &Turn<Server>, end: End)
         requires { SeatRests turn.now (number_of self.old) self.old.seat }
         ensures leaves { Leaves turn.now self.old self.new end }

@@ -7,10 +7,12 @@ use qc_types::NoMemory;
 use std::alloc::Global;
 use std::marker::Model;
 
-/// A command that was answered: the place of its event in the journal, or that of the line before where it has none, and how its reply came about.
+/// A command that was answered.
 #[derive(Clone, Copy, Debug, PartialEq, Eq)]
 pub struct Logged {
+    /// The place of its event in the journal, or where it has none that of the line before, which is 0 for a first one.
     pub place: u64,
+    /// How its reply came about.
     pub how: Word,
 }
 

@@ -36,7 +36,7 @@ pub(crate) fn loaded<L: Ledger>(
 {
     let mut plan = plan;
     plan.load(alloc, steps)?;
-    Ok(RowPackets::of(alloc, plan, status))
+    Ok(RowPackets::of(plan, status))
 }
 
 /// Sends packets that no entry takes, and passes the gate between them.

@@ -19,7 +19,7 @@ use std::sync::Wait;
 use std::sync::ledger::Ledger;
 
 /// Reads commands from a source and executes them, until the session ends: by COM_QUIT, where the input ends or no packet of a command stands in it, and where
-/// a read or a put fails or memory lacks. Its connection ends with it.
+/// a read or a put fails or memory lacks. Its connection ends with it. It takes the turn for each command, for which it may wait. Costs what the commands cost.
 pub fn serve<R: Wait, S: Source, K: ReplySink, G: Gate, L: Ledger>(
     rt: &R,
     alloc: Global,
@@ -39,7 +39,7 @@ pub fn serve<R: Wait, S: Source, K: ReplySink, G: Gate, L: Ledger>(
     session
 }
 
-/// The same of a session that is lent, as one that a thread serves.
+/// The same of a session that is lent.
 pub fn serve_on<R: Wait, S: Source, K: ReplySink, G: Gate, L: Ledger>(
     rt: &R,
     alloc: Global,

@@ -21,7 +21,7 @@ use std::sync::Wait;
 
 impl Session {
     ghost use Rattle.qc_model.specs.Session.{State};
-    ghost use Rattle.qc_serve.specs.Going.{DoesStatement, GivesOut, MayAnswer, SetsOther, Stops, next_who};
+    ghost use Rattle.qc_serve.specs.Going.{DoesStatement, GivesOut, IsGivenBy, MayAnswer, SetsOther, Stops, StopsStatement, StopsWithout, next_who};
 
     /// SET: that of autocommit has an event, and ends the open transaction where it goes from off to on.
     pub(crate) fn set<R: Wait>(
@@ -34,7 +34,7 @@ impl Session {
         requires rest { MayAnswer turn.now self.old }
         requires short { is_short_setting setting.now ≡ true }
         ensures does { IfOk result (DoesStatement turn.now (statement.Set setting.now) self.old self.new) }
-        ensures stops { OnErr result (Stops turn.now self.old self.new) }
+        ensures stops { OnErr result (StopsStatement turn.now (statement.Set setting.now) self.old self.new) }
     {
         if is_autocommit(setting) {
             self.set_autocommit(rt, alloc, turn, setting)
@@ -54,7 +54,7 @@ impl Session {
         requires short { is_short_setting setting.now ≡ true }
         requires autocommit { is_autocommit setting.now ≡ true }
         ensures gives { IfOk result (λ reply. GivesOut turn.now self.old self.new reply (λ journal. machine.set_autocommit (next_who self.old) self.old.state.state journal (set_to self.old.state.state setting.now))) }
-        ensures stops { OnErr result (Stops turn.now self.old self.new) }
+        ensures stops { OnErr result (Stops turn.now self.old self.new (IsGivenBy (λ journal. machine.set_autocommit (next_who self.old) self.old.state.state journal (set_to self.old.state.state setting.now)))) }
     {
         if !self.state.flags().autocommit && switches_on(setting) {
             return self.turn_on(rt, alloc, turn, setting);
@@ -77,7 +77,7 @@ impl Session {
         requires rest { MayAnswer turn.now self.old }
         requires sets { (s : State) → set_to s setting.now ≡ Ok (record s { autocommit = true }) }
         ensures gives { IfOk result (λ reply. GivesOut turn.now self.old self.new reply (λ journal. ended_with (next_who self.old) self.old.state.state journal (with_transaction (record self.old.state.state { autocommit = true }) None))) }
-        ensures stops { OnErr result (Stops turn.now self.old self.new) }
+        ensures stops { OnErr result (Stops turn.now self.old self.new (IsGivenBy (λ journal. ended_with (next_who self.old) self.old.state.state journal (with_transaction (record self.old.state.state { autocommit = true }) None)))) }
     {
         match self.end_transaction(rt, alloc, turn)? {
             Ended::Commits => {
@@ -99,7 +99,7 @@ impl Session {
         requires short { is_short_setting setting.now ≡ true }
         requires other { is_autocommit setting.now ≡ false }
         ensures sets { IfOk result (SetsOther turn.now setting.now self.old self.new) }
-        ensures stops { OnErr result (Stops turn.now self.old self.new) }
+        ensures stops { OnErr result (StopsWithout turn.now self.old self.new) }
     {
         match self.state.set(alloc, setting) {
             Ok(()) => self.tell_ok(alloc, turn),

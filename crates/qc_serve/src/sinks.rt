@@ -15,6 +15,7 @@ use std::marker::Model;
 /// A piece of a reply as a sink in memory keeps it.
 #[derive(Drop)]
 pub struct Piece {
+    /// Its bytes.
     pub bytes: Text,
     /// The task that the seat had at its put.
     pub task: Task,

@@ -23,7 +23,7 @@ use std::sync::ledger::Ledger;
 impl Session {
     ghost use Rattle.qc_types.specs.declared.totals.Totals.{Totals};
     ghost use Rattle.qc_model.specs.Machine as machine;
-    ghost use Rattle.qc_serve.specs.Going.{DoesStatement, GivesOut, MayAnswer, Stops, TellsOut, event_given, next_who, status_given};
+    ghost use Rattle.qc_serve.specs.Going.{DoesStatement, GivesOut, IsGivenBy, MayAnswer, Stops, StopsStatement, StopsWithout, TellsOut, event_given, next_who, status_given};
 
     /// A command that there is none of.
     pub(crate) fn refuse_command(
@@ -52,7 +52,7 @@ impl Session {
         requires short { is_short_statement statement.now ≡ true }
         requires other { is_select statement.now ≡ false }
         ensures does { IfOk result (DoesStatement turn.now statement.now self.old self.new) }
-        ensures stops { OnErr result (Stops turn.now self.old self.new) }
+        ensures stops { OnErr result (StopsStatement turn.now statement.now self.old self.new) }
     {
         match statement {
             Statement::Select(_) => unreachable!(),
@@ -81,7 +81,7 @@ impl Session {
     ) -> Result<Text, NoMemory>
         requires { MayAnswer turn.now self.old }
         ensures gives { IfOk result (λ reply. (t : Totals) × GivesOut turn.now self.old self.new reply (status_given (next_who self.old) self.old.state.state t)) }
-        ensures stops { OnErr result (Stops turn.now self.old self.new) }
+        ensures stops { OnErr result (Stops turn.now self.old self.new (λ journal e. (t : Totals) × IsGivenBy (status_given (next_who self.old) self.old.state.state t) journal e)) }
     {
         let session = self.state.session();
         let told = status_now(rt, turn, &mut self.seat, session)?;
@@ -98,7 +98,7 @@ impl Session {
     ) -> Result<Text, NoMemory>
         requires { MayAnswer turn.now self.old }
         ensures gives { IfOk result (λ reply. GivesOut turn.now self.old self.new reply (λ journal. event_given (event.Flush (next_who self.old)) self.old.state.state)) }
-        ensures stops { OnErr result (Stops turn.now self.old self.new) }
+        ensures stops { OnErr result (StopsWithout turn.now self.old self.new) }
     {
         let reply = ok_reply(alloc, 0, self.state.status())?;
         let session = self.state.session();
@@ -116,7 +116,7 @@ impl Session {
     ) -> Result<Text, NoMemory>
         requires { MayAnswer turn.now self.old }
         ensures gives { IfOk result (λ reply. GivesOut turn.now self.old self.new reply (λ journal. event_given (event.Reset (next_who self.old)) self.old.state.state)) }
-        ensures stops { OnErr result (Stops turn.now self.old self.new) }
+        ensures stops { OnErr result (StopsWithout turn.now self.old self.new) }
     {
         let reply = ok_reply(alloc, 0, self.state.status())?;
         let session = self.state.session();

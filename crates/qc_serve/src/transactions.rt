@@ -21,7 +21,7 @@ use std::sync::Wait;
 
 impl Session {
     ghost use Rattle.qc_trx.specs.SnapshotStates.{after_end};
-    ghost use Rattle.qc_serve.specs.Going.{GivesOut, Logs, MayAnswer, Stops, next_who};
+    ghost use Rattle.qc_serve.specs.Going.{GivesOut, IsGivenBy, Logs, MayAnswer, Stops, StopsWithout, next_who};
 
     /// ROLLBACK: the open transaction is forgotten.
     pub(crate) fn rollback<R: Wait>(
@@ -32,7 +32,7 @@ impl Session {
     ) -> Result<Text, NoMemory>
         requires { MayAnswer turn.now self.old }
         ensures gives { IfOk result (λ reply. GivesOut turn.now self.old self.new reply (λ journal. other (next_who self.old) (with_transaction self.old.state.state None) (machine.ok_reply (with_transaction self.old.state.state None) 0))) }
-        ensures stops { OnErr result (Stops turn.now self.old self.new) }
+        ensures stops { OnErr result (StopsWithout turn.now self.old self.new) }
     {
         self.state.clear();
         self.log_ok(rt, alloc, turn)
@@ -47,7 +47,7 @@ impl Session {
     ) -> Result<Text, NoMemory>
         requires { MayAnswer turn.now self.old }
         ensures gives { IfOk result (λ reply. GivesOut turn.now self.old self.new reply (λ journal. ended_with (next_who self.old) self.old.state.state journal (with_transaction self.old.state.state None))) }
-        ensures stops { OnErr result (Stops turn.now self.old self.new) }
+        ensures stops { OnErr result (Stops turn.now self.old self.new (IsGivenBy (λ journal. ended_with (next_who self.old) self.old.state.state journal (with_transaction self.old.state.state None)))) }
     {
         let ended = self.end_transaction(rt, alloc, turn)?;
         self.ended_reply(alloc, &ended)
@@ -62,7 +62,7 @@ impl Session {
     ) -> Result<Text, NoMemory>
         requires { MayAnswer turn.now self.old }
         ensures gives { IfOk result (λ reply. GivesOut turn.now self.old self.new reply (λ journal. ended_with (next_who self.old) self.old.state.state journal (begun self.old.state.state))) }
-        ensures stops { OnErr result (Stops turn.now self.old self.new) }
+        ensures stops { OnErr result (Stops turn.now self.old self.new (IsGivenBy (λ journal. ended_with (next_who self.old) self.old.state.state journal (begun self.old.state.state)))) }
     {
         match self.end_transaction(rt, alloc, turn)? {
             Ended::Commits => {
@@ -83,7 +83,7 @@ impl Session {
         requires { MayAnswer turn.now self.old }
         ensures logs { IfOk result (λ ended. Logs turn.now self.old self.new (λ journal e. EndsAs (next_who self.old) self.old.state.state journal e ended)) }
         ensures state { IfOk result (λ ended. self.new.state ≡ after_end self.old.state) }
-        ensures stops { OnErr result (Stops turn.now self.old self.new) }
+        ensures stops { OnErr result (StopsWithout turn.now self.old self.new) }
     {
         let session = self.state.session();
         let (place, ended) = end_now(rt, alloc, turn, &mut self.seat, session, &mut self.state)?;

@@ -1,7 +1,6 @@
 //! What statements do on a journal, its database and a session's state, whoever holds them.
 #![tactic(auto)]
 
-mod changes;
 mod databases;
 mod ending;
 mod forms;
@@ -9,7 +8,6 @@ mod rows;
 mod selects;
 mod settings;
 
-pub use changes::change;
 pub use databases::use_db;
 pub use ending::judge;
 pub use forms::{FormChange, form_change};

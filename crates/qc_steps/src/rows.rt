@@ -19,13 +19,14 @@ use std::alloc::Global;
 use std::sync::ledger::Ledger;
 
 /// A statement on rows has arrived, whose event will have this number; before it stands this database. With autocommit off it opens a transaction, and
-/// the first of a transaction takes the snapshot. Constant time. The one error is want of memory.
+/// the first of a transaction takes the snapshot. Constant time. The one error is want of memory, and leaves the state as it was.
 pub fn arrive(state: &mut SessionState, database: &Database, place: u64) -> Result<(), NoMemory>
     ensures arrived { OnOk result (state.new ≡ arrived_snapshot_state place database.now state.old) }
     ensures session { state.new.state.session ≡ state.old.state.session }
+    ensures err { OnErr result (state.new ≡ state.old) }
 {
-    state.arrive();
     let now = database.share()?;
+    state.arrive();
     state.see(place, now);
     Ok(())
 }

@@ -14,7 +14,7 @@ use qc_trx::SessionState;
 use qc_types::{NoMemory, Options, Text};
 use std::alloc::Global;
 
-/// Whether the cache is asked for a text, by these options and the session's cache type.
+/// Whether the cache is asked for a text, by these options and the session's cache type. Costs what `trimmed` and `head` of `qc_lex` cost.
 pub fn asks_cache(options: &Options, state: &SessionState, text: &[u8]) -> bool
     ensures { result ≡ is_asked_for options.now state.now.state text.now }
 {
@@ -28,7 +28,7 @@ pub fn asks_cache(options: &Options, state: &SessionState, text: &[u8]) -> bool
     }
 }
 
-/// The key of a SELECT's text, for a session in which it has arrived, at any place of a journal. The one error is want of memory.
+/// The key of a SELECT's text, for a session in which it has arrived, at any place of a journal. The one error is want of memory. Linear in the text.
 pub fn key(alloc: Global, state: &SessionState, text: &[u8]) -> Result<Text, NoMemory>
     requires { (journal : _) × IsFitState journal state.now }
     ensures key { (place : _) → IfOk result (λ key. key ≡ key_of_text (arrived_at place state.now.state) text.now) }

@@ -11,7 +11,7 @@ use qc_trx::{SessionState, switch};
 use qc_types::{NoMemory, Or};
 use std::alloc::Global;
 
-/// Whether the variable is autocommit.
+/// Whether the variable is autocommit. Constant time.
 pub fn is_autocommit(setting: &Setting) -> bool
     ensures { result ≡ settings.is_autocommit setting.now }
 {
@@ -21,7 +21,7 @@ pub fn is_autocommit(setting: &Setting) -> bool
     }
 }
 
-/// Whether the value switches the variable on.
+/// Whether the value switches the variable on. Constant time.
 pub fn switches_on(setting: &Setting) -> bool
     ensures { result ≡ unwrap_or (switched setting.now) false }
 {
@@ -31,7 +31,7 @@ pub fn switches_on(setting: &Setting) -> bool
     }
 }
 
-/// Sets a variable to a value that it takes. The one error is want of memory, and leaves the state as it was.
+/// Sets a variable to a value that it takes. The one error is want of memory, and leaves the state as it was. Costs what `SessionState::set` costs.
 pub fn put(alloc: Global, state: &mut SessionState, setting: &Setting) -> Result<(), NoMemory>
     requires { is_ok (set_to state.old.state setting.now) ≡ true }
     ensures set { OnOk result (Ok state.new.state ≡ set_to state.old.state setting.now) }

@@ -1,6 +1,6 @@
 use Rattle.std.proofs.Common.{List, ℕ, sym, subst}
 use Rattle.qc_serve.specs.Going.{DoesOne}
-use Rattle.qc_serve.proofs.Breaking.{on_errs, put_failed}
+use Rattle.qc_serve.proofs.Breaking.{on_errs, put_failed, stopped}
 use Rattle.qc_serve.proofs.Parsing.{does_replies, on_oks}
 use Rattle.qc_serve.proofs.PiecesPut.{put_command}
 use Rattle.qc_serve.proofs.session.Session.answer_other.Goals as goal
@@ -26,3 +26,6 @@ returns-in-Ok-clause-ends g c =
     let reply = c.bytes.result.now in
     let does : DoesOne t k old mid reply = subst (λ (b : List ℕ). DoesOne t k old mid b) (sym c.bytes.ensures) c.in-Ok.ensures.does in
     on_errs s.result (λ log front. put_failed t k old mid s.new.self reply (g.K.ReplySink.held c.args.sink.now) (g.K.ReplySink.held s.new.sink) does log front) s.ensures.log s.ensures.front
+
+pub returns-in-Err-clause-ends : goal.returns-in-Err-clause-ends
+returns-in-Err-clause-ends g c = stopped c.args.turn.now c.args.command.now c.args.self.now c.reply_to.new.self (g.K.ReplySink.held c.args.sink.now) c.in-Err.ensures.stops

@@ -1,9 +1,9 @@
 use Rattle.std.proofs.Common.{refl, ap, ◌∙◌}
-use Rattle.qc_model.specs.Machine.{begun}
+use Rattle.qc_model.specs.Machine.{begun, ended_with}
 use Rattle.qc_trx.specs.SnapshotStates.{SnapshotState, after_begin}
-use Rattle.qc_serve.specs.Going.{next_who}
+use Rattle.qc_serve.specs.Going.{IsGivenBy, next_who}
 use Rattle.qc_serve.proofs.Meeting.{ends_fit}
-use Rattle.qc_serve.proofs.Resting.{or_err}
+use Rattle.qc_serve.proofs.Resting.{or_err, stops_without}
 use Rattle.qc_serve.proofs.Transacting.{begin_out, ended_stops, left_out}
 use Rattle.qc_serve.proofs.session.Session.begin.Goals as goal
 
@@ -22,7 +22,7 @@ returns-in-Commits-clause-gives g c =
 pub returns-in-Commits-clause-stops : goal.returns-in-Commits-clause-stops
 returns-in-Commits-clause-stops g c =
     let e = c.in_ok-ended in
-    or_err c.ok_reply.result (ended_stops c.args.turn.now c.args.self.now c.end_transaction.new.self e.ended c.begin.new.self e.ensures.logs (ap (λ (x : SnapshotState). x.state.session) (c.begin.ensures ∙ ap after_begin e.ensures.state)))
+    or_err c.ok_reply.result (ended_stops c.args.turn.now c.args.self.now c.end_transaction.new.self e.ended c.begin.new.self (begun c.args.self.now.state.state) e.ensures.logs (ap (λ (x : SnapshotState). x.state.session) (c.begin.ensures ∙ ap after_begin e.ensures.state)))
 
 pub returns-in_default-clause-gives : goal.returns-in_default-clause-gives
 returns-in_default-clause-gives g c =
@@ -33,4 +33,9 @@ returns-in_default-clause-gives g c =
 pub returns-in_default-clause-stops : goal.returns-in_default-clause-stops
 returns-in_default-clause-stops g c =
     let e = c.in_ok-ended in
-    or_err c.ended_reply.result (ended_stops c.args.turn.now c.args.self.now c.end_transaction.new.self e.ended c.end_transaction.new.self.state e.ensures.logs (ap (λ (x : SnapshotState). x.state.session) e.ensures.state))
+    or_err c.ended_reply.result (ended_stops c.args.turn.now c.args.self.now c.end_transaction.new.self e.ended c.end_transaction.new.self.state (begun c.args.self.now.state.state) e.ensures.logs (ap (λ (x : SnapshotState). x.state.session) e.ensures.state))
+
+pub returns-in_err-ended-clause-stops : goal.returns-in_err-ended-clause-stops
+returns-in_err-ended-clause-stops g c =
+    let old = c.args.self.now in
+    or_err _ (stops_without c.args.turn.now old c.end_transaction.new.self (IsGivenBy (λ journal. ended_with (next_who old) old.state.state journal (begun old.state.state))) c.in_err-ended.ensures.stops)

@@ -1,7 +1,8 @@
 use Rattle.std.proofs.Common.{refl, ap, ◌∙◌}
 use Rattle.qc_trx.specs.SnapshotStates.{SnapshotState}
-use Rattle.qc_serve.proofs.Resting.{or_err}
-use Rattle.qc_serve.proofs.Using.{kept_out, may_keep, refusal_fits, refused_out, sees, shared_stop, shared_stops}
+use Rattle.qc_serve.specs.Going.{IsGivenBy, next_who, rows_given}
+use Rattle.qc_serve.proofs.Resting.{or_err, stops_without}
+use Rattle.qc_serve.proofs.Using.{kept_out, may_keep, own_stop, refusal_fits, refused_out, sees}
 use Rattle.qc_serve.proofs.session.Session.change_own_rows.Goals as goal
 
 pub keep-requires-clause-may : goal.keep-requires-clause-may
@@ -63,17 +64,22 @@ returns-in-Err-Other-clause-gives g c =
 
 pub returns-in_err-arrive-clause-stops : goal.returns-in_err-arrive-clause-stops
 returns-in_err-arrive-clause-stops g c =
-    or_err _ (shared_stops c.args.turn.now c.args.self.now c.log_sharing.new.self c.in_ok-database.database c.arrive.new.state c.in_ok-database.ensures.logs (c.arrive.ensures.session ∙ ap (λ (y : SnapshotState). y.state.session) c.log_sharing.ensures.state))
+    or_err _ (own_stop c.args.turn.now c.args.self.now c.log_sharing.new.self (record c.log_sharing.new.self { state = c.arrive.new.state }) c.in_ok-database.database c.args.statement.now c.in_ok-database.ensures.logs c.requires.rows c.requires.open refl (c.arrive.ensures.session ∙ ap (λ (y : SnapshotState). y.state.session) c.log_sharing.ensures.state))
 
 pub returns-in-Ok-clause-stops : goal.returns-in-Ok-clause-stops
 returns-in-Ok-clause-stops g c =
     let n = c.keep in
-    or_err n.result (shared_stop c.args.turn.now c.args.self.now c.log_sharing.new.self n.new.self c.in_ok-database.database c.in_ok-database.ensures.logs n.ensures.same (n.ensures.session ∙ (c.arrive.ensures.session ∙ ap (λ (y : SnapshotState). y.state.session) c.log_sharing.ensures.state)))
+    or_err n.result (own_stop c.args.turn.now c.args.self.now c.log_sharing.new.self n.new.self c.in_ok-database.database c.args.statement.now c.in_ok-database.ensures.logs c.requires.rows c.requires.open n.ensures.same (n.ensures.session ∙ (c.arrive.ensures.session ∙ ap (λ (y : SnapshotState). y.state.session) c.log_sharing.ensures.state)))
 
 pub returns-in-Err-Other-clause-stops : goal.returns-in-Err-Other-clause-stops
 returns-in-Err-Other-clause-stops g c =
-    or_err c.error_reply.result (shared_stops c.args.turn.now c.args.self.now c.log_sharing.new.self c.in_ok-database.database c.arrive.new.state c.in_ok-database.ensures.logs (c.arrive.ensures.session ∙ ap (λ (y : SnapshotState). y.state.session) c.log_sharing.ensures.state))
+    or_err c.error_reply.result (own_stop c.args.turn.now c.args.self.now c.log_sharing.new.self (record c.log_sharing.new.self { state = c.arrive.new.state }) c.in_ok-database.database c.args.statement.now c.in_ok-database.ensures.logs c.requires.rows c.requires.open refl (c.arrive.ensures.session ∙ ap (λ (y : SnapshotState). y.state.session) c.log_sharing.ensures.state))
 
 pub returns-clause-stops : goal.returns-clause-stops
 returns-clause-stops g c =
-    shared_stops c.args.turn.now c.args.self.now c.log_sharing.new.self c.in_ok-database.database c.arrive.new.state c.in_ok-database.ensures.logs (c.arrive.ensures.session ∙ ap (λ (y : SnapshotState). y.state.session) c.log_sharing.ensures.state)
+    own_stop c.args.turn.now c.args.self.now c.log_sharing.new.self (record c.log_sharing.new.self { state = c.arrive.new.state }) c.in_ok-database.database c.args.statement.now c.in_ok-database.ensures.logs c.requires.rows c.requires.open refl (c.arrive.ensures.session ∙ ap (λ (y : SnapshotState). y.state.session) c.log_sharing.ensures.state)
+
+pub returns-in_err-database-clause-stops : goal.returns-in_err-database-clause-stops
+returns-in_err-database-clause-stops g c =
+    let old = c.args.self.now in
+    or_err _ (stops_without c.args.turn.now old c.log_sharing.new.self (IsGivenBy (rows_given (next_who old) old.state.state c.args.statement.now)) c.in_err-database.ensures.stops)

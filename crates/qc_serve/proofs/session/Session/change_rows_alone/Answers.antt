@@ -43,4 +43,4 @@ returns-clause-stops g c =
     let ok = c.in_ok-place in
     let m = c.put_line in
     let logs = seat_logs t old m.new.self old.state n.new.seat ok.place (λ journal e. RowsAs (next_who old) old.state.state s journal e ok.end) (rw c.session-session.ensures at n.ensures.rests) ok.ensures.place (rw c.session-session.ensures at ok.ensures.decides) m.ensures.same m.ensures.lines in
-    or_err c.rows_reply.result (rows_stop t old m.new.self s ok.end logs (ap (λ (y : Session). y.state) m.ensures.same))
+    or_err c.rows_reply.result (rows_stop t old m.new.self s ok.end logs (ap (λ (y : Session). y.state) m.ensures.same) c.requires.rows c.requires.closed c.requires.autocommit)

@@ -4,11 +4,11 @@ use Rattle.qc_model.specs.Session.{with_transaction}
 use Rattle.qc_sql.specs.Packets.{packets}
 use Rattle.qc_trx.specs.SnapshotStates.{SnapshotState}
 use Rattle.qc_replies.proofs.Calls.{if_ok}
-use Rattle.qc_serve.specs.Ends.{EndsAs, ended_reply}
-use Rattle.qc_serve.specs.Going.{GivesOut, next_who}
-use Rattle.qc_serve.proofs.Meeting.{ends_fit, ends_of}
-use Rattle.qc_serve.proofs.Resting.{event_stops, or_err}
-use Rattle.qc_serve.proofs.Transacting.{commit_gives}
+use Rattle.qc_serve.specs.Ends.{ended_reply}
+use Rattle.qc_serve.specs.Going.{GivesOut, IsGivenBy, next_who}
+use Rattle.qc_serve.proofs.Meeting.{ends_fit}
+use Rattle.qc_serve.proofs.Resting.{or_err, stops_without}
+use Rattle.qc_serve.proofs.Transacting.{commit_gives, ended_stops}
 use Rattle.qc_serve.proofs.session.Session.commit.Goals as goal
 
 pub ended_reply-requires : goal.ended_reply-requires
@@ -33,5 +33,9 @@ returns-clause-stops g c =
     let old = c.args.self.now in
     let new = c.end_transaction.new.self in
     let e = c.in_ok-ended in
-    let d = e.ensures.logs.decides in
-    or_err c.ended_reply.result (event_stops c.args.turn.now old new (λ journal x. EndsAs (next_who old) old.state.state journal x e.ended) e.ensures.logs (ends_of (next_who old) old.state.state d.journal d.event e.ended d.is_so) (ap (λ (x : SnapshotState). x.state.session) e.ensures.state))
+    or_err c.ended_reply.result (ended_stops c.args.turn.now old new e.ended new.state (with_transaction old.state.state None) e.ensures.logs (ap (λ (x : SnapshotState). x.state.session) e.ensures.state))
+
+pub returns-in_err-ended-clause-stops : goal.returns-in_err-ended-clause-stops
+returns-in_err-ended-clause-stops g c =
+    let old = c.args.self.now in
+    or_err _ (stops_without c.args.turn.now old c.end_transaction.new.self (IsGivenBy (λ journal. ended_with (next_who old) old.state.state journal (with_transaction old.state.state None))) c.in_err-ended.ensures.stops)

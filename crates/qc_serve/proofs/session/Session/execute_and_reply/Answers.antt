@@ -9,10 +9,10 @@ use Rattle.qc_serve.proofs.Resting.{or_err}
 use Rattle.qc_serve.proofs.session.Session.execute_and_reply.Goals as goal
 
 pub returns-in_err-reply-clause-ends : goal.returns-in_err-reply-clause-ends
-returns-in_err-reply-clause-ends g c = λ text means. or_err _ (stopped c.args.turn.now (sent.Query text) c.args.self.now c.execute_statement.new.self (g.K.ReplySink.held c.args.sink.now) c.in_err-reply.ensures.stops)
+returns-in_err-reply-clause-ends g c = λ text means. or_err _ (stopped c.args.turn.now (sent.Query text) c.args.self.now c.execute_statement.new.self (g.K.ReplySink.held c.args.sink.now) (c.in_err-reply.ensures.stops text means))
 
 pub returns-in_err-reply-clause-no_hit : goal.returns-in_err-reply-clause-no_hit
-returns-in_err-reply-clause-no_hit g c = λ text l means lines how_is. stopped_other c.args.turn.now c.args.self.now c.execute_statement.new.self l c.in_err-reply.ensures.stops lines how_is
+returns-in_err-reply-clause-no_hit g c = λ text l means lines how_is. stopped_other c.args.turn.now c.args.self.now c.execute_statement.new.self l (c.in_err-reply.ensures.stops text means) lines how_is
 
 pub returns-clause-replied : goal.returns-clause-replied
 returns-clause-replied g c = λ text means.

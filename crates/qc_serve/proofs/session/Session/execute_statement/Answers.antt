@@ -7,7 +7,8 @@ use Rattle.qc_model.specs.Machine.{begun, changed_form, ended_with, ok_reply, ot
 use Rattle.qc_model.specs.Session.{with_transaction}
 use Rattle.qc_replies.proofs.Calls.{if_ok}
 use Rattle.qc_serve.specs.Going.{DoesStatement, GivesOut, event_given, next_who, rows_given, status_given}
-use Rattle.qc_serve.proofs.Executing.{begin_does, commit_does, flush_does, forms_does, left_changes_tables, reset_does, rollback_does, rows_does, status_does, tables_does, use_does}
+use Rattle.qc_serve.proofs.Executing.{begin_does, begin_stops, commit_does, commit_stops, flush_does, forms_does, forms_stops, left_changes_tables, reset_does, rollback_does, rows_does, rows_stops, status_does, status_stops, tables_does, use_db_stops, use_does, without_stops}
+use Rattle.qc_serve.proofs.Resting.{on_err}
 use Rattle.qc_serve.proofs.session.Session.execute_statement.Goals as goal
 
 pub returns-in-UseDb-clause-does : goal.returns-in-UseDb-clause-does
@@ -98,3 +99,89 @@ returns-in-Insert-clause-does g c =
     let n = c.change_rows in
     let kind : changes_rows s ≡ true = search rules in
     if_ok (λ (bytes : List ℕ). GivesOut t old n.new.self bytes (rows_given (next_who old) old.state.state s)) (DoesStatement t s old n.new.self) (λ bytes. rows_does t s old n.new.self bytes kind) n.result n.ensures.gives
+
+pub returns-in-UseDb-clause-stops : goal.returns-in-UseDb-clause-stops
+returns-in-UseDb-clause-stops g c =
+    let t = c.args.turn.now in
+    let old = c.args.self.now in
+    let n = c.use_db in
+    rw c.in-UseDb.is (on_err n.result (use_db_stops t c.in-UseDb.name old n.new.self) n.ensures.stops)
+
+pub returns-in-Begin-clause-stops : goal.returns-in-Begin-clause-stops
+returns-in-Begin-clause-stops g c =
+    let t = c.args.turn.now in
+    let old = c.args.self.now in
+    let n = c.begin in
+    rw c.in-Begin.is (on_err n.result (begin_stops t old n.new.self) n.ensures.stops)
+
+pub returns-in-Commit-clause-stops : goal.returns-in-Commit-clause-stops
+returns-in-Commit-clause-stops g c =
+    let t = c.args.turn.now in
+    let old = c.args.self.now in
+    let n = c.commit in
+    rw c.in-Commit.is (on_err n.result (commit_stops t old n.new.self) n.ensures.stops)
+
+pub returns-in-Rollback-clause-stops : goal.returns-in-Rollback-clause-stops
+returns-in-Rollback-clause-stops g c =
+    let t = c.args.turn.now in
+    let old = c.args.self.now in
+    let n = c.rollback in
+    rw c.in-Rollback.is (on_err n.result (without_stops t statement.Rollback old n.new.self) n.ensures.stops)
+
+pub returns-in-ShowStatus-clause-stops : goal.returns-in-ShowStatus-clause-stops
+returns-in-ShowStatus-clause-stops g c =
+    let t = c.args.turn.now in
+    let old = c.args.self.now in
+    let n = c.show_status in
+    rw c.in-ShowStatus.is (on_err n.result (status_stops t old n.new.self) n.ensures.stops)
+
+pub returns-in-FlushCache-clause-stops : goal.returns-in-FlushCache-clause-stops
+returns-in-FlushCache-clause-stops g c =
+    let t = c.args.turn.now in
+    let old = c.args.self.now in
+    let n = c.flush_cache in
+    rw c.in-FlushCache.is (on_err n.result (without_stops t statement.FlushCache old n.new.self) n.ensures.stops)
+
+pub returns-in-FlushTables-clause-stops : goal.returns-in-FlushTables-clause-stops
+returns-in-FlushTables-clause-stops g c =
+    let t = c.args.turn.now in
+    let old = c.args.self.now in
+    let n = c.reset_cache in
+    rw c.in-FlushTables.is (on_err n.result (without_stops t statement.FlushTables old n.new.self) n.ensures.stops)
+
+pub returns-in-ResetCache-clause-stops : goal.returns-in-ResetCache-clause-stops
+returns-in-ResetCache-clause-stops g c =
+    let t = c.args.turn.now in
+    let old = c.args.self.now in
+    let n = c.reset_cache-in-ResetCache in
+    rw c.in-ResetCache.is (on_err n.result (without_stops t statement.ResetCache old n.new.self) n.ensures.stops)
+
+pub returns-in_default-clause-stops : goal.returns-in_default-clause-stops
+returns-in_default-clause-stops g c =
+    let old = c.args.self.now in
+    let s = c.args.statement.now in
+    let m = c.change_forms in
+    let n = c.in_default in
+    let forms = left_changes_tables s (record {
+      select = n.not-Select;
+      insert = n.not-Insert;
+      update = n.not-Update;
+      delete = n.not-Delete;
+      use_db = n.not-UseDb;
+      begin = n.not-Begin;
+      commit = n.not-Commit;
+      rollback = n.not-Rollback;
+      set = n.not-Set;
+      show = n.not-ShowStatus;
+      flush_cache = n.not-FlushCache;
+      flush_tables = n.not-FlushTables;
+      reset = n.not-ResetCache;
+    }) in
+    on_err m.result (forms_stops c.args.turn.now s old m.new.self forms) m.ensures.stops
+
+pub returns-in-Insert-clause-stops : goal.returns-in-Insert-clause-stops
+returns-in-Insert-clause-stops g c =
+    let s = c.args.statement.now in
+    let n = c.change_rows in
+    let kind : changes_rows s ≡ true = search rules in
+    on_err n.result (rows_stops c.args.turn.now s c.args.self.now n.new.self kind) n.ensures.stops

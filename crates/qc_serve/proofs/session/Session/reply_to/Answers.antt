@@ -3,10 +3,11 @@ use Rattle.qc_model.specs.Machine.{ok_reply, refused, used}
 use Rattle.qc_replies.proofs.Calls.{if_ok}
 use Rattle.qc_sql.specs.declared.commands.Command.{Command}
 use Rattle.qc_sql.specs.Errors.{unknown_command}
-use Rattle.qc_serve.specs.Going.{DoesOne, GivesOut, TellsOut, next_who}
-use Rattle.qc_serve.proofs.Answering.{choose_does, empty_does, ping_does, unknown_does}
+use Rattle.qc_serve.specs.Going.{DoesOne, GivesOut, IsEventOf, Stops, TellsOut, next_who}
+use Rattle.qc_serve.proofs.Answering.{choose_does, choose_stops, empty_does, ping_does, unknown_does}
+use Rattle.qc_serve.proofs.Resting.{on_err}
 use Rattle.qc_serve.proofs.session.Session.reply_to.Goals as goal
-use Rattle.std.specs.Prelude.{IfOk}
+use Rattle.std.specs.Prelude.{IfOk, OnErr}
 
 pub returns-in-InitDb-clause-does : goal.returns-in-InitDb-clause-does
 returns-in-InitDb-clause-does g c =
@@ -40,3 +41,10 @@ returns-in-Empty-clause-does g c =
     let u = c.refuse_command-in-Empty in
     subst (λ (x : Command). IfOk u.result (DoesOne t x old u.new.self)) (sym c.in-Empty.is)
     (if_ok (λ reply. TellsOut t old u.new.self reply (refused unknown_command) old.state.state) (λ reply. DoesOne t _ old u.new.self reply) (λ reply out. empty_does t old u.new.self reply out) u.result u.ensures.tells)
+
+pub returns-in-InitDb-clause-stops : goal.returns-in-InitDb-clause-stops
+returns-in-InitDb-clause-stops g c =
+    let t = c.args.turn.now in
+    let old = c.args.self.now in
+    let u = c.use_db in
+    subst (λ (x : Command). OnErr u.result (Stops t old u.new.self (IsEventOf x old))) (sym c.in-InitDb.is) (on_err u.result (choose_stops t c.in-InitDb.name old u.new.self) u.ensures.stops)

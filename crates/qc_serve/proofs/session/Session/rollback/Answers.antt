@@ -25,4 +25,4 @@ pub returns-clause-stops : goal.returns-clause-stops
 returns-clause-stops g c =
     let old = c.args.self.now in
     let n = c.log_ok in
-    on_err n.result (moved_stops c.args.turn.now old (record old { state = c.clear.new.self }) n.new.self (record { is = refl; session = ap (λ (x : SnapshotState). x.state.session) c.clear.ensures })) n.ensures.stops
+    on_err n.result (moved_stops c.args.turn.now old (record old { state = c.clear.new.self }) n.new.self (λ J e. ⊥) (record { is = refl; session = ap (λ (x : SnapshotState). x.state.session) c.clear.ensures })) n.ensures.stops

@@ -5,8 +5,8 @@ use Rattle.qc_types.specs.declared.totals.Totals.{Totals}
 use Rattle.qc_replies.proofs.Calls.{if_ok}
 use Rattle.qc_serve.specs.declared.session.Session.{Session}
 use Rattle.qc_serve.specs.Going.{GivesOut, next_who, status_given}
-use Rattle.qc_serve.proofs.Meeting.{IsStatus, status_gives, status_of_it}
-use Rattle.qc_serve.proofs.Resting.{event_stops, none_stops, or_err, seat_logs}
+use Rattle.qc_serve.proofs.Meeting.{IsStatus, status_gives, status_stop}
+use Rattle.qc_serve.proofs.Resting.{none_stops, or_err, seat_logs}
 use Rattle.qc_serve.proofs.session.Session.show_status.Goals as goal
 
 pub returns-in_err-told-clause-stops : goal.returns-in_err-told-clause-stops
@@ -35,5 +35,4 @@ returns-clause-stops g c =
     let ok = c.in_ok-told in
     let m = c.put_line in
     let logs = seat_logs t old m.new.self old.state n.new.seat ok.told.place (IsStatus (next_who old) ok.told.totals ok.told.counters) (rw c.session-session.ensures at n.ensures.rests) ok.ensures.place (rw c.session-session.ensures at ok.ensures.decides) m.ensures.same m.ensures.lines in
-    let d = logs.decides in
-    or_err c.status_reply.result (event_stops t old m.new.self (IsStatus (next_who old) ok.told.totals ok.told.counters) logs (status_of_it (next_who old) ok.told.totals ok.told.counters d.journal d.event d.is_so) (ap (λ (y : Session). y.state.state.session) m.ensures.same))
+    or_err c.status_reply.result (status_stop t old m.new.self ok.told.totals ok.told.counters logs (ap (λ (y : Session). y.state.state.session) m.ensures.same))

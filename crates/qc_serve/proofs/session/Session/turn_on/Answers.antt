@@ -1,9 +1,10 @@
 use Rattle.std.proofs.Common.{None, true, refl, ap, ◌∙◌}
 use Rattle.qc_trx.specs.SnapshotStates.{SnapshotState}
+use Rattle.qc_model.specs.Machine.{ended_with}
 use Rattle.qc_model.specs.Session.{with_transaction}
-use Rattle.qc_serve.specs.Going.{next_who}
+use Rattle.qc_serve.specs.Going.{IsGivenBy, next_who}
 use Rattle.qc_serve.proofs.Meeting.{ends_fit}
-use Rattle.qc_serve.proofs.Resting.{or_err}
+use Rattle.qc_serve.proofs.Resting.{or_err, stops_without}
 use Rattle.qc_serve.proofs.Transacting.{can_put, ended_stops, left_out, on_out, put_session}
 use Rattle.qc_serve.proofs.session.Session.turn_on.Goals as goal
 
@@ -25,12 +26,12 @@ returns-in_ok-put-in-Commits-clause-gives g c =
 pub returns-in_ok-put-in-Commits-clause-stops : goal.returns-in_ok-put-in-Commits-clause-stops
 returns-in_ok-put-in-Commits-clause-stops g c =
     let e = c.in_ok-ended in
-    or_err c.ok_reply.result (ended_stops c.args.turn.now c.args.self.now c.end_transaction.new.self e.ended c.put.new.state e.ensures.logs (put_session c.args.setting.now c.end_transaction.new.self.state.state c.put.new.state.state c.requires.sets c.in_ok-put-in-Commits.ensures.set ∙ ap (λ (x : SnapshotState). x.state.session) e.ensures.state))
+    or_err c.ok_reply.result (ended_stops c.args.turn.now c.args.self.now c.end_transaction.new.self e.ended c.put.new.state (with_transaction (record c.args.self.now.state.state { autocommit = true }) None) e.ensures.logs (put_session c.args.setting.now c.end_transaction.new.self.state.state c.put.new.state.state c.requires.sets c.in_ok-put-in-Commits.ensures.set ∙ ap (λ (x : SnapshotState). x.state.session) e.ensures.state))
 
 pub returns-in_err-put-in-Commits-clause-stops : goal.returns-in_err-put-in-Commits-clause-stops
 returns-in_err-put-in-Commits-clause-stops g c =
     let e = c.in_ok-ended in
-    or_err _ (ended_stops c.args.turn.now c.args.self.now c.end_transaction.new.self e.ended c.put.new.state e.ensures.logs (ap (λ (x : SnapshotState). x.state.session) (c.in_err-put-in-Commits.ensures.err ∙ e.ensures.state)))
+    or_err _ (ended_stops c.args.turn.now c.args.self.now c.end_transaction.new.self e.ended c.put.new.state (with_transaction (record c.args.self.now.state.state { autocommit = true }) None) e.ensures.logs (ap (λ (x : SnapshotState). x.state.session) (c.in_err-put-in-Commits.ensures.err ∙ e.ensures.state)))
 
 pub returns-in_default-clause-gives : goal.returns-in_default-clause-gives
 returns-in_default-clause-gives g c =
@@ -41,4 +42,9 @@ returns-in_default-clause-gives g c =
 pub returns-in_default-clause-stops : goal.returns-in_default-clause-stops
 returns-in_default-clause-stops g c =
     let e = c.in_ok-ended in
-    or_err c.ended_reply.result (ended_stops c.args.turn.now c.args.self.now c.end_transaction.new.self e.ended c.end_transaction.new.self.state e.ensures.logs (ap (λ (x : SnapshotState). x.state.session) e.ensures.state))
+    or_err c.ended_reply.result (ended_stops c.args.turn.now c.args.self.now c.end_transaction.new.self e.ended c.end_transaction.new.self.state (with_transaction (record c.args.self.now.state.state { autocommit = true }) None) e.ensures.logs (ap (λ (x : SnapshotState). x.state.session) e.ensures.state))
+
+pub returns-in_err-ended-clause-stops : goal.returns-in_err-ended-clause-stops
+returns-in_err-ended-clause-stops g c =
+    let old = c.args.self.now in
+    or_err _ (stops_without c.args.turn.now old c.end_transaction.new.self (IsGivenBy (λ journal. ended_with (next_who old) old.state.state journal (with_transaction (record old.state.state { autocommit = true }) None))) c.in_err-ended.ensures.stops)

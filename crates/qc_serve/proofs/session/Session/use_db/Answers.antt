@@ -1,5 +1,7 @@
-use Rattle.qc_serve.proofs.Resting.{or_err}
-use Rattle.qc_serve.proofs.Using.{choice_session, kept_session, shared_stops, use_fits, use_give, use_refuse}
+use Rattle.qc_model.specs.Machine.{used}
+use Rattle.qc_serve.specs.Going.{IsGivenBy, next_who}
+use Rattle.qc_serve.proofs.Resting.{or_err, stops_without}
+use Rattle.qc_serve.proofs.Using.{choice_session, kept_session, use_fits, use_give, use_refuse, use_stops}
 use Rattle.qc_serve.proofs.session.Session.use_db.Goals as goal
 
 pub error_reply-requires : goal.error_reply-requires
@@ -15,7 +17,7 @@ returns-in-Ok-clause-gives g c =
 pub returns-in-Ok-clause-stops : goal.returns-in-Ok-clause-stops
 returns-in-Ok-clause-stops g c =
     let d = c.in_ok-database in
-    or_err c.ok_reply.result (shared_stops c.args.turn.now c.args.self.now c.log_sharing.new.self d.database c.use_db.new.state d.ensures.logs (choice_session c.args.self.now c.log_sharing.new.self d.database c.args.name.now c.use_db.new.state c.log_sharing.ensures.state c.in-Ok.ensures.gives))
+    or_err c.ok_reply.result (use_stops c.args.turn.now c.args.self.now c.log_sharing.new.self d.database c.args.name.now c.use_db.new.state d.ensures.logs (choice_session c.args.self.now c.log_sharing.new.self d.database c.args.name.now c.use_db.new.state c.log_sharing.ensures.state c.in-Ok.ensures.gives))
 
 pub returns-in-Err-Other-clause-gives : goal.returns-in-Err-Other-clause-gives
 returns-in-Err-Other-clause-gives g c =
@@ -25,9 +27,14 @@ returns-in-Err-Other-clause-gives g c =
 pub returns-in-Err-Other-clause-stops : goal.returns-in-Err-Other-clause-stops
 returns-in-Err-Other-clause-stops g c =
     let d = c.in_ok-database in
-    or_err c.error_reply.result (shared_stops c.args.turn.now c.args.self.now c.log_sharing.new.self d.database c.use_db.new.state d.ensures.logs (kept_session c.args.self.now c.log_sharing.new.self c.use_db.new.state c.log_sharing.ensures.state c.in-Err-Other.ensures.err))
+    or_err c.error_reply.result (use_stops c.args.turn.now c.args.self.now c.log_sharing.new.self d.database c.args.name.now c.use_db.new.state d.ensures.logs (kept_session c.args.self.now c.log_sharing.new.self c.use_db.new.state c.log_sharing.ensures.state c.in-Err-Other.ensures.err))
 
 pub returns-clause-stops : goal.returns-clause-stops
 returns-clause-stops g c =
     let d = c.in_ok-database in
-    shared_stops c.args.turn.now c.args.self.now c.log_sharing.new.self d.database c.use_db.new.state d.ensures.logs (kept_session c.args.self.now c.log_sharing.new.self c.use_db.new.state c.log_sharing.ensures.state c.in-Err-Memory.ensures.err)
+    use_stops c.args.turn.now c.args.self.now c.log_sharing.new.self d.database c.args.name.now c.use_db.new.state d.ensures.logs (kept_session c.args.self.now c.log_sharing.new.self c.use_db.new.state c.log_sharing.ensures.state c.in-Err-Memory.ensures.err)
+
+pub returns-in_err-database-clause-stops : goal.returns-in_err-database-clause-stops
+returns-in_err-database-clause-stops g c =
+    let old = c.args.self.now in
+    or_err _ (stops_without c.args.turn.now old c.log_sharing.new.self (IsGivenBy (λ journal. used (next_who old) old.state.state journal c.args.name.now)) c.in_err-database.ensures.stops)
