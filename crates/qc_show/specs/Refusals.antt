@@ -1,5 +1,5 @@
--- Why nothing is shown of a report.
-use Rattle.std.specs.Prelude.{◌≡◌, ℕ, ◌<◌, Bool, true, false, List, length, Option, Some, None, Err}
+-- What may be shown of a report, and why nothing is.
+use Rattle.std.specs.Prelude.{◌≡◌, ℕ, ◌<◌, ◌≤◌, true, List, length, Option, Some, None, Err, is_ok, IfSome}
 use Rattle.qc_types.specs.declared.memory.Or.{Or}
 use Rattle.qc_types.specs.declared.memory.Or.TheVariants as or
 use Rattle.qc_model.specs.declared.reports.Report.{Report}
@@ -16,10 +16,13 @@ use Rattle.qc_show.specs.declared.fault.Refusal.TheVariants as refusal
 abbrev pub IsReport : List ℕ → Type 0
 IsReport bytes = (r : Report) × IsTellable r × (bytes ≡ text_of_report r)
 
--- whether the report or the script is refused, where else a fault came in between
-abbrev pub is_refused : Refusal → Bool
-is_refused (refusal.Fault f) = false
-is_refused _ = true
+-- a script, where there is one, is one that can be read
+abbrev pub IsScript : Option (List ℕ) → Type 0
+IsScript script = IfSome script (λ bytes. is_ok (script_of bytes) ≡ true)
+
+-- what may be shown: a report that isn't too long, and a script beside it, where there is one
+abbrev pub MayShow : List ℕ → Option (List ℕ) → Type 0
+MayShow report script = IsReport report × (length report ≤ 4294967294) × IsScript script
 
 -- a script is refused as what it means; or a fault came in between
 abbrev pub HasScriptCause : Option (List ℕ) → Refusal → Type 0

@@ -1,7 +1,7 @@
 //! What is shown of a report.
 
-ghost use Rattle.std.specs.Prelude.{◌≡◌, true, Some, IfErr, OnOk, option_map};
-ghost use Rattle.qc_show.specs.Refusals.{IsReport, HasCause, HasScriptCause, is_refused};
+ghost use Rattle.std.specs.Prelude.{◌≡◌, ◌⊎◌, IfErr, OnOk, option_map};
+ghost use Rattle.qc_show.specs.Refusals.{HasCause, HasScriptCause, IsScript, MayShow};
 
 use crate::arguments::View;
 use crate::client::put_packets;
@@ -30,27 +30,29 @@ pub fn show<W: Write>(
     script: Option<&[u8]>,
     out: &mut W,
 ) -> Result<(), Refusal>
-    // Only a report is shown.
-    ensures shown { OnOk result (IsReport report.now) }
+    // Only a report is shown, and beside it only a script.
+    ensures shown { OnOk result (MayShow report.now (option_map (λ text. text.now) script.entry)) }
     ensures cause { IfErr result (HasCause report.now (option_map (λ text. text.now) script.entry)) }
-    // Where the report or the script is refused, nothing is written.
-    ensures untouched { IfErr result (λ why. is_refused why ≡ true → out.new ≡ out.old) }
+    // Whatever the result, nothing is written where it is no report, or no script beside it.
+    ensures untouched { (out.new ≡ out.old) ⊎ MayShow report.now (option_map (λ text. text.now) script.entry) }
 {
     if report.len() > MOST_REPORT {
         return Err(Refusal::TooLong);
     }
     let report = read_report(alloc, report)?;
-    let commands = match script {
-        Some(script) => commands_in(alloc, script)?,
-        None => Commands::none(alloc),
-    };
+    let commands = commands_in(alloc, script)?;
     put_view(alloc, out, view, &report, &commands)?;
     Ok(())
 }
 
-fn commands_in(alloc: Global, script: &[u8]) -> Result<Commands, Refusal>
-    ensures { IfErr result (HasScriptCause (Some script.now)) }
+/// The commands of the script, or none where there is no script.
+fn commands_in(alloc: Global, script: Option<&[u8]>) -> Result<Commands, Refusal>
+    ensures read { OnOk result (IsScript (option_map (λ text. text.now) script.entry)) }
+    ensures cause { IfErr result (HasScriptCause (option_map (λ text. text.now) script.entry)) }
 {
+    let Some(script) = script else {
+        return Ok(Commands::none(alloc));
+    };
     let script = read_script(alloc, script)?;
     match Commands::of(alloc, &script) {
         Ok(commands) => Ok(commands),
