@@ -27,15 +27,20 @@ pub enum Reason {
     Written(TableName),
     /// A table changed at a place behind the snapshot of its transaction.
     NotVisible {
+        /// The first such table.
         table: TableName,
+        /// The number of the event that was the last to change it.
         changed: u64,
+        /// The number of the event at which the snapshot was taken.
         snapshot: u64,
     },
     /// An entry of the same key, with this serial, is still being filled.
     Rival(u64),
     /// No free block has as many words as it needs, and no entry is left that could go.
     NoRoom {
+        /// The words of 8 bytes that it needs.
         need: u32,
+        /// The words of the largest free block, or 0 where there is none.
         largest: u32,
     },
 }
@@ -47,8 +52,11 @@ pub enum How {
     Hit(u64),
     /// A select ran, and an entry was begun for it.
     Start {
+        /// The serial of the entry.
         serial: u64,
+        /// Its key.
         key: Text,
+        /// The tables that it uses, in the order of FROM.
         tables: Tables,
     },
     /// A select ran outside the cache.
@@ -57,10 +65,13 @@ pub enum How {
     Other,
     /// SHOW STATUS ran, with the cache's totals.
     Status(Totals),
-    /// A transaction was refused, since the event `by` had changed the table, or the row with this key.
+    /// A transaction was refused, since another event had changed the table, or a row of it.
     Conflict {
+        /// The table.
         table: TableName,
+        /// The key of the row, where it is one.
         key: Option<i64>,
+        /// The number of the event that had changed it.
         by: u64,
     },
 }
@@ -69,9 +80,19 @@ pub enum How {
 #[derive(Clone, Copy, Debug, PartialEq, Eq)]
 pub enum GoneWhy {
     /// Its reply grew longer than one entry may be.
-    TooLarge { length: u64, limit: u32 },
+    TooLarge {
+        /// The bytes of the reply.
+        length: u64,
+        /// The most bytes that one may have.
+        limit: u32,
+    },
     /// The cache had no room for its next piece.
-    NoRoom { need: u32, largest: u32 },
+    NoRoom {
+        /// The words of 8 bytes that it needs.
+        need: u32,
+        /// The words of the largest free block, or 0 where there is none.
+        largest: u32,
+    },
     /// Its session ended.
     Ended,
 }
@@ -81,35 +102,47 @@ pub enum GoneWhy {
 pub enum Event {
     /// A command of a session ran and changed no data.
     Run {
+        /// Whose it is.
         who: Who,
+        /// How it ran.
         how: How,
     },
     /// Changes of a session became part of the database.
     Commit {
+        /// Whose they are.
         who: Who,
+        /// The changes.
         ops: SharedOps,
     },
     /// An entry was completed.
     Done {
+        /// Its serial.
         serial: u64,
     },
     /// An entry that was being filled is gone.
     Gone {
+        /// Its serial.
         serial: u64,
+        /// Why it is.
         why: GoneWhy,
     },
-    /// The entry that was used longest ago went, to make room for so many words.
+    /// The entry went that was used longest ago, of those that are complete and that nobody streams, to make room.
     Prune {
+        /// Its serial.
         serial: u64,
+        /// The words of 8 bytes for which room was made.
         need: u32,
+        /// The words of the largest free block before, or 0 where there was none.
         largest: u32,
     },
     /// RESET QUERY CACHE, or FLUSH TABLES: all entries went.
     Reset {
+        /// Whose command it is.
         who: Who,
     },
     /// FLUSH QUERY CACHE: the entries were moved together.
     Flush {
+        /// Whose command it is.
         who: Who,
     },
 }

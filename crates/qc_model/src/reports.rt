@@ -48,8 +48,9 @@ pub enum Word {
 /// A command that was answered.
 #[derive(Drop)]
 pub struct ReportLine {
-    /// The place in the journal of its event, or where it has none the last place that the session had seen.
+    /// The place in the journal of its event, or where it has none that of the line before, which is 0 for a first one.
     pub place: u64,
+    /// How its reply came about.
     pub how: Word,
     /// Its packets.
     pub reply: Text,
@@ -67,10 +68,15 @@ pub enum Ending {
     Input,
     /// In a packet of which so many bytes stand there.
     Cut(u32),
-    /// At a packet whose payload is longer than one may be.
+    /// At a packet whose payload would have so many bytes, more than one may have.
     TooLong(u32),
     /// At a packet with a wrong sequence number.
-    BadSequence { found: u8, wanted: u8 },
+    BadSequence {
+        /// The number that it has.
+        found: u8,
+        /// The number that is wanted.
+        wanted: u8,
+    },
 }
 
 /// What one session did.
@@ -78,7 +84,9 @@ pub enum Ending {
 pub struct SessionReport {
     /// 1 to 64, or 0 for the setup part.
     pub session: u8,
+    /// What it was answered.
     pub lines: ReportLines,
+    /// How its input ended.
     pub ending: Ending,
 }
 
@@ -88,8 +96,11 @@ pub type SessionReports = OwnedList<SessionReport>;
 /// What a run of a script did.
 #[derive(Drop)]
 pub struct Report {
+    /// The options of the server.
     pub options: Options,
+    /// What each session did.
     pub sessions: SessionReports,
+    /// All events.
     pub journal: Events,
     /// At the end of the journal.
     pub counters: Counters,

@@ -158,7 +158,7 @@ impl SessionState {
     /// Carries out SET of a variable or of the character set, as in MySQL's "SET Syntax for Variable Assignment". It leaves the transaction alone.
     ///
     /// Refused with 1193 for a variable that there is none of, and with 1231 for a value that the variable doesn't take; the state stays then, and
-    /// where memory runs out.
+    /// where memory runs out. Linear in the name and the value.
     pub fn set(&mut self, alloc: Global, setting: &Setting) -> Result<(), Or<SqlError>>
         ensures gives { Gives (λ _. self.new.state) (λ e. e) result (set_to self.old.state setting.now) }
         ensures same { self.new.origin ≡ self.old.origin }
@@ -203,7 +203,7 @@ impl SessionState {
         Ok(())
     }
 
-    /// Makes a database the current one, as USE does.
+    /// Makes a database the current one, as USE does. Constant time.
     pub fn use_db(&mut self, name: Text)
         ensures { self.new ≡ in_database name self.old }
     {
@@ -218,7 +218,7 @@ impl SessionState {
         self.progress = TransactionProgress::Opened;
     }
 
-    /// Opens a transaction where autocommit is off and none is open, as a statement does that reads or writes rows.
+    /// Opens a transaction where autocommit is off and none is open, as a statement does that reads or writes rows. Constant time.
     pub fn arrive(&mut self)
         ensures { self.new ≡ after_arrival self.old }
     {
@@ -308,7 +308,7 @@ impl SessionState {
         mem::replace(&mut self.own, Ops::new(self.alloc))
     }
 
-    /// Ends the transaction, if one is open, with all that it has.
+    /// Ends the transaction, if one is open, with all that it has. Costs the operations that are dropped.
     pub fn clear(&mut self)
         ensures { self.new ≡ after_end self.old }
     {

@@ -9,6 +9,7 @@ use std::snapshot::Snapshot;
 /// What the table is told when it is made.
 #[derive(Drop)]
 pub struct Start<V> {
+    /// The value that is put behind the turn.
     pub value: Snapshot<V>,
     /// The number of words of the region.
     pub size: u32,

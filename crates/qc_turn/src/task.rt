@@ -31,6 +31,8 @@ impl Task {
 pub struct ListedTask {
     /// The number of the seat.
     pub number: u32,
+    /// What the seat does outside of the turn.
     pub task: Task,
+    /// The blocks of the task, in their order.
     pub blocks: LinkedList<Block>,
 }

@@ -150,7 +150,7 @@ impl<V: Kept> Turn<V> {
         }
     }
 
-    /// The value, at the end. It takes the first seat, once that has met all others.
+    /// The value, at the end. It takes the first seat, once that has met all others. Costs no more than to give the memory of the words back.
     pub fn close(self, seat: Seat<V>) -> V
         requires seated { IsSeatOf self seat }
         requires first { (view seat).number ≡ 1 }
@@ -219,7 +219,7 @@ impl<V: Kept> Turn<V> {
         unreachable!()
     }
 
-    /// Lets the holder get on. A sleep ends early where the turn word has changed.
+    /// Lets the holder get on. It doesn't sleep where the turn word has changed by then.
     fn pause<R: Wait>(&self, rt: &R, holder: u32, tries: u32)
         requires { tries ≤ 40 }
     {

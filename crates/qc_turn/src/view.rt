@@ -4,21 +4,27 @@ use crate::task::Task;
 use qc_chain::Block;
 use std::collections::LinkedList;
 
-/// Whether a seat holds the turn. If so: the value as it was taken, and the words as they are now.
+/// Whether a seat holds the turn.
 pub enum Holding<V> {
+    /// It doesn't.
     Free,
+    /// It does: the value as it was taken, and the words as they are now.
     Holds(V, LinkedList<u64>),
 }
 
 /// What the first seat keeps of a seat that it met.
 pub struct MetSeat<E> {
+    /// The events of its session.
     pub events: LinkedList<E>,
+    /// The journal that it had seen.
     pub seen: LinkedList<E>,
 }
 
-/// A task word that the holder read: whose it is, and whether it was set.
+/// A task word that the holder read.
 pub struct FoundWord {
+    /// The number of the seat whose it is, from 1 to 65.
     pub seat: u32,
+    /// Whether it was set.
     pub set: bool,
 }
 
@@ -36,12 +42,15 @@ pub struct View<V, E> {
     pub fixed: LinkedList<u64>,
     /// The events of its session.
     pub events: LinkedList<E>,
+    /// Whether it is connected.
     pub connected: bool,
+    /// What it does outside of the turn.
     pub task: Task,
     /// The blocks of its task.
     pub blocks: LinkedList<Block>,
     /// The words of its stream, or the bytes so far of its fill.
     pub content: LinkedList<u64>,
+    /// Whether it holds the turn, and what it knows then.
     pub holding: Holding<V>,
     /// Whether its own task word is set.
     pub word_set: bool,
