@@ -1,5 +1,6 @@
 """Scripts, packets and reports: bytes in, plain values out, and replies spelled as bytes."""
 
+import functools
 import re
 
 PAYLOAD_LIMIT = 16_777_214
@@ -278,29 +279,44 @@ def form_of(text):
 FORMS = {kind: form_of(text) for kind, text in EVENT_FORMS.items()}
 
 
+def event_kind(text):
+    """The kind that an event's words name."""
+    words = text.split(" ", 4)
+    if words[0] == "run":
+        return words[3] if len(words) > 3 else None
+    if words[0] == "gone":
+        return {"noroom": "goneroom"}.get(words[2], words[2]) if len(words) > 2 else None
+    return words[0]
+
+
 class Event:
     """One line of the journal: its number, its kind, and its fields as numbers or texts."""
 
     def __init__(self, number, text):
         self.number = number
         self.text = text
-        for kind, form in FORMS.items():
-            match = form.fullmatch(text)
-            if match:
-                self.kind = kind
-                fields = list(match.groups())
-                for place in NUMBERS[kind]:
-                    fields[place - 1] = int(fields[place - 1])
-                self.fields = fields
-                self.deciding = kind in DECIDING
-                self.session = fields[0] if self.deciding else None
-                self.count = fields[1] if self.deciding else None
-                return
+        kind = event_kind(text)
+        match = FORMS[kind].fullmatch(text) if kind in FORMS else None
+        if match:
+            self.kind = kind
+            fields = list(match.groups())
+            for place in NUMBERS[kind]:
+                fields[place - 1] = int(fields[place - 1])
+            self.fields = fields
+            self.deciding = kind in DECIDING
+            self.session = fields[0] if self.deciding else None
+            self.count = fields[1] if self.deciding else None
+            return
         raise Refused("event %d isn't in the form: %s" % (number, text[:80]))
 
     def says(self, text):
         """Whether this is the event's text."""
         return self.text == text
+
+
+@functools.lru_cache(maxsize=None)
+def line_form(text):
+    return re.compile(text.replace("N", NUMBER).replace("H", HEX))
 
 
 class Report:
@@ -322,7 +338,7 @@ def read_report(data):
         nonlocal at
         if at >= len(lines):
             raise Refused("the report ends too early")
-        match = re.fullmatch(form.replace("N", NUMBER).replace("H", HEX), lines[at])
+        match = line_form(form).fullmatch(lines[at])
         if not match:
             raise Refused("line %d of the report isn't in the form: %s" % (at + 1, lines[at][:80]))
         at += 1

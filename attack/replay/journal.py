@@ -3,6 +3,7 @@ follow those before it."""
 
 from database import apply, touches
 from formats import Refused
+from handed_out import OVER, handed_out, may_be_largest, may_have_totals, most_free_after_flush
 from memory import LEAST, Memory, raised, words_of
 
 
@@ -11,7 +12,7 @@ class Entry:
         self.serial, self.key, self.tables = serial, key, tables
         self.session, self.number, self.packets = session, number, packets
         self.length = sum(packets)
-        self.complete = False
+        self.complete, self.filling = False, True
 
 
 class Journal:
@@ -25,6 +26,7 @@ class Journal:
         self.blocks = Memory(self.words, self.unit)
         self.number = 0
         self.database = {}
+        self.replies = {}
         self.commits = []
         self.table_changes, self.drops = {}, {}
         self.cache, self.starts = {}, {}
@@ -32,6 +34,7 @@ class Journal:
         self.last = {}
         self.com_select = self.hits = self.inserts = self.not_cached = self.prunes = 0
         self.pending = []
+        self.flushed = 0, 0
 
     # What is asked of the state
 
@@ -59,14 +62,28 @@ class Journal:
         """Whether a session other than this one may stream an entry."""
         return any(event.kind == "hit" and event.fields[2] == serial for event in self.others(session))
 
+    def in_use(self, session):
+        """The entries that sessions other than this one may stream or fill, whether they have left the cache or not."""
+        serials = {event.fields[2] for event in self.others(session)
+                   if event.kind == "hit" or event.kind == "start" and self.starts[event.fields[2]].filling}
+        return [self.starts[serial] for serial in serials]
+
+    def handed_out(self, session):
+        left = [entry for entry in self.in_use(session) if entry.serial not in self.cache]
+        return handed_out(list(self.cache.values()), left, self.unit)
+
     def has_idle(self, session):
         """Whether a complete entry stands that nobody but this session may stream."""
         return any(entry.complete and not self.streamed(entry.serial, session) for entry in self.cache.values())
 
-    def must_be_crowded(self, event, need, largest):
-        """A need that isn't met: the largest free block is below it, and the region is no larger than its blocks allow."""
+    def must_be_crowded(self, event, need, largest, session):
+        """A need of a session that isn't met: the largest free block is below it, and the region is no larger than its blocks allow."""
         if largest >= need:
             raise Refused("event %d: a free block holds the need" % event.number)
+        amount = self.handed_out(session)
+        # The entry that is being started may have its tables' blocks and its first result block.
+        amount.add((0, 9), (0, 8 * (LEAST + OVER) + self.unit + OVER))
+        may_be_largest(amount, self.words, largest, event)
         counted = dict(self.cache)
         for last in self.last.values():
             serial = None
@@ -85,7 +102,7 @@ class Journal:
         """A prune is of a complete entry, and those that were used longer ago are streamed, by another session than the
         one that prunes, where it is known."""
         serial, need, largest = event.fields
-        self.must_be_crowded(event, need, largest)
+        self.must_be_crowded(event, need, largest, acting)
         entry = self.entry(event, True)
         for older in self.cache.values():
             if older is entry:
@@ -181,7 +198,7 @@ class Journal:
 
     def no_room(self, event, key, tables):
         need, largest = map(int, event.fields[2].split()[1:])
-        self.must_be_crowded(event, need, largest)
+        self.must_be_crowded(event, need, largest, event.session)
         self.check_needs(self.pending, self.start_needs(key))
         if need not in self.start_needs(key):
             raise Refused("event %d has a need that nothing has" % event.number)
@@ -223,7 +240,7 @@ class Journal:
             need, largest = event.fields[1:]
             if need != self.unit:
                 raise Refused("event %d has a need that nothing has" % event.number)
-            self.must_be_crowded(event, need, largest)
+            self.must_be_crowded(event, need, largest, entry.session)
             self.has_no_idle(event, entry.session)
         if event.kind == "ended":
             raise Refused("event %d: no session ends in a fill" % event.number)
@@ -236,6 +253,7 @@ class Journal:
             prunes.finish()
             if expected != event.text:
                 raise Refused("event %d should be: %s" % (event.number, expected))
+        entry.filling = False
         if event.kind == "done":
             entry.complete = True
             self.cache[entry.serial] = self.cache.pop(entry.serial)
@@ -286,10 +304,8 @@ class Journal:
         for event in self.others(session):
             if event.kind == "hit":
                 return True
-            if event.kind == "start":
-                entry = self.cache.get(event.fields[2])
-                if entry is None or not entry.complete:
-                    return True
+            if event.kind == "start" and self.starts[event.fields[2]].filling:
+                return True
         return False
 
     def reset(self, event):
@@ -298,6 +314,7 @@ class Journal:
             self.blocks = Memory(self.words, self.unit)
 
     def flush(self, event):
+        self.flushed = event.number, most_free_after_flush(self.in_use(event.session), self.unit)
         if self.busy_others(event.session):
             self.blocks = None
         if self.blocks is not None:
@@ -310,9 +327,9 @@ class Journal:
             if (blocks, free_blocks, free_bytes) != (totals[0], totals[1], 8 * totals[2]):
                 raise Refused("event %d should have the totals %d %d %d"
                               % (event.number, totals[0], totals[1], 8 * totals[2]))
-        elif free_blocks > blocks or free_bytes % 8 or not 512 * free_blocks <= free_bytes <= self.size \
-                or 512 * (blocks - free_blocks) > self.size - free_bytes:
-            raise Refused("event %d has totals that no tiling has" % event.number)
+        may_have_totals(self.handed_out(event.session), self.words, event)
+        if event.number == self.flushed[0] + 1 and free_blocks > self.flushed[1]:
+            raise Refused("event %d: %d blocks are free behind a flush, and at most %d may be" % (event.number, free_blocks, self.flushed[1]))
 
 
 class PrunesOf:

@@ -101,8 +101,23 @@ def judge(script, report, options=None, kinds=None):
     if report.counters != journal.counters():
         raise Refused("the counters are %s and should be %s" % (report.counters, journal.counters()))
     if kinds is not None:
-        for event in report.journal:
-            kinds[event.kind if event.kind != "plain" else "plain " + event.fields[2].split()[0]] += 1
+        count(kinds, report.journal, journal)
+
+
+def count(kinds, events, journal):
+    """Counts the events by their kinds, the fills that a change or a reset overtook, how often another session than that of the event before comes on, and
+    what the end tells of the memory: that nothing is handed out, or that no more is than the entries need."""
+    before = None
+    for event in events:
+        kinds[event.kind if event.kind != "plain" else "plain " + event.fields[2].split()[0]] += 1
+        if event.deciding:
+            kinds["(changes of session)"] += before not in (None, 0, event.session)
+            before = event.session
+    kinds["(overtaken)"] += sum(entry.filling for entry in journal.starts.values())
+    if events and events[-1].kind == "status" and not journal.in_use(events[-1].session):
+        kinds["(told at the end: nothing)" if not journal.cache else "(told at the end: entries)"] += 1
+    else:
+        kinds["(untold at the end)"] += 1
 
 
 def acting(events, event, journal):

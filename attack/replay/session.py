@@ -192,7 +192,7 @@ class Session:
         try:
             scope = prepare(node, database, self.db, self.number, self.transaction is not None)
             error = None
-            reply = rows_reply(*rows(node, scope, self.charset, self.row_limit), self.status())
+            reply = self.rows(node, text, scope, journal)
         except SqlError as refusal:
             error = refusal
             reply = error_reply(refusal)
@@ -219,6 +219,14 @@ class Session:
                 raise Refused("event %d starts an entry whose key has one" % event.number)
             journal.start(event, key, tables, [len(packet) for packet in reply])
         return reply
+
+    def rows(self, node, text, scope, journal):
+        """The reply to a SELECT that isn't refused, looked up where the same one was made of the same tables. A table is never changed, only replaced."""
+        about = self.number if uncached_call(node) else None
+        key = (text, self.ansi, self.charset, self.row_limit, self.status(), self.db, about) + tuple(table for _, _, table in scope.sources)
+        if key not in journal.replies:
+            journal.replies[key] = rows_reply(*rows(node, scope, self.charset, self.row_limit), self.status())
+        return journal.replies[key]
 
     def reason(self, node, error, asked, tables, key, journal):
         """The reason for which a SELECT that is no hit isn't stored, or None."""

@@ -58,6 +58,8 @@ UNCACHED_CALLS = set(
 OTHER_CALLS = {b"ENCRYPT", b"UNIX_TIMESTAMP"}
 AGGREGATES = {b"COUNT", b"SUM", b"MIN", b"MAX"}
 SPACE = re.compile(rb"[\t-\r ]*")
+# A token that no comment can stand before.
+NEAR = re.compile(rb"[\t-\r ]*(?:([A-Za-z_\x80-\xff][A-Za-z0-9_$\x80-\xff]*)|([0-9]+)|(<>|!=|<=|>=|[(),.;*=<>+]))")
 PLAIN = re.compile(rb"([A-Za-z_\x80-\xff][A-Za-z0-9_$\x80-\xff]*)|([0-9]+)|(<>|!=|<=|>=|[(),.;*=<>+/-])")
 ESCAPES = {0x30: 0x00, 0x27: 0x27, 0x22: 0x22, 0x62: 0x08, 0x6E: 0x0A, 0x72: 0x0D, 0x74: 0x09, 0x5A: 0x1A, 0x5C: 0x5C}
 
@@ -99,14 +101,19 @@ class Lexer:
                 return
 
     def next(self):
-        self.skip()
-        text, start = self.text, self.at
-        if start == len(text):
-            return Token(END, b"", start, start)
-        match = PLAIN.match(text, start)
+        text = self.text
+        match = NEAR.match(text, self.at)
+        if match:
+            start = match.start(match.lastindex)
+        else:
+            self.skip()
+            start = self.at
+            if start == len(text):
+                return Token(END, b"", start, start)
+            match = PLAIN.match(text, start)
         if match:
             kind = (WORD, NUMBER, SIGN)[match.lastindex - 1]
-            value = match.group()
+            value = match.group(match.lastindex)
             if (kind == WORD and len(value) > 64) or (kind == NUMBER and int(value) >= 1 << 64):
                 raise syntax(start)
             self.at = match.end()
@@ -217,11 +224,11 @@ class Parser:
         raise syntax(token.start)
 
     def at_word(self, *words):
-        token = self.peek()
+        token = self.ahead[0] if self.ahead else self.peek()
         return token.kind == WORD and token.upper in words
 
     def at_sign(self, *signs):
-        token = self.peek()
+        token = self.ahead[0] if self.ahead else self.peek()
         return token.kind == SIGN and token.value in signs
 
     def word(self, *words):
