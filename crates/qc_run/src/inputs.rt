@@ -10,7 +10,8 @@ ghost use Rattle.qc_run.specs.Inputs.{EndsAt, HasAnswered, HasEnded, IsLastLine,
 use crate::joined::Joined;
 use qc_core::Server;
 use qc_model::reports::{Ending, ReportLine, ReportLines};
-use qc_serve::{End, Executed, Gate, Session, execute, reading_end};
+use qc_parsed::ParsedSelects;
+use qc_serve::{End, Executed, Gate, Session, execute_keeping, reading_end};
 use qc_sql::commands::Command;
 use qc_turn::Turn;
 use qc_types::{NoMemory, Steps};
@@ -42,6 +43,7 @@ pub(crate) fn serve_input<R: Wait, G: Gate, L: Ledger>(
     let mut steps = Steps::<L>::new(blank);
     let mut left = input;
     let mut sink = Joined::new(alloc);
+    let mut parsed = ParsedSelects::new(alloc);
     for _ in rt.forever() {
         let command = match read_command(alloc, &mut left) {
             Ok(command) => command,
@@ -52,7 +54,16 @@ pub(crate) fn serve_input<R: Wait, G: Gate, L: Ledger>(
             }
         };
         if let Err(end) = answer(
-            rt, alloc, turn, session, &command, lines, gate, &mut steps, &mut sink,
+            rt,
+            alloc,
+            turn,
+            session,
+            &command,
+            lines,
+            gate,
+            &mut steps,
+            &mut sink,
+            &mut parsed,
         ) {
             return end.ending();
         }
@@ -71,6 +82,7 @@ fn answer<R: Wait, G: Gate, L: Ledger>(
     gate: &G,
     steps: &mut Steps<L>,
     sink: &mut Joined,
+    parsed: &mut ParsedSelects,
 ) -> Result<(), End>
     requires rests { IsAtRest turn.now session.old × (session.old.end ≡ None) }
     requires within { length (command_payload command.now) ≤ most_payload }
@@ -79,7 +91,7 @@ fn answer<R: Wait, G: Gate, L: Ledger>(
     ensures same { OnErr result (lines.new ≡ lines.old) }
 {
     sink.clear();
-    match execute(rt, alloc, turn, session, command, sink, gate, steps) {
+    match execute_keeping(rt, alloc, turn, session, command, sink, gate, steps, parsed) {
         Executed::Ended(end) => Err(end),
         Executed::Replied => match keep_line(alloc, session, sink, lines) {
             Ok(()) => Ok(()),

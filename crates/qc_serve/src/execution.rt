@@ -13,6 +13,7 @@ use crate::leaving::leave_now;
 use crate::session::Session;
 use crate::sinks::{Gate, Moment, ReplySink};
 use qc_core::Server;
+use qc_parsed::ParsedSelects;
 use qc_sql::commands::Command;
 use qc_turn::Turn;
 use qc_types::{NoMemory, Steps, Text};
@@ -52,12 +53,45 @@ pub fn execute<R: Wait, K: ReplySink, G: Gate, L: Ledger>(
     ensures later { K.faults sink.old ≤ K.faults sink.new }
     ensures hits_read_no_row { (line : _) → session.new.log.lines ≡ session.old.log.lines ++ line ∷ [] → line.how ≡ word.Hit → steps.new ≡ steps.old }
 {
+    let mut parsed = ParsedSelects::new(alloc);
+    execute_keeping(
+        rt,
+        alloc,
+        turn,
+        session,
+        command,
+        sink,
+        gate,
+        steps,
+        &mut parsed,
+    )
+}
+
+/// The same, by one who keeps the SELECTs that were parsed lately, so that one that comes again isn't parsed again.
+pub fn execute_keeping<R: Wait, K: ReplySink, G: Gate, L: Ledger>(
+    rt: &R,
+    alloc: Global,
+    turn: &Turn<Server>,
+    session: &mut Session,
+    command: &Command,
+    sink: &mut K,
+    gate: &G,
+    steps: &mut Steps<L>,
+    parsed: &mut ParsedSelects,
+) -> Executed
+    requires rests { IsAtRest turn.now session.old × (session.old.end ≡ None) }
+    requires within { length (command_payload command.now) ≤ most_payload }
+    ensures executes { command.now ≢ sent.Quit → Executes turn.now command.now session.old session.new (K.held sink.old) (K.held sink.new) (K.faults sink.old) (K.faults sink.new) result }
+    ensures quits { command.now ≡ sent.Quit → Quits turn.now session.old session.new (K.held sink.old) (K.held sink.new) result }
+    ensures later { K.faults sink.old ≤ K.faults sink.new }
+    ensures hits_read_no_row { (line : _) → session.new.log.lines ≡ session.old.log.lines ++ line ∷ [] → line.how ≡ word.Hit → steps.new ≡ steps.old }
+{
     if let Command::Quit = command {
         session.pass_before(gate);
         session.finish(rt, turn, End::Quit);
         return Executed::Ended(End::Quit);
     }
-    match session.reply(rt, alloc, turn, command, sink, gate, steps) {
+    match session.reply(rt, alloc, turn, command, sink, gate, steps, parsed) {
         Ok(()) => Executed::Replied,
         Err(end) => {
             session.finish(rt, turn, end);
@@ -81,6 +115,7 @@ impl Session {
         sink: &mut K,
         gate: &G,
         steps: &mut Steps<L>,
+        parsed: &mut ParsedSelects,
     ) -> Result<(), End>
         requires rests { IsAtRest turn.now self.old }
         requires within { length (command_payload command.now) ≤ most_payload }
@@ -98,7 +133,17 @@ impl Session {
         match command {
             Command::Quit => unreachable!(),
             Command::Query(text) => {
-                self.answer_query(rt, alloc, turn, text.bytes(), number, sink, gate, steps)
+                self.answer_query(
+                    rt,
+                    alloc,
+                    turn,
+                    text.bytes(),
+                    number,
+                    sink,
+                    gate,
+                    steps,
+                    parsed,
+                )
             }
             command => self.answer_other(rt, alloc, turn, command, number, sink, gate),
         }

@@ -35,7 +35,7 @@ mod turns;
 
 pub use connecting::{NotConnected, Receipt, Receipts, connect};
 pub use ending::End;
-pub use execution::{Executed, execute};
+pub use execution::{Executed, execute, execute_keeping};
 pub use log::{Log, Logged};
 pub use serving::{reading_end, serve, serve_on};
 pub use session::Session;

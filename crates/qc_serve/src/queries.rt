@@ -14,8 +14,9 @@ use qc_core::Server;
 use qc_lex::trimmed;
 use qc_model::reports::Word;
 use qc_parse::{ParseRefusal, parse};
+use qc_parsed::{ParsedSelect, ParsedSelects};
 use qc_replies::fault_error;
-use qc_sql::statements::Statement;
+use qc_sql::statements::{Select, Statement};
 use qc_steps::{asks_cache, key};
 use qc_table::Database;
 use qc_turn::Turn;
@@ -28,7 +29,7 @@ impl Session {
     ghost use Rattle.qc_sql.specs.declared.statements.Statement.TheVariants as statement;
     ghost use Rattle.std.specs.Prelude.{true, false, Ok, Err, IfOk, MatchOption};
     ghost use Rattle.qc_sql.specs.Grammar as grammar;
-    ghost use Rattle.qc_laws.specs.sizes.Names.{is_short_statement};
+    ghost use Rattle.qc_laws.specs.sizes.Names.{is_short_select, is_short_statement};
     ghost use Rattle.qc_model.specs.Machine as machine;
     ghost use Rattle.qc_parse.specs.Refusals.{as_meant};
     ghost use Rattle.qc_replies.specs.Told.{IsTold};
@@ -48,6 +49,7 @@ impl Session {
         sink: &mut K,
         gate: &G,
         steps: &mut Steps<L>,
+        parsed: &mut ParsedSelects,
     ) -> Result<(), End>
         requires rest { MayAnswer turn.now self.old }
         requires within { length text.now < most_payload }
@@ -59,7 +61,7 @@ impl Session {
     {
         match self.look(rt, alloc, turn, text)? {
             Some(found) => self.answer_hit(turn, found, number, sink, gate),
-            None => self.answer_text(rt, alloc, turn, text, number, sink, gate, steps),
+            None => self.answer_text(rt, alloc, turn, text, number, sink, gate, steps, parsed),
         }
     }
 
@@ -113,7 +115,7 @@ impl Session {
         }
     }
 
-    /// Answers a text that no hit was found for.
+    /// Answers a text that no hit was found for. One that was parsed lately, and is kept, isn't parsed again.
     fn answer_text<R: Wait, K: ReplySink, G: Gate, L: Ledger>(
         &mut self,
         rt: &R,
@@ -124,6 +126,75 @@ impl Session {
         sink: &mut K,
         gate: &G,
         steps: &mut Steps<L>,
+        parsed: &mut ParsedSelects,
+    ) -> Result<(), End>
+        requires rest { MayAnswer turn.now self.old }
+        requires within { length text.now < most_payload }
+        ensures replied { OnOk result (IsReplied turn.now (sent.Query text.now) self.old self.new (K.held sink.old) (K.held sink.new)) }
+        ensures ends { OnErr result (MustEnd turn.now (sent.Query text.now) self.old self.new (K.held sink.old) (K.held sink.new)) }
+        ensures cause { IfErr result (MayFail (K.faults sink.old) (K.faults sink.new)) }
+        ensures later { K.faults sink.old ≤ K.faults sink.new }
+        ensures hits_read_no_row { (line : _) → self.new.log.lines ≡ self.old.log.lines ++ line ∷ [] → line.how ≡ word.Hit → steps.new ≡ steps.old }
+    {
+        let ansi = self.state.flags().ansi;
+        match parsed.take(trimmed(text), ansi) {
+            Some(select) => self.answer_parsed(
+                rt, alloc, turn, text, select, number, sink, gate, steps, parsed,
+            ),
+            None => self.answer_unparsed(rt, alloc, turn, text, number, sink, gate, steps, parsed),
+        }
+    }
+
+    /// Answers a SELECT that was kept, and keeps it again.
+    fn answer_parsed<R: Wait, K: ReplySink, G: Gate, L: Ledger>(
+        &mut self,
+        rt: &R,
+        alloc: Global,
+        turn: &Turn<Server>,
+        text: &[u8],
+        select: ParsedSelect,
+        number: u64,
+        sink: &mut K,
+        gate: &G,
+        steps: &mut Steps<L>,
+        parsed: &mut ParsedSelects,
+    ) -> Result<(), End>
+        requires rest { MayAnswer turn.now self.old }
+        requires within { length text.now < most_payload }
+        requires means { grammar.meaning (grammar.trimmed text.now) self.old.state.state.ansi ≡ Ok (statement.Select select) }
+        ensures replied { OnOk result (IsReplied turn.now (sent.Query text.now) self.old self.new (K.held sink.old) (K.held sink.new)) }
+        ensures ends { OnErr result (MustEnd turn.now (sent.Query text.now) self.old self.new (K.held sink.old) (K.held sink.new)) }
+        ensures cause { IfErr result (MayFail (K.faults sink.old) (K.faults sink.new)) }
+        ensures later { K.faults sink.old ≤ K.faults sink.new }
+        ensures hits_read_no_row { (line : _) → self.new.log.lines ≡ self.old.log.lines ++ line ∷ [] → line.how ≡ word.Hit → steps.new ≡ steps.old }
+    {
+        let replied = self.answer_select(
+            rt,
+            alloc,
+            turn,
+            text,
+            select.select(),
+            number,
+            sink,
+            gate,
+            steps,
+        );
+        parsed.keep(select);
+        replied
+    }
+
+    /// Parses a text, and answers it.
+    fn answer_unparsed<R: Wait, K: ReplySink, G: Gate, L: Ledger>(
+        &mut self,
+        rt: &R,
+        alloc: Global,
+        turn: &Turn<Server>,
+        text: &[u8],
+        number: u64,
+        sink: &mut K,
+        gate: &G,
+        steps: &mut Steps<L>,
+        parsed: &mut ParsedSelects,
     ) -> Result<(), End>
         requires rest { MayAnswer turn.now self.old }
         requires within { length text.now < most_payload }
@@ -135,7 +206,7 @@ impl Session {
     {
         match parse(alloc, trimmed(text), self.state.flags().ansi) {
             Ok(statement) => self.answer_statement(
-                rt, alloc, turn, text, &statement, number, sink, gate, steps,
+                rt, alloc, turn, text, statement, number, sink, gate, steps, parsed,
             ),
             Err(Or::Other(refusal)) => self.answer_fault(alloc, turn, &refusal, number, sink, gate),
             Err(Or::Memory) => Err(End::Memory),
@@ -149,16 +220,17 @@ impl Session {
         alloc: Global,
         turn: &Turn<Server>,
         text: &[u8],
-        statement: &Statement,
+        statement: Statement,
         number: u64,
         sink: &mut K,
         gate: &G,
         steps: &mut Steps<L>,
+        parsed: &mut ParsedSelects,
     ) -> Result<(), End>
         requires rest { MayAnswer turn.now self.old }
         requires within { length text.now < most_payload }
-        requires short { is_short_statement statement.now ≡ true }
-        requires means { grammar.meaning (grammar.trimmed text.now) self.old.state.state.ansi ≡ Ok statement.now }
+        requires short { is_short_statement statement ≡ true }
+        requires means { grammar.meaning (grammar.trimmed text.now) self.old.state.state.ansi ≡ Ok statement }
         ensures replied { OnOk result (IsReplied turn.now (sent.Query text.now) self.old self.new (K.held sink.old) (K.held sink.new)) }
         ensures ends { OnErr result (MustEnd turn.now (sent.Query text.now) self.old self.new (K.held sink.old) (K.held sink.new)) }
         ensures cause { IfErr result (MayFail (K.faults sink.old) (K.faults sink.new)) }
@@ -167,10 +239,44 @@ impl Session {
     {
         match statement {
             Statement::Select(select) => {
-                self.answer_select(rt, alloc, turn, text, select, number, sink, gate, steps)
+                self.answer_new(
+                    rt, alloc, turn, text, select, number, sink, gate, steps, parsed,
+                )
             }
-            _ => self.execute_and_reply(rt, alloc, turn, statement, number, sink, gate, steps),
+            other => self.execute_and_reply(rt, alloc, turn, &other, number, sink, gate, steps),
         }
+    }
+
+    /// Answers a SELECT that was just parsed, and keeps it.
+    fn answer_new<R: Wait, K: ReplySink, G: Gate, L: Ledger>(
+        &mut self,
+        rt: &R,
+        alloc: Global,
+        turn: &Turn<Server>,
+        text: &[u8],
+        select: Select,
+        number: u64,
+        sink: &mut K,
+        gate: &G,
+        steps: &mut Steps<L>,
+        parsed: &mut ParsedSelects,
+    ) -> Result<(), End>
+        requires rest { MayAnswer turn.now self.old }
+        requires within { length text.now < most_payload }
+        requires short { is_short_select select ≡ true }
+        requires means { grammar.meaning (grammar.trimmed text.now) self.old.state.state.ansi ≡ Ok (statement.Select select) }
+        ensures replied { OnOk result (IsReplied turn.now (sent.Query text.now) self.old self.new (K.held sink.old) (K.held sink.new)) }
+        ensures ends { OnErr result (MustEnd turn.now (sent.Query text.now) self.old self.new (K.held sink.old) (K.held sink.new)) }
+        ensures cause { IfErr result (MayFail (K.faults sink.old) (K.faults sink.new)) }
+        ensures later { K.faults sink.old ≤ K.faults sink.new }
+        ensures hits_read_no_row { (line : _) → self.new.log.lines ≡ self.old.log.lines ++ line ∷ [] → line.how ≡ word.Hit → steps.new ≡ steps.old }
+    {
+        let ansi = self.state.flags().ansi;
+        let replied = self.answer_select(rt, alloc, turn, text, &select, number, sink, gate, steps);
+        if let Some(select) = ParsedSelect::of(alloc, trimmed(text), ansi, select) {
+            parsed.keep(select);
+        }
+        replied
     }
 
     /// Answers a statement that is no SELECT, and sends its reply.

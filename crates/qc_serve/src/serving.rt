@@ -6,10 +6,11 @@ ghost use Rattle.qc_serve.specs.Served as served;
 ghost use Rattle.qc_serve.specs.Served.{HasFault, IsServed};
 
 use crate::ending::End;
-use crate::execution::{Executed, execute};
+use crate::execution::{Executed, execute_keeping};
 use crate::session::Session;
 use crate::sinks::{Gate, ReplySink};
 use qc_core::Server;
+use qc_parsed::ParsedSelects;
 use qc_sql::commands::CommandEnd;
 use qc_turn::Turn;
 use qc_types::{Or, Source, Steps};
@@ -54,6 +55,7 @@ pub fn serve_on<R: Wait, S: Source, K: ReplySink, G: Gate, L: Ledger>(
     ensures served { IfSome session.new.end (IsServed turn.now session.old session.new (S.left source.old) (K.held sink.old) (K.held sink.new)) × IsSome session.new.end }
     ensures fault { IfSome session.new.end (HasFault (S.faults source.old) (S.faults source.new) (K.faults sink.old) (K.faults sink.new)) }
 {
+    let mut parsed = ParsedSelects::new(alloc);
     for _ in rt.forever() {
         let command = match read_command(alloc, source) {
             Ok(command) => command,
@@ -62,7 +64,17 @@ pub fn serve_on<R: Wait, S: Source, K: ReplySink, G: Gate, L: Ledger>(
                 return;
             }
         };
-        if let Executed::Ended(_) = execute(rt, alloc, turn, session, &command, sink, gate, steps) {
+        if let Executed::Ended(_) = execute_keeping(
+            rt,
+            alloc,
+            turn,
+            session,
+            &command,
+            sink,
+            gate,
+            steps,
+            &mut parsed,
+        ) {
             return;
         }
     }

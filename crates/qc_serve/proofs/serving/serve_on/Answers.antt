@@ -17,13 +17,13 @@ returns-in-Err-clause-served g c =
 
 pub returns-in-Ended-clause-served : goal.returns-in-Ended-clause-served
 returns-in-Ended-clause-served g c =
-    let x = c.execute in
+    let x = c.execute_keeping in
     ended_here c.args.turn.now c.args.session.now c.loop.session x.new.session (g.S.Source.left c.args.source.now) (g.S.Source.left c.loop.source) (g.S.Source.left c.read_command.new.source) (g.K.ReplySink.held c.args.sink.now) (g.K.ReplySink.held c.loop.sink) (g.K.ReplySink.held x.new.sink)
     c.in-Ok.command (g.K.ReplySink.faults c.loop.sink) (g.K.ReplySink.faults x.new.sink) x.result c.in-Ended.field-0 c.requires.0.reached c.loop.invariant.0 c.in-Ok.ensures.command (record { executes = x.ensures.executes; quits = x.ensures.quits }) c.in-Ended.is
 
 pub loop-preserved-in_default : goal.loop-preserved-in_default
 loop-preserved-in_default g c =
-    let x = c.execute in (
+    let x = c.execute_keeping in (
       goes_on_here c.args.turn.now c.args.session.now c.loop.session x.new.session (g.S.Source.left c.args.source.now) (g.S.Source.left c.loop.source) (g.S.Source.left c.read_command.new.source) (g.K.ReplySink.held c.args.sink.now) (g.K.ReplySink.held c.loop.sink)
           (g.K.ReplySink.held x.new.sink) c.in-Ok.command (g.K.ReplySink.faults c.loop.sink) (g.K.ReplySink.faults x.new.sink) x.result c.requires.0.reached c.loop.invariant.0 c.in-Ok.ensures.command (record { executes = x.ensures.executes; quits = x.ensures.quits }) c.in_default.is,
       omega (arith, c.loop.invariant.1, c.read_command.ensures.later),
@@ -32,7 +32,7 @@ loop-preserved-in_default g c =
 
 pub loop-preserved-in_default-2 : goal.loop-preserved-in_default-2
 loop-preserved-in_default-2 g c =
-    let x = c.execute in (
+    let x = c.execute_keeping in (
       goes_on_here c.args.turn.now c.args.session.now c.loop.session x.new.session (g.S.Source.left c.args.source.now) (g.S.Source.left c.loop.source) (g.S.Source.left c.read_command.new.source) (g.K.ReplySink.held c.args.sink.now) (g.K.ReplySink.held c.loop.sink)
           (g.K.ReplySink.held x.new.sink) c.in-Ok.command (g.K.ReplySink.faults c.loop.sink) (g.K.ReplySink.faults x.new.sink) x.result c.requires.0.reached c.loop.invariant.0 c.in-Ok.ensures.command (record { executes = x.ensures.executes; quits = x.ensures.quits }) c.in_default.is,
       omega (arith, c.loop.invariant.1, c.read_command.ensures.later),
@@ -41,7 +41,7 @@ loop-preserved-in_default-2 g c =
 
 pub loop-preserved : goal.loop-preserved
 loop-preserved g c =
-    let x = c.execute in (
+    let x = c.execute_keeping in (
       goes_on_here c.args.turn.now c.args.session.now c.loop.session x.new.session (g.S.Source.left c.args.source.now) (g.S.Source.left c.loop.source) (g.S.Source.left c.read_command.new.source) (g.K.ReplySink.held c.args.sink.now) (g.K.ReplySink.held c.loop.sink)
           (g.K.ReplySink.held x.new.sink) c.in-Ok.command (g.K.ReplySink.faults c.loop.sink) (g.K.ReplySink.faults x.new.sink) x.result c.requires.0.reached c.loop.invariant.0 c.in-Ok.ensures.command (record { executes = x.ensures.executes; quits = x.ensures.quits }) c.in_default.is,
       omega (arith, c.loop.invariant.1, c.read_command.ensures.later),

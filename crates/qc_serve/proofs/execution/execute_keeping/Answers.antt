@@ -1,7 +1,7 @@
 use Rattle.std.proofs.Common.{◌∙◌}
 use Rattle.qc_serve.specs.declared.execution.Executed.TheVariants as executed
 use Rattle.qc_serve.proofs.Breaking.{ended, never_quits, same_log}
-use Rattle.qc_serve.proofs.execution.execute.Goals as goal
+use Rattle.qc_serve.proofs.execution.execute_keeping.Goals as goal
 
 pub returns-in-Err : goal.returns-in-Err
 returns-in-Err g c =

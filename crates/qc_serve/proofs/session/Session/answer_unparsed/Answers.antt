@@ -4,7 +4,7 @@ use Rattle.qc_laws.proofs.sizes.Parsed.{parsed_names_are_short}
 use Rattle.qc_parse.specs.Refusals.{as_meant}
 use Rattle.qc_replies.proofs.Told.{is_told}
 use Rattle.qc_serve.proofs.Parsing.{ends_same, trimmed_below}
-use Rattle.qc_serve.proofs.session.Session.answer_text.Goals as goal
+use Rattle.qc_serve.proofs.session.Session.answer_unparsed.Goals as goal
 
 pub parse-requires : goal.parse-requires
 parse-requires g c = rw c.trimmed.ensures (omega (arith, trimmed_below c.args.text.now, c.requires.within))
