@@ -19,7 +19,7 @@ ghost use Rattle.std.specs.Prelude.{◌<◌};
 use crate::told::{must, same};
 use qc_app::{Ended, Report, ScriptRefusal, qcache_main};
 use qc_serve::Ungated;
-use qc_types::{BytesSink, BytesSource};
+use qc_types::{BytesSink, BytesSource, Sink, Source};
 use setup::Run;
 use std::alloc::{AllocError, Global};
 use std::process::Abort;
@@ -59,6 +59,17 @@ fn sink(alloc: Global, failing: &[u64]) -> Result<BytesSink, AllocError> {
     Ok(BytesSink::new(alloc, calls))
 }
 
+/// How a call of the program ends. The other functions make it through this one, whose proof alone reads the clauses of the top call.
+fn call_program<R: Threads + Wait + Sync, S: Source, K: Sink>(
+    rt: &R,
+    alloc: Global,
+    words: &[String],
+    input: &mut S,
+    out: &mut K,
+) -> Ended {
+    qcache_main(rt, alloc, words, input, out, &Ungated)
+}
+
 /// How a run without a cache ends on a whole script, and what it writes.
 fn run<R: Threads + Wait + Sync>(
     rt: &R,
@@ -78,7 +89,7 @@ fn run_with<R: Threads + Wait + Sync>(
     let words = words(alloc, line)?;
     let mut input = source(alloc, script, usize::MAX, &[])?;
     let mut out = sink(alloc, &[])?;
-    let ended = qcache_main(rt, alloc, &words, &mut input, &mut out, &Ungated);
+    let ended = call_program(rt, alloc, &words, &mut input, &mut out);
     Ok((ended, out))
 }
 

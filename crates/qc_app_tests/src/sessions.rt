@@ -41,6 +41,7 @@ mod cached;
 mod definitions;
 mod deletes;
 mod inserts;
+mod repeated;
 mod settings;
 mod show;
 mod texts;
@@ -279,6 +280,12 @@ fn variables_are_set(rt: HostRuntime) -> Result<(), Fail> {
         settings::ANSI_QUOTES,
         settings::ROW_LIMIT,
     ];
+    agree(&rt, rt.alloc(), &scripts)
+}
+
+#[test]
+fn texts_that_come_again(rt: HostRuntime) -> Result<(), Fail> {
+    let scripts = [repeated::BEHIND_CHANGES, repeated::BEHIND_OTHERS];
     agree(&rt, rt.alloc(), &scripts)
 }
 

@@ -2,10 +2,9 @@
 
 ghost use Rattle.std.specs.Prelude.{◌≤◌, IfOk, vec_len};
 
-use super::{bytes, plain, sink, source, words};
+use super::{bytes, call_program, plain, sink, source, words};
 use crate::told::{must, same};
-use qc_app::{StdSink, StdSource, qcache_main};
-use qc_serve::Ungated;
+use qc_app::{StdSink, StdSource};
 use qc_types::{PutStep, ReadStep, Sink, Source};
 use std::io::{self, ErrorKind, Read, Write};
 
@@ -103,13 +102,12 @@ fn slow_standard_streams(rt: HostRuntime) {
         bytes: Vec::new(alloc),
         at: 0,
     };
-    let ended = qcache_main(
+    let ended = call_program(
         &rt,
         alloc,
         &words,
         &mut input,
         &mut StdSink::new(&mut written),
-        &Ungated,
     );
     same(&rt, ended.status, 0u8);
     same(
@@ -145,23 +143,22 @@ fn faults(rt: HostRuntime) {
             source(alloc, plain::FIRST_ROW.as_bytes(), 100, &[call]),
         );
         let mut out = must(&rt, sink(alloc, &[]));
-        let ended = qcache_main(&rt, alloc, &words, &mut input, &mut out, &Ungated);
+        let ended = call_program(&rt, alloc, &words, &mut input, &mut out);
         assert_eq!(rt; ended.status, 3u8, "at call {call}");
         assert_eq!(rt; out.bytes().is_empty(), true, "at call {call}");
         assert_eq!(rt; ended.report.is_none(), true, "at call {call}");
     }
     let mut input = must(&rt, source(alloc, plain::FIRST_ROW.as_bytes(), 100, &[]));
-    let ended = qcache_main(
+    let ended = call_program(
         &rt,
         alloc,
         &words,
         &mut input,
         &mut must(&rt, sink(alloc, &[1])),
-        &Ungated,
     );
     same(&rt, ended.status, 4u8);
     same(&rt, ended.report.is_some(), true);
     let mut input = must(&rt, source(alloc, plain::FIRST_ROW.as_bytes(), 100, &[]));
-    let ended = qcache_main(&rt, alloc, &words, &mut input, &mut FullSink, &Ungated);
+    let ended = call_program(&rt, alloc, &words, &mut input, &mut FullSink);
     same(&rt, ended.status, 5u8);
 }

@@ -1,10 +1,9 @@
 //! Long inputs, and many commands.
 
 use super::commands::answers;
-use super::{bytes, refusal_of, report_of, run, sink, source, words};
+use super::{bytes, call_program, refusal_of, report_of, run, sink, source, words};
 use crate::told::{must, same};
-use qc_app::{Ending, qcache_main};
-use qc_serve::Ungated;
+use qc_app::Ending;
 use std::alloc::{AllocError, Global};
 
 /// A script of four queries of many letters, the last one of so many.
@@ -35,13 +34,12 @@ fn a_byte_too_many(rt: HostRuntime) {
     let words = must(&rt, words(alloc, "run --size 0"));
     // It isn't read further: of pieces of 16,384 bytes the next one would fail.
     let mut input = must(&rt, source(alloc, &script, 16_384, &[4_098]));
-    let ended = qcache_main(
+    let ended = call_program(
         &rt,
         alloc,
         &words,
         &mut input,
         &mut must(&rt, sink(alloc, &[])),
-        &Ungated,
     );
     same(&rt, ended.status, 2u8);
     let Some(refusal) = refusal_of(ended) else {

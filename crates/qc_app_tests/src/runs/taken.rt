@@ -1,9 +1,7 @@
 //! Words that are taken, with the options of their reports, and words that are in no form.
 
-use super::{plain, report_of, run_with, sink, source, words};
+use super::{call_program, plain, report_of, run_with, sink, source, words};
 use crate::told::must;
-use qc_app::qcache_main;
-use qc_serve::Ungated;
 use qc_types::Options;
 
 /// Words, each with the size, limit, unit and type that they ask for.
@@ -84,13 +82,12 @@ fn words_in_no_form(rt: HostRuntime) {
     for line in rows {
         let mut input = must(&rt, source(alloc, plain::FIRST_ROW.as_bytes(), 100, &[1]));
         let mut out = must(&rt, sink(alloc, &[]));
-        let ended = qcache_main(
+        let ended = call_program(
             &rt,
             alloc,
             &must(&rt, words(alloc, line)),
             &mut input,
             &mut out,
-            &Ungated,
         );
         assert_eq!(rt; ended.status, 1u8, "at {line}");
         assert_eq!(rt; out.bytes().is_empty(), true, "at {line}");

@@ -1,9 +1,9 @@
 //! Whole reports.
 
-use super::{cached, has_report, plain, run, run_behind, run_with, sink, source, words};
+use super::{
+    cached, call_program, has_report, plain, run, run_behind, run_with, sink, source, words,
+};
 use crate::told::must;
-use qc_app::qcache_main;
-use qc_serve::Ungated;
 
 #[test]
 fn whole_reports(rt: HostRuntime) {
@@ -49,7 +49,7 @@ fn a_source_that_gives_few_bytes(rt: HostRuntime) {
     for piece in [1, 2, 3, 7] {
         let mut input = must(&rt, source(alloc, plain::FIRST_ROW.as_bytes(), piece, &[]));
         let mut out = must(&rt, sink(alloc, &[]));
-        let ended = qcache_main(&rt, alloc, &words, &mut input, &mut out, &Ungated);
+        let ended = call_program(&rt, alloc, &words, &mut input, &mut out);
         assert_eq!(rt; ended.status, 0u8);
         assert_eq!(rt; out.bytes(), plain::FIRST_REPORT.as_bytes());
     }

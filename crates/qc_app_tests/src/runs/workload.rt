@@ -1,9 +1,7 @@
 //! Workloads. The summaries were worked out from the rules of docs/FORMATS.md, by attack/workload/summary.py.
 
-use super::{report_of, run_with, sink, source, words};
+use super::{call_program, report_of, run_with, sink, source, words};
 use crate::told::{must, same};
-use qc_app::qcache_main;
-use qc_serve::Ungated;
 use qc_types::Options;
 
 /// Words, each with the summary that they ask for.
@@ -68,7 +66,7 @@ fn the_report_of_a_workload(rt: HostRuntime) {
     let mut input = must(&rt, source(alloc, b"ping\n", 100, &[1]));
     let mut out = must(&rt, sink(alloc, &[]));
     let words = must(&rt, words(alloc, "workload 1"));
-    let ended = qcache_main(&rt, alloc, &words, &mut input, &mut out, &Ungated);
+    let ended = call_program(&rt, alloc, &words, &mut input, &mut out);
     same(&rt, ended.status, 0u8);
     same(&rt, ended.server.is_some(), true);
     same(&rt, ended.receipts.is_some(), true);
@@ -99,7 +97,7 @@ fn a_sink_that_fails(rt: HostRuntime) {
     let mut input = must(&rt, source(alloc, b"", 100, &[]));
     let mut out = must(&rt, sink(alloc, &[1]));
     let words = must(&rt, words(alloc, "workload 1"));
-    let ended = qcache_main(&rt, alloc, &words, &mut input, &mut out, &Ungated);
+    let ended = call_program(&rt, alloc, &words, &mut input, &mut out);
     same(&rt, ended.status, 4u8);
     same(&rt, out.bytes().is_empty(), true);
     same(&rt, report_of(ended).is_some(), true);
