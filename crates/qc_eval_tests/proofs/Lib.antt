@@ -1,2 +1,0 @@
-mod Trials
-mod Walks
