@@ -1,6 +1,0 @@
-//! Scripts and reports.
-
-mod reading;
-mod reports;
-mod scripts;
-mod workload;

@@ -1,4 +1,0 @@
-//! Packets, written and read.
-
-mod packets;
-mod replies;
