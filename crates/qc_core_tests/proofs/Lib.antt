@@ -1,4 +1,0 @@
-pub mod Meetings
-pub mod Selecting
-pub mod Answering
-pub mod Filling
