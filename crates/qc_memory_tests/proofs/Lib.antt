@@ -1,0 +1,5 @@
+mod Checks
+mod Fresh
+mod Meetings
+mod Pushes
+mod Threes

@@ -1,4 +1,0 @@
-pub mod Chained
-pub mod Meetings
-pub mod Pushes
-pub mod Threes

@@ -1,4 +1,0 @@
-pub mod Logs
-pub mod Strips
-pub mod Shares
-pub mod Threes
