@@ -1,17 +1,23 @@
-//! Whole runs whose reads and puts fail, one after another, and runs on small regions of memory.
+//! Sessions that break off: how each one ends, what it was sent until then, and what the next one on its seat finds.
 #![tactic(auto)]
 
 #[cfg(test)]
-mod calls;
+mod answers;
 #[cfg(test)]
-mod draws;
+mod crowd;
 #[cfg(test)]
-mod outcomes;
+mod cuts;
+#[cfg(test)]
+mod faults;
+#[cfg(test)]
+mod losses;
+#[cfg(test)]
+mod player;
 #[cfg(test)]
 mod puts;
 #[cfg(test)]
-mod reads;
+mod seats;
 #[cfg(test)]
-mod regions;
+mod standard;
 #[cfg(test)]
-mod scripts;
+mod told;

@@ -1,166 +1,185 @@
-//! A put of the report fails.
+//! A put of a fill or of a hit fails, or wants memory.
 
-use crate::calls::{REPORT, SCRIPT, WORDS, bytes, call, must, only};
-use qc_app::{Ended, StdSink};
-use qc_types::{BytesSink, BytesSource, PutStep, Sink};
+use crate::faults::{Commands, ENDS, MANY_ROWS, ONE_ROW, Visit, at_put, whole};
+use crate::player::{agree, sized, usual};
+use crate::seats::must;
+use qc_types::Options;
 use std::alloc::Global;
-use std::io::{self, ErrorKind, Write};
 use std::process::Abort;
 use std::sync::Wait;
-use std::thread::Threads;
 
-/// How a call on the script ends with this sink.
-fn ended<R: Abort + Threads + Wait + Sync, K: Sink>(rt: &R, alloc: Global, out: &mut K) -> Ended {
-    let script = must(rt, bytes(alloc, SCRIPT));
-    let mut input = BytesSource::new(script, usize::MAX, Vec::new(alloc));
-    must(rt, call(rt, alloc, WORDS, &mut input, out))
+/// A session of four commands, the last of which is a SELECT whose reply breaks off.
+#[derive(Clone, Copy)]
+struct Broken<'a> {
+    options: Options,
+    commands: Commands,
+    /// The number of the put that isn't done, and what went out before.
+    put: u64,
+    sent: &'a str,
+    /// How the fill ended.
+    gone: &'a str,
+    /// What the next session sends, and what is told of it and its events.
+    next: Commands,
+    told: &'a str,
+    events: &'a str,
 }
 
-/// Asserts that a call ended with this status and left what it made, and that a sink holds so many bytes of the report.
-fn asserts(rt: &impl Abort, ended: &Ended, status: u8, held: &[u8], count: usize) {
-    assert_eq!(rt; ended.status, status, "behind {count} bytes");
-    assert!(rt;
-        Some(held) == REPORT.as_bytes().get(..count),
-        "behind {count} bytes"
-    );
-    assert!(rt; ended.report.is_some(), "no report behind {count} bytes");
-    assert!(rt; ended.server.is_some(), "no server behind {count} bytes");
-    assert!(rt;
-        ended.receipts.is_some(),
-        "no receipts behind {count} bytes"
-    );
+/// Asserts what the session leaves, whose put fails, or wants memory.
+fn breaks_off<R: Abort + Wait>(rt: &R, alloc: Global, broken: Broken<'_>) {
+    for (wants, end) in ENDS {
+        let visit = Visit {
+            commands: broken.commands,
+            fault: at_put(*wants, broken.put),
+        };
+        let wanted = must(
+            rt,
+            format!(in alloc;
+                "1: {end}, {}\n1: EndOfInput, {}
+commit 1 1; commit 1 2; commit 1 3; run 1 4 start 1; gone 1 {}; {}",
+                broken.sent, broken.told, broken.gone, broken.events
+            ),
+        );
+        let visits = [visit, whole(broken.next)];
+        agree(rt, alloc, broken.options, 0, &visits, &[wanted.as_str()]);
+    }
 }
 
-/// A sink that fails at a put gives status 4. The report is put at once: the first put fails, or none.
+/// So many bytes of a reply are kept at most. The put that isn't done, of which the first three are no fill's; what went out before; and how the fill of the reply of
+/// 62 bytes ended.
+const LIMITS: &[(u32, u64, &str, &str)] = &[
+    (62, 4, "33 bytes, 3 at rest", "ended"),
+    (62, 5, "38 bytes, 3 at rest, 1 at fill 1", "ended"),
+    (62, 6, "71 bytes, 3 at rest, 2 at fill 1", "ended"),
+    (62, 7, "80 bytes, 3 at rest, 3 at fill 1", "ended"),
+    (62, 8, "86 bytes, 3 at rest, 4 at fill 1", "ended"),
+    (61, 7, "80 bytes, 3 at rest, 3 at fill 1", "ended"),
+    (61, 8, "86 bytes, 3 at rest, 4 at fill 1", "toolarge 62 61"),
+    (50, 6, "71 bytes, 3 at rest, 2 at fill 1", "ended"),
+    (50, 7, "80 bytes, 3 at rest, 3 at fill 1", "toolarge 53 50"),
+    (
+        50,
+        8,
+        "86 bytes, 3 at rest, 3 at fill 1, 1 at rest",
+        "toolarge 53 50",
+    ),
+];
+
+/// At each put the entry is given up, once, by its size or with its session, and its blocks are free.
 #[test]
-fn each_put_fails(rt: HostRuntime) {
+fn a_fill_breaks_off(rt: HostRuntime) {
+    for (limit, put, sent, gone) in LIMITS {
+        let broken = Broken {
+            options: sized(1_048_576, *limit, 4096),
+            commands: ONE_ROW,
+            put: *put,
+            sent,
+            gone,
+            next: &[("SELECT SQL_NO_CACHE id FROM d.t", "7")],
+            told: "62 bytes, 5 at rest",
+            events: "run 1 5 plain notasked; blocks 1 1 1048576\n",
+        };
+        breaks_off(&rt, rt.alloc(), broken);
+    }
+}
+
+/// A region of four blocks: the table, the text and two result blocks fill it, and the packet 112 of the 120 asks for a third one.
+const WITHOUT_ROOM: &[(u64, &str, &str)] = &[
+    (114, "1043 bytes, 3 at rest, 110 at fill 1", "ended"),
+    (115, "1052 bytes, 3 at rest, 111 at fill 1", "noroom 64 0"),
+    (
+        116,
+        "1061 bytes, 3 at rest, 111 at fill 1, 1 at rest",
+        "noroom 64 0",
+    ),
+];
+
+/// A fill without room ends once.
+#[test]
+fn a_fill_without_room_breaks_off(rt: HostRuntime) {
+    for (put, sent, gone) in WITHOUT_ROOM {
+        let broken = Broken {
+            options: sized(2048, 1_048_576, 512),
+            commands: MANY_ROWS,
+            put: *put,
+            sent,
+            gone,
+            next: &[("SELECT SQL_NO_CACHE id FROM d.t", "many")],
+            told: "1100 bytes, 120 at rest",
+            events: "run 1 5 plain notasked; blocks 1 1 2048\n",
+        };
+        breaks_off(&rt, rt.alloc(), broken);
+    }
+}
+
+/// The bytes of three OKs and of so many packets of the reply with the 116 rows.
+fn bytes_of(packets: u64) -> u64 {
+    match packets {
+        0 => 33,
+        1 => 38,
+        2 => 71,
+        _ => packets.saturating_mul(9).saturating_add(53),
+    }
+}
+
+/// At each of 120 puts of an entry of three blocks its blocks are free when its session has ended, and the next same SELECT begins another one.
+#[test]
+fn a_long_fill_breaks_off(rt: HostRuntime) {
     let alloc = rt.alloc();
-    for (put, status, count) in [(1, 4, 0), (2, 0, REPORT.len())] {
-        let mut out = BytesSink::new(alloc, must(&rt, only(alloc, put)));
-        let ended = ended(&rt, alloc, &mut out);
-        asserts(&rt, &ended, status, out.bytes(), count);
+    for packets in 0..120u64 {
+        let bytes = bytes_of(packets);
+        let sent = match packets {
+            0 => format!(in alloc; "{bytes} bytes, 3 at rest"),
+            _ => format!(in alloc; "{bytes} bytes, 3 at rest, {packets} at fill 1"),
+        };
+        let sent = must(&rt, sent);
+        let broken = Broken {
+            options: sized(8192, 1_048_576, 512),
+            commands: MANY_ROWS,
+            put: packets + 4,
+            sent: sent.as_str(),
+            gone: "ended",
+            next: &[
+                ("SELECT id FROM d.t", "many"),
+                ("SELECT id FROM d.t", "many"),
+            ],
+            told: "2200 bytes, 120 at fill 2, 3 at stream 2",
+            events: "run 1 5 start 2; done 2; run 1 6 hit 2; blocks 6 1 5632\n",
+        };
+        breaks_off(&rt, alloc, broken);
     }
 }
 
-/// A sink that has room for so many bytes, and takes those of a longer piece that fit.
-#[derive(Drop)]
-struct Narrow {
-    bytes: Vec<u8>,
-    room: usize,
-    full: PutStep,
-    faults: u64,
-}
+/// The SELECT, whose reply goes out in pieces of 512, 512 and 76 bytes.
+const HIT: Commands = &[("SELECT id FROM d.t", "many")];
 
-impl Narrow {
-    fn new(alloc: Global, room: usize, full: PutStep) -> Narrow {
-        Narrow {
-            bytes: Vec::new(alloc),
-            room,
-            full,
-            faults: 0,
-        }
-    }
-}
+/// What is told of the first session.
+const TOLD: &str = "1: EndOfInput, 1133 bytes, 3 at rest, 120 at fill 1\n1: ";
 
-impl Sink for Narrow {
-    ghost use Rattle.std.specs.Prelude.{None};
+/// What went out before the put with this number, which isn't done.
+const PUTS_OF_A_HIT: &[(u64, &str)] = &[
+    (1, ", 0 bytes"),
+    (2, ", 512 bytes, 1 at stream 1"),
+    (3, ", 1024 bytes, 2 at stream 1"),
+];
 
-    ghost held = { λ _. None };
+/// The blocks are those of the entry: one of its table, one of 138 words with its reply, one of its text, and what is free between and behind them.
+const AFTER_A_HIT: &str = "
+1: EndOfInput, 1100 bytes, 3 at stream 1
+commit 1 1; commit 1 2; commit 1 3; run 1 4 start 1; done 1; run 1 5 hit 1; run 1 6 hit 1; blocks 5 2 1046448
+";
 
-    ghost faults = { λ s. s.faults };
-
-    fn put(&mut self, piece: &[u8]) -> PutStep {
-        let taken = piece.get(..self.room).unwrap_or(piece);
-        if self.bytes.extend_from_slice(taken).is_err() {
-            return PutStep::Memory;
-        }
-        self.room = self.room.saturating_sub(taken.len());
-        if taken.len() == piece.len() {
-            return PutStep::Done;
-        }
-        self.faults = self.faults.saturating_add(1);
-        self.full
-    }
-}
-
-/// The sink fails behind each number of bytes, and holds these of the report.
+/// A front of the reply went out. The Hit is the session's last event; the entry still hits, and has the blocks that it had.
 #[test]
-fn a_put_fails_behind_each_byte(rt: HostRuntime) {
-    let alloc = rt.alloc();
-    for count in 0..REPORT.len() {
-        let mut out = Narrow::new(alloc, count, PutStep::Failed);
-        let ended = ended(&rt, alloc, &mut out);
-        asserts(&rt, &ended, 4, out.bytes.as_slice(), count);
-    }
-    let mut out = Narrow::new(alloc, REPORT.len(), PutStep::Failed);
-    let ended = ended(&rt, alloc, &mut out);
-    asserts(&rt, &ended, 0, out.bytes.as_slice(), REPORT.len());
-}
-
-/// Its memory ends behind some: that is status 5.
-#[test]
-fn a_put_wants_memory_behind_bytes(rt: HostRuntime) {
-    let alloc = rt.alloc();
-    for count in [0, 1, 100, REPORT.len().saturating_sub(1)] {
-        let mut out = Narrow::new(alloc, count, PutStep::Memory);
-        let ended = ended(&rt, alloc, &mut out);
-        asserts(&rt, &ended, 5, out.bytes.as_slice(), count);
-    }
-}
-
-/// A writer that takes at most 50 bytes a call, and at one of its calls fails, or takes nothing.
-#[derive(Drop)]
-struct Faulty {
-    bytes: Vec<u8>,
-    calls: u64,
-    failing: u64,
-    takes_nothing: bool,
-}
-
-impl Write for Faulty {
-    fn write(&mut self, buf: &[u8]) -> io::Result<usize> {
-        self.calls = self.calls.wrapping_add(1);
-        if self.calls == self.failing {
-            if self.takes_nothing {
-                return Ok(0);
-            }
-            return Err(io::Error::from(ErrorKind::Other));
+fn a_hit_breaks_off(rt: HostRuntime) {
+    for (wants, end) in ENDS {
+        for (put, sent) in PUTS_OF_A_HIT {
+            let broken = Visit {
+                commands: HIT,
+                fault: at_put(*wants, *put),
+            };
+            let visits = [whole(MANY_ROWS), broken, whole(HIT)];
+            let wanted = [TOLD, end, sent, AFTER_A_HIT];
+            agree(&rt, rt.alloc(), usual(), 0, &visits, &wanted);
         }
-        let count = buf.len().min(50);
-        self.bytes.extend_from_slice(&buf[..count])?;
-        Ok(count)
-    }
-
-    fn flush(&mut self) -> io::Result<()> {
-        Ok(())
-    }
-}
-
-/// Asserts what a writer of the standard library holds of which this call fails, and with which status the program's call ends.
-fn fails_at<R: Abort + Threads + Wait + Sync>(
-    rt: &R,
-    alloc: Global,
-    failing: u64,
-    takes_nothing: bool,
-    count: usize,
-) {
-    let mut written = Faulty {
-        bytes: Vec::new(alloc),
-        calls: 0,
-        failing,
-        takes_nothing,
-    };
-    let ended = ended(rt, alloc, &mut StdSink::new(&mut written));
-    let status = if count < REPORT.len() { 4 } else { 0 };
-    asserts(rt, &ended, status, written.bytes.as_slice(), count);
-}
-
-/// A writer that fails, or takes nothing, is a write fault.
-#[test]
-fn each_call_of_a_writer_fails(rt: HostRuntime) {
-    for calls in 0..20usize {
-        let count = REPORT.len().min(50 * calls);
-        fails_at(&rt, rt.alloc(), calls as u64 + 1, false, count);
-        fails_at(&rt, rt.alloc(), calls as u64 + 1, true, count);
     }
 }
