@@ -34,7 +34,7 @@ class Journal:
         self.last = {}
         self.com_select = self.hits = self.inserts = self.not_cached = self.prunes = 0
         self.pending = []
-        self.flushed = 0, 0
+        self.flushed = -1, 0
 
     # What is asked of the state
 
