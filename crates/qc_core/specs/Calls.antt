@@ -1,27 +1,31 @@
 -- What the calls ask.
-use Rattle.std.specs.Prelude.{◌≡◌, ℕ, ◌+◌, ◌-◌, ◌<◌, ◌≤◌, Bool, true, List, [], Some, is_some, not, ◌&&◌}
+use Rattle.std.specs.Prelude.{◌≡◌, ℕ, ◌+◌, ◌-◌, ◌*◌, ◌<◌, ◌≤◌, Bool, true, List, [], length, Some, is_some, not, ◌&&◌}
 use Rattle.qc_model.specs.declared.events.Who.{Who}
 use Rattle.qc_model.specs.declared.events.Event.{Event}
 use Rattle.qc_model.specs.declared.events.How.{How}
 use Rattle.qc_model.specs.declared.events.How.TheVariants as how
-use Rattle.qc_model.specs.Journal.{event_count}
+use Rattle.qc_model.specs.Journal.{event_count, present}
 use Rattle.qc_model.specs.Cache.{cache, entry_of}
 use Rattle.qc_model.specs.Cache.{Entry as Cached}
 use Rattle.std.specs.List.{list_all}
-use Rattle.qc_model.specs.Session.{State}
+use Rattle.qc_model.specs.Session.{State, answer}
+use Rattle.qc_laws.specs.history.Runs.{IsStarted}
 use Rattle.qc_model.specs.Choice.{is_stale, wrote}
 use Rattle.qc_dir.specs.declared.entries.Entry.{Entry}
 use Rattle.qc_dir.specs.Directory.{entry_at}
-use Rattle.qc_model.specs.Licence.{IsCommitOn, MayGiveUp}
+use Rattle.qc_model.specs.Licence.{IsCommitOn, MayGiveUp, unit_words}
+use Rattle.qc_chain.specs.Words.{words_of}
 use Rattle.qc_turn.specs.Seats.{Held, holder, words}
 use Rattle.qc_turn.specs.Tasks.{listed_for, own, IsListed}
 use Rattle.qc_tiles.specs.declared.blocks.Block.{Block}
 use Rattle.qc_model.specs.declared.events.GoneWhy.{GoneWhy}
+use Rattle.qc_model.specs.declared.events.GoneWhy.TheVariants as gone
 use Rattle.qc_turn.specs.declared.task.Task.TheVariants as task
 use Rattle.qc_turn.specs.declared.kept.Kept.{Ghosts}
 use Rattle.qc_sound.specs.parts.Journal.{reserved}
 use Rattle.qc_core.specs.declared.parts.Parts.{Parts}
 use Rattle.qc_core.specs.Whole.{tasks_of}
+use Rattle.qc_core.specs.Allocates.{LacksTile}
 use Rattle.qc_core.specs.Connects.{is_connected}
 use Rattle.qc_core.specs.Ends.{HasWhole}
 
@@ -43,6 +47,23 @@ ListsFill n h = (bs : List Block) × (listed_for (holder h).number (tasks_of h.v
 -- the first bytes of the fill's blocks are the whole answer
 abbrev pub StoresWhole : {K : Ghosts Parts Event} → ℕ → ℕ → Held Parts Event K → Type 0
 StoresWhole n bytes h = (bs : List Block) → listed_for (holder h).number (tasks_of h.value) ≡ own (holder h).number (task.Fill n) bs → HasWhole (words h) n bytes bs h.value
+
+-- The entry's answer at its start has more bytes than the blocks of the seat's fill hold, no free block has a unit, of which the largest is told, and no
+-- complete entry is without users.
+pub record LacksRoom (seat n need largest : ℕ) (s : Parts) : Type 0 where
+  pub tile : LacksTile (unit_words s.options) s (record { need = need; largest = largest })
+  pub blocks : List Block
+  pub listed : listed_for seat (tasks_of s) ≡ own seat (task.Fill n) blocks
+  pub start : IsStarted s.journal.events n
+  pub all : List ℕ
+  pub answered : answer start.key (present start.earlier) ≡ Some all
+  pub longer : 8 * words_of blocks < length all
+
+-- where the entry is there still, want of room is told only of one that lacks it
+abbrev pub IsInWant : (seat n : ℕ) → GoneWhy → Parts → Type 0
+IsInWant seat n (gone.NoRoom need largest) s = is_some (entry_of n (cache s.journal.events)) ≡ true → LacksRoom seat n need largest s
+IsInWant seat n (gone.TooLarge total limit) s = Unit {0}
+IsInWant seat n gone.Ended s = Unit {0}
 
 -- where the entry is there still, it may be given up
 abbrev pub MayBeGone : ℕ → GoneWhy → Parts → Type 0

@@ -8,7 +8,7 @@ ghost use Rattle.qc_dir.specs.Directory.{entry_at};
 ghost use Rattle.qc_turn.specs.Tasks.{listed_for};
 ghost use Rattle.qc_turn.specs.Seats.{MayRelease, SameHolder, holder};
 ghost use Rattle.qc_core.specs.Whole.{tasks_of};
-ghost use Rattle.qc_core.specs.Calls.{ListsFill, StoresWhole, MayBeGone};
+ghost use Rattle.qc_core.specs.Calls.{ListsFill, StoresWhole, MayBeGone, IsInWant};
 ghost use Rattle.qc_core.specs.Strikes.{rested};
 ghost use Rattle.qc_core.specs.Overtaken.{WasOvertaken, IsOvertaken};
 ghost use Rattle.qc_core.specs.Ends.{MayGiveUpFill, MayComplete, MayCut, cut_to, EndsFill, EndsBy, IsDone, IsGone};
@@ -141,6 +141,7 @@ pub fn gone(held: &mut Held<'_, Server>, serial: u64, why: GoneWhy) -> Result<u6
     requires stands { MayRelease held.old }
     requires fills { ListsFill serial held.old }
     requires licensed { MayBeGone serial why held.old.value }
+    requires room { IsInWant (holder held.old).number serial why held.old.value }
     ensures stands { MayRelease held.new × SameHolder held.old held.new }
     ensures there { is_ok result ≡ is_some (entry_of serial (cache held.old.value.journal.events)) }
     ensures ok { IfOk result (λ place. (place ≡ length held.new.value.journal.events) × EndsBy (event.Gone serial why) held.old.value held.new.value) }

@@ -1,5 +1,5 @@
 -- What a seat that fills knows when it has taken the turn, and what it may release.
-use Rattle.std.proofs.Common.{◌≡◌, ℕ, ◌*◌, ◌≤◌, false, List, [], ◌++◌, length, take, sym, ap, subst, ◌∙◌, ⊎_elim}
+use Rattle.std.proofs.Common.{◌≡◌, ℕ, ◌*◌, ◌≤◌, false, List, [], ◌++◌, length, take, sym, ap, subst, ◌∙◌, ⊎_elim, arith}
 use Rattle.std.specs.Prelude.{Some, slice_index}
 use Rattle.qc_model.specs.declared.events.Event.{Event}
 use Rattle.qc_tiles.specs.declared.blocks.Block.{Block}
@@ -30,7 +30,7 @@ use Rattle.qc_core.specs.declared.grows.Short.TheVariants as short
 use Rattle.qc_core.specs.contracts.server.ServerKept.TheImpl.{ghosts}
 use Rattle.qc_core.specs.declared.parts.Parts.{Parts}
 use Rattle.qc_flow.specs.Fills.{IsWholeAnswer, size_of, limit_of}
-use Rattle.qc_flow.specs.Growths.{HoldFewer, Widens, WasShort, EndsShort, step_of, Wants, Onward, settled, Continues, FillsFor}
+use Rattle.qc_flow.specs.Growths.{HoldFewer, Widens, WasShort, IsFull, EndsShort, step_of, Wants, Onward, settled, Continues, FillsFor}
 use Rattle.qc_flow.specs.Seats.{GoesOn, IsAtRest, HasEnded}
 use Rattle.qc_flow.proofs.Licences.{started_in, seen_fits}
 use Rattle.qc_flow.proofs.Seats.{released_on, released_rests, released_fills, fill_spells, longer_front}
@@ -149,6 +149,12 @@ module _ (v : View Parts Event) (h k : Held Parts Event ghosts) (ranges : Ranged
         ap (λ u. u.content) is ∙ (r.content ∙ same_content),
         ap (λ u. u.blocks) is ∙ r.blocks,
       )
+
+-- no block was found, and the answer is longer than the blocks hold
+pub is_full : (n total : ℕ) (k : Held Parts Event ghosts) (e : Short) → FillsFor n total k → WasShort n k.value e × HoldFewer k.ranges.blocks total → IsFull (holder k).number n k.value e
+is_full n total k (short.Overtaken by) f was = tt
+is_full n total k (short.NoRoom need largest) f was =
+    record { tile = was.0.1; blocks = k.ranges.blocks; listed = f.listed; start = f.start; all = f.all; answered = f.answered; longer = omega (arith, was.1, f.long) }
 
 -- no block was found
 pub widens_short : (serial total : ℕ) (v w : View Parts Event) (k m : Parts) (bs : List Block) (e : Short) → HoldFewer v.blocks total → IsSomewhereSound k → listed_for v.number (tasks_of k) ≡ own v.number (task.Fill serial) bs → StartsWith bs v.blocks → WasShort serial k e × HoldFewer bs total

@@ -18,6 +18,7 @@ use Rattle.qc_turn.specs.Tasks.{listed_for, own}
 use Rattle.qc_turn.specs.Views.{of_seat}
 use Rattle.qc_turn.specs.Words.{StartsWith}
 use Rattle.qc_core.specs.Allocates.{LacksTile}
+use Rattle.qc_core.specs.Calls.{LacksRoom}
 use Rattle.qc_core.specs.Overtaken.{IsOvertaken}
 use Rattle.qc_core.specs.Whole.{IsSomewhereSound, tasks_of}
 use Rattle.qc_core.specs.contracts.server.ServerKept.TheImpl.{ghosts}
@@ -98,6 +99,11 @@ pub record FillsFor (serial total : ℕ) (h : Held Parts Event ghosts) : Type 0 
 abbrev pub WasShort : ℕ → Parts → Short → Type 0
 WasShort serial s (short.Overtaken by) = (entry_of serial (cache s.journal.events) ≡ None) × IsOvertaken s.journal.events serial by
 WasShort serial s (short.NoRoom need largest) = IsFilling s.journal.events serial × LacksTile (unit_words s.options) s (record { need = need; largest = largest })
+
+-- where no block was found, there is no room for what the entry's answer has behind the blocks
+abbrev pub IsFull : (seat serial : ℕ) → Parts → Short → Type 0
+IsFull seat serial s (short.Overtaken by) = Unit {0}
+IsFull seat serial s (short.NoRoom need largest) = LacksRoom seat serial need largest s
 
 -- what is answered then
 abbrev pub step_of : Short → FillStep

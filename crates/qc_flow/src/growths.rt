@@ -11,7 +11,7 @@ ghost use Rattle.qc_core.specs.Calls.{ListsFill};
 ghost use Rattle.qc_core.specs.Whole.{tasks_of};
 ghost use Rattle.qc_flow.specs.Seats.{GoesOn};
 ghost use Rattle.qc_flow.specs.Fills.{size_of};
-ghost use Rattle.qc_flow.specs.Growths.{HoldFewer, GrowFor, Wants, Widens, Continues, FillsFor, WasShort, EndsShort, step_of};
+ghost use Rattle.qc_flow.specs.Growths.{HoldFewer, GrowFor, Wants, Widens, Continues, FillsFor, WasShort, IsFull, EndsShort, step_of};
 
 use crate::fills::FillStep;
 use qc_core::{Server, Short, gone, grow};
@@ -97,6 +97,7 @@ fn end_short(held: &mut Held<'_, Server>, serial: u64, short: Short) -> FillStep
     requires stands { MayRelease held.old }
     requires fills { ListsFill serial held.old }
     requires short { WasShort serial held.old.value short }
+    requires full { IsFull (holder held.old).number serial held.old.value short }
     ensures stands { MayRelease held.new × Continues held.old held.new }
     ensures rests { listed_for (holder held.old).number (tasks_of held.new.value) ≡ [] }
     ensures ended { is_ended serial [] held.new.value.journal.events ≡ true }

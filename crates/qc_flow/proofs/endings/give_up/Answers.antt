@@ -1,11 +1,16 @@
 use Rattle.std.proofs.Common.{rules, ap}
 use Rattle.qc_model.specs.declared.events.Event.TheVariants as event
-use Rattle.qc_turn.specs.Seats.{view}
+use Rattle.qc_turn.specs.Seats.{view, holder}
 use Rattle.qc_flow.specs.Growths.{settled}
 use Rattle.qc_flow.proofs.Holdings.{quiet_gone}
 use Rattle.qc_flow.proofs.Takings.{took_fill}
 use Rattle.qc_flow.proofs.EndedSeats.{ended_seat}
 use Rattle.qc_flow.proofs.endings.give_up.Goals as goal
+
+pub gone-ended-requires-clause-room : goal.gone-ended-requires-clause-room
+gone-ended-requires-clause-room g c =
+    let h = c.take-held.result in
+    c.requires.other (holder h).number h.value
 
 pub returns-clause-goes_on : goal.returns-clause-goes_on
 returns-clause-goes_on g c =

@@ -3,7 +3,7 @@ use Rattle.std.specs.Prelude.{is_some}
 use Rattle.qc_model.specs.declared.events.Event.TheVariants as event
 use Rattle.qc_model.specs.declared.events.GoneWhy.TheVariants as gone
 use Rattle.qc_turn.specs.Seats.{words, holder}
-use Rattle.qc_flow.specs.Growths.{WasShort, EndsShort}
+use Rattle.qc_flow.specs.Growths.{WasShort, IsFull, EndsShort}
 use Rattle.qc_flow.proofs.Holdings.{no_room, ended_so, quiet_gone}
 use Rattle.qc_flow.proofs.Told.{by_event, by_removal, is_there, in_last}
 use Rattle.qc_flow.proofs.growths.end_short.Goals as goal
@@ -13,6 +13,11 @@ gone-ended-requires-in-NoRoom-clause-licensed c =
     let h = c.args.held.now in
     let w = subst (WasShort c.args.serial h.value) c.in-NoRoom.is c.requires.short in
     λ there. no_room (words h) h.value c.args.serial c.in-NoRoom.need c.in-NoRoom.largest c.requires.stands.sound w.1
+
+pub gone-ended-requires-in-NoRoom-clause-room : goal.gone-ended-requires-in-NoRoom-clause-room
+gone-ended-requires-in-NoRoom-clause-room c =
+    let h = c.args.held.now in
+    λ there. subst (IsFull (holder h).number c.args.serial h.value) c.in-NoRoom.is c.requires.full
 
 pub returns-in-Overtaken-clause-ended : goal.returns-in-Overtaken-clause-ended
 returns-in-Overtaken-clause-ended c =

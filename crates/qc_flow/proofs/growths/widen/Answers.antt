@@ -9,7 +9,7 @@ use Rattle.qc_turn.specs.declared.task.Task.TheVariants as task
 use Rattle.qc_core.specs.Whole.{tasks_of}
 use Rattle.qc_flow.specs.Growths.{HoldFewer, Widens, WasShort}
 use Rattle.qc_flow.proofs.Holdings.{continues_both, number_on, grown_front}
-use Rattle.qc_flow.proofs.Takings.{took_fill, fills_for, fill_content, seat_fills, seat_rests, widens_short}
+use Rattle.qc_flow.proofs.Takings.{took_fill, fills_for, fill_content, seat_fills, seat_rests, widens_short, is_full}
 use Rattle.qc_flow.proofs.Told.{has_ended}
 use Rattle.qc_flow.proofs.growths.widen.Goals as goal
 
@@ -24,6 +24,13 @@ grow_to-requires-clause-fills g c =
     let v = view c.args.seat.now in
     let h = c.take-held.result in
     fills_for v h c.args.seat.now.ranges c.args.serial c.args.total (took_fill v h c.args.serial t.held.0 t.taken t.holds c.requires.seated.1) t.taken c.requires.seated.1 c.requires.seated.0.ranges t.ranges c.requires.wants c.requires.room
+
+pub end_short-step-requires-in-Err-clause-full : goal.end_short-step-requires-in-Err-clause-full
+end_short-step-requires-in-Err-clause-full g c =
+    let n = c.args.serial in
+    let k = c.grow_to.new.held in
+    let e = c.grow_to.ensures in
+    is_full n c.args.total k c.in-Err.short e.fills (subst (λ r. IfErr r (λ x. WasShort n k.value x × HoldFewer k.ranges.blocks c.args.total)) c.in-Err.is e.err)
 
 pub returns-in-Err-clause-goes_on : goal.returns-in-Err-clause-goes_on
 returns-in-Err-clause-goes_on g c =
