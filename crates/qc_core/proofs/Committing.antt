@@ -122,7 +122,7 @@ commit_left words s v who ops seat idle sound ps is number free room some fit sm
     let same : staying (is_removed serials) (plain names s).entries ≡ staying (is_touched e) (plain names s).entries =
     removed_stored serials s.chains s.dir.entries ∙ (ap (map (stored s.chains)) (sym (left_entries serials s t left) ∙ r.out.entries) ∙ touched_stored who ops s.chains s.dir.entries) in
     let may : MayCommit s.journal.events ops = record { some = some; fit = subst (λ x. ops_fit ops x ≡ true) w.sound.journal.database fit; not_full = subst (λ x. is_within_rows (apply ops x) ≡ true) w.sound.journal.database within } in
-    let whole = commit_whole (at_rest hash) names serials words s t k who ops w same (a.decides, may) small (needs_push s.options s.journal.events e w.sound.journal.needs tt) a.none room in
+    let whole = commit_whole (at_rest hash) names serials words s t k who ops w same (a.decides, may, small) small (needs_push s.options s.journal.events e w.sound.journal.needs tt) a.none room in
     let others = turn_others serials (with_database d s) r.mid r.out.left in
     let made : r.mid.database ≡ d = ap (λ (x : Parts). x.database) others in
     let back : with_event e (with_database d r.mid) ≡ v = (λ i. with_event e (with_database (sym made i) r.mid)) ∙ sym r.server in

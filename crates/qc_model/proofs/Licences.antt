@@ -799,12 +799,12 @@ nothing_is_lawful = tt
 -- three commits that fit and a run, numbered 1 to 4
 ready_is_lawful : IsLawful (sized 1024 512 66) ready
 ready_is_lawful = (
-  (record { next = refl; not_filling = refl }, record { some = omega arith; fit = refl; not_full = refl }),
+  (record { next = refl; not_filling = refl }, record { some = omega arith; fit = refl; not_full = refl }, refl),
   (
-    (record { next = refl; not_filling = refl }, record { some = omega arith; fit = refl; not_full = refl }),
+    (record { next = refl; not_filling = refl }, record { some = omega arith; fit = refl; not_full = refl }, refl),
     (
       (record { next = refl; not_filling = refl }, tt),
-      ((record { next = refl; not_filling = refl }, record { some = omega arith; fit = refl; not_full = refl }), tt),
+      ((record { next = refl; not_filling = refl }, record { some = omega arith; fit = refl; not_full = refl }, refl), tt),
     ),
   ),
 )

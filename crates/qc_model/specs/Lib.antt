@@ -2,6 +2,7 @@ pub mod Journal
 pub mod Cache
 pub mod Session
 pub mod Choice
+pub mod Sizes
 pub mod Licence
 pub mod Sound
 pub mod Needs

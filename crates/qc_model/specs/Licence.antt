@@ -28,6 +28,7 @@ use Rattle.std.specs.Map.{lookup}
 use Rattle.qc_model.specs.Journal.{Journal, present, before, last_change, touches_table, decider, is_by, event_count, last_event, event_at}
 use Rattle.qc_model.specs.Cache.{Entry, cache, entry_of, is_entry}
 use Rattle.qc_sql.specs.Rules.{select_tables}
+use Rattle.qc_model.specs.Sizes.{is_small_operation}
 use Rattle.qc_model.specs.Session.{parts_of, answer, answer_packets}
 use Rattle.qc_model.specs.Choice.{has_key, start_count}
 use Rattle.qc_sql.specs.Grammar.{meaning, ParseFault}
@@ -282,7 +283,8 @@ pub record MayPrune (options : Options) (journal : Journal) (serial need largest
 -- an event may follow a journal
 abbrev pub IsLicensed : Options → Journal → Event → Type 0
 IsLicensed options journal (event.Run who h) = MayDecide journal who × MayRun options journal who h
-IsLicensed options journal (event.Commit who ops) = MayDecide journal who × MayCommit journal ops
+-- no name that is made is longer than a name may be
+IsLicensed options journal (event.Commit who ops) = MayDecide journal who × MayCommit journal ops × (list_all is_small_operation ops ≡ true)
 IsLicensed options journal (event.Reset who) = MayDecide journal who
 IsLicensed options journal (event.Flush who) = MayDecide journal who
 IsLicensed options journal (event.Done serial) = HasEntry journal serial (λ entry. (entry.complete ≡ false) × IsSomeAnd (answer entry.key (present journal)) (λ bytes. length bytes ≤ options.limit))

@@ -28,14 +28,7 @@ use Rattle.qc_sql.specs.declared.statements.Statement.TheVariants as statement
 use Rattle.qc_sql.specs.Trees.{fold_expr, fold_cond}
 use Rattle.qc_sql.specs.Database.{Name}
 use Rattle.qc_sql.specs.Tokens.{Lexeme, Word, Quoted, Words, Digits, Sign, Token}
-
--- a name of at most 64 bytes
-abbrev pub is_short : Name → Bool
-is_short name = nat_le (length name) 64
-
--- a text of at most 65,535 bytes, which is as long as a literal and a value may be
-abbrev pub is_bounded : List ℕ → Bool
-is_bounded text = nat_le (length text) 65535
+pub use Rattle.qc_model.specs.Sizes.{is_short, is_bounded, is_bounded_value}
 
 -- what may be missing passes where it is missing
 abbrev pub passes_if_there : {A : Type 0} → (A → Bool) → Option A → Bool
@@ -55,12 +48,6 @@ abbrev pub are_short_tokens : List Token → Bool
 are_short_tokens tokens = list_all (λ t. is_short_lexeme t.what) tokens
 
 -- ---- values and conditions
-
--- a text is bounded
-abbrev pub is_bounded_value : Value → Bool
-is_bounded_value value.Null = true
-is_bounded_value (value.Int n) = true
-is_bounded_value (value.Str t) = is_bounded t
 
 abbrev pub is_short_column : ColumnName → Bool
 is_short_column c = passes_if_there is_short c.source && is_short c.name

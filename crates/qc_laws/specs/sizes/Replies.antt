@@ -12,35 +12,15 @@ use Rattle.qc_sql.specs.declared.tables.RowOp.{RowOp}
 use Rattle.qc_sql.specs.declared.tables.RowOp.TheVariants as op
 use Rattle.qc_sql.specs.Database.{Database, Table}
 use Rattle.qc_sql.specs.Rows.{Rows, text_of}
-use Rattle.qc_laws.specs.sizes.Names.{is_short, is_bounded_value}
+pub use Rattle.qc_model.specs.Sizes.{is_bounded_kind, is_bounded_column, are_bounded_columns, is_bounded_row, is_bounded_operation}
 
 -- ---- the database
-
-abbrev pub is_bounded_kind : Kind → Bool
-is_bounded_kind kind.Int = true
-is_bounded_kind (kind.Str most) = nat_lt most (2 ^ 16)
-
-abbrev pub is_bounded_column : Column → Bool
-is_bounded_column c = is_short c.name && is_bounded_kind c.kind
-
--- There is a column at least, and their names are short.
-abbrev pub are_bounded_columns : List Column → Bool
-are_bounded_columns columns = nat_lt 0 (length columns) && list_all is_bounded_column columns
-
-abbrev pub is_bounded_row : List Value → Bool
-is_bounded_row row = list_all is_bounded_value row
 
 abbrev pub is_bounded_table : Table → Bool
 is_bounded_table t = are_bounded_columns t.columns && list_all (λ entry. is_bounded_row entry.1) t.rows
 
 abbrev pub is_bounded_database : Database → Bool
 is_bounded_database d = list_all (λ entry. list_all (λ named. is_bounded_table named.1) entry.1) d
-
--- what an operation stores is bounded
-abbrev pub is_bounded_operation : RowOp → Bool
-is_bounded_operation (op.Put t row) = is_bounded_row row
-is_bounded_operation (op.CreateTable t columns) = are_bounded_columns columns
-is_bounded_operation _ = true
 
 -- ---- what is given
 

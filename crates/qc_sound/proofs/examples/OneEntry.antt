@@ -50,7 +50,7 @@ server = record {
 
 lawful : IsLawful options journal
 unfolding options journal who t id key meaning lexed any_text whole any_statement other_statement one_word is_unsupported select cache_word items item call_at call_word is_aggregate_word is_plain_call is_uncached_call column dotted ends_value alias from_part from source table joined where_part condition member_at order_part limit_part lock_part at_end look literal bare_literal signed one_too_many head_of trimmed rows rows_over answer_packets packet encoded_integer encoded_string digits is_reserved opened
-lawful = ((record { next = refl; not_filling = refl }, record { some = omega arith; fit = refl; not_full = refl }), ((record { next = refl; not_filling = refl }, tt), ((record { next = refl; not_filling = refl }, record { some = omega arith; fit = refl; not_full = refl }), ((record { next = refl; not_filling = refl }, record { some = omega arith; fit = refl; not_full = refl }), ((record { next = refl; not_filling = refl }, record { next = refl; has_answer = refl; of_select = refl; no_other = refl; has_region = omega arith }), ((refl, omega arith), tt))))))
+lawful = ((record { next = refl; not_filling = refl }, record { some = omega arith; fit = refl; not_full = refl }, refl), ((record { next = refl; not_filling = refl }, tt), ((record { next = refl; not_filling = refl }, record { some = omega arith; fit = refl; not_full = refl }, refl), ((record { next = refl; not_filling = refl }, record { some = omega arith; fit = refl; not_full = refl }, refl), ((record { next = refl; not_filling = refl }, record { next = refl; has_answer = refl; of_select = refl; no_other = refl; has_region = omega arith }), ((refl, omega arith), tt))))))
 
 abbrev block : ℕ → Block
 block first = record { first = first; words = 64 }

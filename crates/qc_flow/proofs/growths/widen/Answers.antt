@@ -25,8 +25,8 @@ grow_to-requires-clause-fills g c =
     let h = c.take-held.result in
     fills_for v h c.args.seat.now.ranges c.args.serial c.args.total (took_fill v h c.args.serial t.held.0 t.taken t.holds c.requires.seated.1) t.taken c.requires.seated.1 c.requires.seated.0.ranges t.ranges c.requires.wants c.requires.room
 
-pub end_short-step-requires-in-Err-clause-full : goal.end_short-step-requires-in-Err-clause-full
-end_short-step-requires-in-Err-clause-full g c =
+pub end_short-step-requires-clause-full : goal.end_short-step-requires-clause-full
+end_short-step-requires-clause-full g c =
     let n = c.args.serial in
     let k = c.grow_to.new.held in
     let e = c.grow_to.ensures in
