@@ -12,7 +12,7 @@ use Rattle.qc_turn.specs.Rules.{ContentRule}
 use Rattle.qc_turn.specs.Seats.{Held, holder, words, taken, task_words, IsHeld, MayRelease}
 use Rattle.qc_turn.specs.Steps.{Taken}
 use Rattle.qc_turn.specs.Tasks.{listed_for, own, blocks_in, words_in, is_stream, IsListed, IsEnded, HasBlocks}
-use Rattle.qc_turn.specs.Views.{base_of, idle_of, with_holding, with_word_set, after_release}
+use Rattle.qc_turn.specs.Views.{base_of, idle_of, with_turn, with_word_set, after_release}
 use Rattle.qc_turn.specs.Words.{StartsWith}
 use Rattle.qc_turn.specs.declared.task.Task.{Task}
 use Rattle.qc_turn.specs.declared.task.Task.TheVariants as task
@@ -57,7 +57,7 @@ pub record TookFill (v : View Parts Event) (h : Held Parts Event ghosts) (serial
   pub unset : v.word_set ≡ false
   pub front : v.content ≡ take (length v.content) (bytes_of (spelled (words h) v.blocks))
 
-pub took_fill : (v : View Parts Event) (h : Held Parts Event ghosts) (serial : ℕ) → IsHeld h → Taken ghosts v h.value (words h) → holder h ≡ with_holding v (Holds h.value (words h)) → v.task ≡ task.Fill serial → TookFill v h serial
+pub took_fill : (v : View Parts Event) (h : Held Parts Event ghosts) (serial : ℕ) → IsHeld h → Taken ghosts v h.value (words h) → holder h ≡ with_turn v h.value (words h) → v.task ≡ task.Fill serial → TookFill v h serial
 took_fill v h serial held t holds fill =
     let base : taken h ≡ h.value = ap (λ u. base_of h.value u.holding) holds in
     let number : (holder h).number ≡ v.number = ap (λ u. u.number) holds in

@@ -10,7 +10,7 @@ use Rattle.qc_turn.specs.declared.seat.Seat.{Seat}
 use Rattle.qc_turn.specs.declared.view.View.{View}
 use Rattle.qc_turn.specs.declared.view.Holding.TheVariants.{Holds}
 use Rattle.qc_turn.specs.Seats.{Held, holder, view, words}
-use Rattle.qc_turn.specs.Views.{with_holding}
+use Rattle.qc_turn.specs.Views.{with_turn}
 use Rattle.qc_core.specs.contracts.server.ServerKept.TheImpl.{ghosts}
 use Rattle.qc_core.specs.declared.parts.Parts.{Parts}
 use Rattle.qc_steps.specs.Sound.{IsFitState, IsPast}
@@ -104,17 +104,17 @@ answer_goes_on session who h k m (Err e) same named ready err = none_decided ses
 -- ---- at the seat
 
 -- where the seat took the turn with what it knew
-pub seen_held : (s : Seat Parts Event ghosts) (h : Held Parts Event ghosts) → holder h ≡ with_holding (view s) (Holds h.value (words h)) → (holder h).seen ≡ (view s).seen
+pub seen_held : (s : Seat Parts Event ghosts) (h : Held Parts Event ghosts) → holder h ≡ with_turn (view s) h.value (words h) → (holder h).seen ≡ (view s).seen
 seen_held s h holds = ap (λ (w : View Parts Event). w.seen) holds
 
-pub fit_held : (s : Seat Parts Event ghosts) (h : Held Parts Event ghosts) (x : SnapshotState) → holder h ≡ with_holding (view s) (Holds h.value (words h)) → IsFitState (view s).seen x → IsFitState (holder h).seen x
+pub fit_held : (s : Seat Parts Event ghosts) (h : Held Parts Event ghosts) (x : SnapshotState) → holder h ≡ with_turn (view s) h.value (words h) → IsFitState (view s).seen x → IsFitState (holder h).seen x
 fit_held s h x holds fit = subst (λ (j : Journal). IsFitState j x) (sym (seen_held s h holds)) fit
 
-pub past_held : (s : Seat Parts Event ghosts) (h : Held Parts Event ghosts) (p : Option ℕ) → holder h ≡ with_holding (view s) (Holds h.value (words h)) → IsPast (view s).seen p → IsPast (holder h).seen p
+pub past_held : (s : Seat Parts Event ghosts) (h : Held Parts Event ghosts) (p : Option ℕ) → holder h ≡ with_turn (view s) h.value (words h) → IsPast (view s).seen p → IsPast (holder h).seen p
 past_held s h p holds past = subst (λ (j : Journal). IsPast j p) (sym (seen_held s h holds)) past
 
 -- and gave it back
-pub seat_decides : {X E : Type 0} (session : ℕ) (old : Seat Parts Event ghosts) (new : View Parts Event) (h m : Held Parts Event ghosts) (IsSo : X → Who → Journal → Event → Type 0) (r : Result X E) → holder h ≡ with_holding (view old) (Holds h.value (words h))
+pub seat_decides : {X E : Type 0} (session : ℕ) (old : Seat Parts Event ghosts) (new : View Parts Event) (h m : Held Parts Event ghosts) (IsSo : X → Who → Journal → Event → Type 0) (r : Result X E) → holder h ≡ with_turn (view old) h.value (words h)
     → HasRested (holder m) new m.value → IfOk r (λ x. Decides session (holder h).seen m.value.journal.events (IsSo x (next_of session (holder h).seen))) → IfOk r (λ x. Decides session (view old).seen new.seen (IsSo x (next_of session (view old).seen)))
 seat_decides session old new h m IsSo r holds rested d =
     let seen = seen_held old h holds in

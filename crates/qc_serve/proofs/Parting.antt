@@ -18,7 +18,7 @@ use Rattle.qc_turn.specs.Rules.{ContentRule}
 use Rattle.qc_turn.specs.Seats.{Held, IsHeld, MayRelease, SameHolder, StaysSeat, holder, taken, view, words}
 use Rattle.qc_turn.specs.Steps.{Taken}
 use Rattle.qc_turn.specs.Tasks.{IsListed, blocks_in, is_stream, listed_for, own, released_blocks, released_task, task_in}
-use Rattle.qc_turn.specs.Views.{after_release, base_of, content_of, idle_of, with_holding, with_word_set}
+use Rattle.qc_turn.specs.Views.{after_release, base_of, content_of, idle_of, with_turn, with_word_set}
 use Rattle.qc_turn.specs.Words.{StartsWith}
 use Rattle.qc_turn.proofs.Holders.{follows_refl}
 use Rattle.qc_core.specs.contracts.server.ServerKept.TheImpl.{ghosts}
@@ -67,7 +67,7 @@ unlisted n (task.Stream k) bs ts is h = absurd cc
 unlisted n (task.Fill k) bs ts is h = absurd cc
 
 pub stranger : (t : Turn Parts Event) (s : Seat Parts Event ghosts) (h : Held Parts Event ghosts) → IsApart t s → 0 < (view s).number → IsHeld h → Taken ghosts (view s) h.value (words h)
-    → holder h ≡ with_holding (view s) (Holds h.value (words h)) → IsStranger h
+    → holder h ≡ with_turn (view s) h.value (words h) → IsStranger h
 stranger t s h apart seated held taken_as holds =
     let v : View Parts Event = view s in
     let number : (holder h).number ≡ v.number = ap (λ (w : View Parts Event). w.number) holds in
@@ -162,7 +162,7 @@ has_let_go v x us seated rests = record {
 -- ---- the seat, when it has given the turn back
 
 -- who has connected keeps what is fixed, and its events
-pub entered_same : (old : Seat Parts Event ghosts) (new : View Parts Event) (h k : Held Parts Event ghosts) → 0 < (view old).number → Taken ghosts (view old) h.value (words h) → holder h ≡ with_holding (view old) (Holds h.value (words h))
+pub entered_same : (old : Seat Parts Event ghosts) (new : View Parts Event) (h k : Held Parts Event ghosts) → 0 < (view old).number → Taken ghosts (view old) h.value (words h) → holder h ≡ with_turn (view old) h.value (words h)
     → IsSameSeat h k → k.value.journal.events ≡ h.value.journal.events → HasLetGo (holder k) new k.value → (new.fixed ≡ (view old).fixed) × (new.events ≡ (view old).events) × (new.registry ≡ (view old).registry)
 entered_same old new h k seated taken_as holds same events rested =
     let number : (holder h).number ≡ (view old).number = ap (λ (w : View Parts Event). w.number) holds in
@@ -173,14 +173,14 @@ entered_same old new h k seated taken_as holds same events rested =
     )
 
 -- who has connected or left keeps what is fixed, and the seats that it has split off
-pub same_standing : (old new : View Parts Event) (h k : Held Parts Event ghosts) → holder h ≡ with_holding old (Holds h.value (words h)) → IsSameSeat h k → HasLetGo (holder k) new k.value → (new.fixed ≡ old.fixed) × (new.registry ≡ old.registry)
+pub same_standing : (old new : View Parts Event) (h k : Held Parts Event ghosts) → holder h ≡ with_turn old h.value (words h) → IsSameSeat h k → HasLetGo (holder k) new k.value → (new.fixed ≡ old.fixed) × (new.registry ≡ old.registry)
 same_standing old new h k holds same rested = (
   rested.fixed ∙ (same.fixed ∙ ap (λ (w : View Parts Event). w.fixed) holds),
   rested.registry ∙ (same.registry ∙ ap (λ (w : View Parts Event). w.registry) holds),
 )
 
 -- who has left has seen what others did, and no event of its own
-pub left_seen : (session : ℕ) (old new : View Parts Event) (h k : Held Parts Event ghosts) → holder h ≡ with_holding old (Holds h.value (words h)) → IsIdle session h → k.value.journal.events ≡ h.value.journal.events → HasLetGo (holder k) new k.value → GoesOn session old.seen new.seen
+pub left_seen : (session : ℕ) (old new : View Parts Event) (h k : Held Parts Event ghosts) → holder h ≡ with_turn old h.value (words h) → IsIdle session h → k.value.journal.events ≡ h.value.journal.events → HasLetGo (holder k) new k.value → GoesOn session old.seen new.seen
 left_seen session old new h k holds idle events rested =
     let seen : (holder h).seen ≡ old.seen = ap (λ (w : View Parts Event). w.seen) holds in
     subst (λ (p : Journal × Journal). GoesOn session p.0 p.1) (λ i. (seen i, sym (rested.seen ∙ events) i)) idle.goes_on

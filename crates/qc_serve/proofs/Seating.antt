@@ -22,7 +22,7 @@ use Rattle.qc_turn.specs.Releases.{Follows}
 use Rattle.qc_turn.specs.Seats.{Held, IsHeld, IsSeatOf, MayRelease, SameHolder, holder, taken, view, with_value, words}
 use Rattle.qc_turn.specs.Steps.{Taken}
 use Rattle.qc_turn.specs.Tasks.{IsListed, is_stream, listed_for, released_task, task_in}
-use Rattle.qc_turn.specs.Views.{after_release, base_of, idle_of, of_seat, with_holding, with_word_set}
+use Rattle.qc_turn.specs.Views.{after_release, base_of, idle_of, of_seat, with_turn, with_word_set}
 use Rattle.qc_turn.proofs.Holders.{follows_refl}
 use Rattle.qc_core.specs.contracts.server.ServerKept.TheImpl.{ghosts}
 use Rattle.qc_core.specs.declared.parts.Parts.{Parts}
@@ -95,7 +95,7 @@ same_again h k m s t = record {
 -- ---- as the turn was taken
 
 pub idle : (t : Turn Parts Event) (session : ℕ) (s : Seat Parts Event ghosts) (h : Held Parts Event ghosts) → SeatRests t session s → IsHeld h → Taken ghosts (view s) h.value (words h)
-    → holder h ≡ with_holding (view s) (Holds h.value (words h)) → IsIdle session h
+    → holder h ≡ with_turn (view s) h.value (words h) → IsIdle session h
 idle t session s h rests held taken_as holds =
     let v : View Parts Event = view s in
     let number : (holder h).number ≡ v.number = ap (λ (w : View Parts Event). w.number) holds in
@@ -190,7 +190,7 @@ has_rested v x us seated free connected = record {
 }
 
 -- it rests again
-pub rests_again : (t : Turn Parts Event) (session : ℕ) (old new : Seat Parts Event ghosts) (h k : Held Parts Event ghosts) → SeatRests t session old → holder h ≡ with_holding (view old) (Holds h.value (words h)) → h.turn.now ≡ t → h.ranges ≡ old.ranges → IsSameSeat h k
+pub rests_again : (t : Turn Parts Event) (session : ℕ) (old new : Seat Parts Event ghosts) (h k : Held Parts Event ghosts) → SeatRests t session old → holder h ≡ with_turn (view old) h.value (words h) → h.turn.now ≡ t → h.ranges ≡ old.ranges → IsSameSeat h k
     → IsSeatOf k.turn.now new → HasRested (holder k) (view new) k.value → new.ranges ≡ k.ranges → RestsAgain t session old new
 rests_again t session old new h k rests holds turn held same seated rested ranges =
     let number : (holder k).number ≡ (view old).number = same.number ∙ ap (λ (w : View Parts Event). w.number) holds in
@@ -210,7 +210,7 @@ rests_again t session old new h k rests holds turn held same seated rested range
     }
 
 -- what was decided of the session's event
-pub decides : (session : ℕ) (old new : Seat Parts Event ghosts) (h k m : Held Parts Event ghosts) (who : Who) (e : Event) (IsSo : Journal → Event → Type 0) → holder h ≡ with_holding (view old) (Holds h.value (words h)) → IsSameSeat h k → who.session ≡ session → IsReady who k → Pushes who e k m
+pub decides : (session : ℕ) (old new : Seat Parts Event ghosts) (h k m : Held Parts Event ghosts) (who : Who) (e : Event) (IsSo : Journal → Event → Type 0) → holder h ≡ with_turn (view old) h.value (words h) → IsSameSeat h k → who.session ≡ session → IsReady who k → Pushes who e k m
     → HasRested (holder m) (view new) m.value → IsSo k.value.journal.events e → Decides session (view old).seen (view new).seen IsSo
 decides session old new h k m who e IsSo holds same named ready pushed rested is_so =
     let seen : (holder k).seen ≡ (view old).seen = same.seen ∙ ap (λ (w : View Parts Event). w.seen) holds in
@@ -223,7 +223,7 @@ decides session old new h k m who e IsSo holds same named ready pushed rested is
     }
 
 -- where nothing was pushed
-pub nothing_pushed : (session : ℕ) (old new : Seat Parts Event ghosts) (h k : Held Parts Event ghosts) → holder h ≡ with_holding (view old) (Holds h.value (words h)) → IsSameSeat h k → IsIdle session h → k.value.journal.events ≡ h.value.journal.events
+pub nothing_pushed : (session : ℕ) (old new : Seat Parts Event ghosts) (h k : Held Parts Event ghosts) → holder h ≡ with_turn (view old) h.value (words h) → IsSameSeat h k → IsIdle session h → k.value.journal.events ≡ h.value.journal.events
     → HasRested (holder k) (view new) k.value → GoesOn session (view old).seen (view new).seen
 nothing_pushed session old new h k holds same i events rested =
     let seen : (holder h).seen ≡ (view old).seen = ap (λ (w : View Parts Event). w.seen) holds in

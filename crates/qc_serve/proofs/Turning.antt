@@ -15,7 +15,7 @@ use Rattle.qc_turn.specs.Rules.{ContentRule}
 use Rattle.qc_turn.specs.Seats.{Held, IsHeld, IsSeatOf, holder, view, words}
 use Rattle.qc_turn.specs.Steps.{Taken}
 use Rattle.qc_turn.specs.Tasks.{blocks_in, is_stream, own, released_blocks, released_task, task_in}
-use Rattle.qc_turn.specs.Views.{after_release, bytes_on, content_of, with_holding, with_word_set}
+use Rattle.qc_turn.specs.Views.{after_release, bytes_on, content_of, with_turn, with_word_set}
 use Rattle.qc_tiles.specs.declared.blocks.Block.{Block}
 use Rattle.qc_sound.specs.Sound.{FitsFill}
 use Rattle.qc_sound.proofs.Laws.{fits_by_start}
@@ -28,7 +28,7 @@ use Rattle.qc_serve.proofs.Seating.{idle, seat_events}
 -- ---- the turn is taken
 
 pub asking : (t : Turn Parts Event) (session : ℕ) (s : Seat Parts Event ghosts) (h : Held Parts Event ghosts) → MayAskAt t session s → IsHeld h → Taken ghosts (view s) h.value (words h) → h.ranges ≡ s.ranges
-    → holder h ≡ with_holding (view s) (Holds h.value (words h)) → IsAsking session h
+    → holder h ≡ with_turn (view s) h.value (words h) → IsAsking session h
 asking t session s h m held taken ranges holds =
     let rests = m.rests in
     let number : (holder h).number ≡ (view s).number = ap (λ (w : View Parts Event). w.number) holds in
@@ -95,7 +95,7 @@ pub record Released (t : Turn Parts Event) (session : ℕ) (x : Task) (old new :
   pub view : view new ≡ after_release ghosts (with_word_set (holder k) (is_stream x)) k.value (words k)
   pub ranges : new.ranges ≡ k.ranges
 
-pub released : (t : Turn Parts Event) (session : ℕ) (x y : Task) (old new : Seat Parts Event ghosts) (h k : Held Parts Event ghosts) → MayAskAt t session old → IsHeld h → Taken ghosts (view old) h.value (words h) → h.ranges ≡ old.ranges → holder h ≡ with_holding (view old) (Holds h.value (words h)) → h.turn.now ≡ t
+pub released : (t : Turn Parts Event) (session : ℕ) (x y : Task) (old new : Seat Parts Event ghosts) (h k : Held Parts Event ghosts) → MayAskAt t session old → IsHeld h → Taken ghosts (view old) h.value (words h) → h.ranges ≡ old.ranges → holder h ≡ with_turn (view old) h.value (words h) → h.turn.now ≡ t
     → TurnsHeld x h k → y ≡ x → IsSeatOf k.turn.now new → view new ≡ after_release ghosts (with_word_set (holder k) (is_stream y)) k.value (words k) → new.ranges ≡ k.ranges → Released t session x old new h k
 released t session x y old new h k may is_held taken ranges holds turn held task seated is given =
     let a = asking t session old h may is_held taken ranges holds in

@@ -23,9 +23,9 @@ use Rattle.qc_turn.specs.Blocks.{IsDistinct, places, spelled, Misses}
 use Rattle.qc_turn.specs.Bytes.{bytes_of, filled}
 use Rattle.qc_turn.specs.Releases.{HeldFreeOfOthers, IsFresh, ClosesWith, SpellsReleased, ListsReleased, Follows}
 use Rattle.qc_turn.specs.Rules.{HoldingRule, ContentRule, TaskRule, SeatRule, TurnRule}
-use Rattle.qc_turn.specs.Steps.{Taken, TookTurn, LoadedWord, takes_turn, releases_turn, loads_word, loads_streamed, stores_filled, sets_task_word, clears_task_word, reads_task_word, stores_word}
+use Rattle.qc_turn.specs.Steps.{Taken, TookTurn, LoadedWord, GetsTurn, takes_turn, tries_turn, releases_turn, loads_word, loads_streamed, stores_filled, sets_task_word, clears_task_word, reads_task_word, stores_word}
 use Rattle.qc_turn.specs.Tasks.{is_stream, IsListed, IsEnded, FoundIdle, released_task, released_blocks, OutsideOtherFills, Agrees, fill_places, places_of, listed_for, own, task_in, blocks_in, HasBlocks}
-use Rattle.qc_turn.specs.Views.{base_of, words_of, HoldsTurn, written, Apart, AllMet, first_seat, with_holding, spent, after_split, next_seat, after_meet, met_seat, of_seat, content_of, after_release, with_content, with_word_set, with_found, found_word, idle_of, after_stream, IsSoundJournal}
+use Rattle.qc_turn.specs.Views.{base_of, words_of, HoldsTurn, written, Apart, AllMet, first_seat, with_holding, with_turn, with_refusal, spent, after_split, next_seat, after_meet, met_seat, of_seat, content_of, after_release, with_content, with_word_set, with_found, found_word, idle_of, after_stream, IsSoundJournal}
 use Rattle.qc_turn.specs.Words.{task_words_of, bit, StartsWith, line_words, extra_words, region_word, line_of, task_word, region, last_seat}
 use Rattle.qc_turn.proofs.Tasks.{starts_refl, starts_trans, longer_of, longer_one, region_at, region_set, region_set0, length-region, misses_front, spelled_missed, missed, is_in, spelled_agree, filled_front, region_high, zero_set, zero_stays, task_words_low, task_words_set, task_words_at, listed_live, keeps_fills, keeps_none, keeps_listed, ended_rests}
 
@@ -186,9 +186,9 @@ module _ {V E : Type 0} (K : Ghosts V E) (size : ℕ) where
       (subst (λ (vs : List (View V E)). Rule record { words = s.words; homes = s.homes; views = vs }) (sym (set_again s.views id v at)) r)
 
   -- the seat's view, where it holding_now nothing: the same with another holding
-  with_new_holding : (word word' : ℕ) (ws ws' ms : List ℕ) (base : V) (registry : List (Option (MetSeat E))) (v : View V E) (g : Holding V) → SeatRule K size word ws ms base registry v → HoldingRule K word' ws' base v.number g → TaskRule K base ws' g v.task v.blocks v.content
-      → (g ≡ Free → v.word_set ≡ is_stream v.task) → (g ≡ Free → v.found ≡ []) → SeatRule K size word' ws' ms base registry (with_holding v g)
-  with_new_holding word word' ws ws' ms base registry v g f holding_now spells as_set none_found = record {
+  with_new_holding : (word word' : ℕ) (ws ws' ms : List ℕ) (base : V) (registry : List (Option (MetSeat E))) (v : View V E) (g : Holding V) (turns : List V) (refusals : List ℕ) → SeatRule K size word ws ms base registry v → HoldingRule K word' ws' base v.number g → TaskRule K base ws' g v.task v.blocks v.content
+      → (g ≡ Free → v.word_set ≡ is_stream v.task) → (g ≡ Free → v.found ≡ []) → SeatRule K size word' ws' ms base registry (record v { holding = g; turns = turns; refusals = refusals })
+  with_new_holding word word' ws ws' ms base registry v g turns refusals f holding_now spells as_set none_found = record {
     sized = f.sized;
     numbered = f.numbered;
     first = f.first;
@@ -242,13 +242,13 @@ module _ {V E : Type 0} (K : Ghosts V E) (size : ℕ) where
 
   -- the rule after a step of one seat, the value staying as it was taken
   won : (slots id : ℕ) (me : M) (n : ℕ) → n ≡ me.0.number → 0 < n → me.0.holding ≡ Free → (s : St) → Rule s → get_elem? s.views id ≡ some me.0 → word s ≡ 0
-      → (w : View V E) × (a : Act (Option V)) × Valid s.homes me.1 a × Rule (stepped s 0 n id me.1 w a) × takes_turn K (step slots 0 0 n none) me (word s) (w, carried_after me.1 a)
+      → (w : View V E) × (a : Act (Option V)) × Valid s.homes me.1 a × Rule (stepped s 0 n id me.1 w a) × GetsTurn K me (w, carried_after me.1 a)
   won slots id me n is live idle s r at free =
       let v : View V E = me.0 in
       let base : V = r.base in
       let ws : List ℕ = region size s.words in
       let in_slot = r.in_slot free in
-      let w : View V E = with_holding v (Holds base ws) in
+      let w : View V E = with_turn v base ws in
       let mine : SeatRule K size (word s) ws (task_words s) base r.registry v = r.each id v at (λ z. absurd (omega arith)) in
       let width = r.width in
       let now : get_or (set s.words 0 n) 0 0 ≡ n = get_or-set_same s.words 0 n 0 (omega arith) in
@@ -259,10 +259,10 @@ module _ {V E : Type 0} (K : Ghosts V E) (size : ℕ) where
       let also : task_words_of size (set s.words 0 n) ≡ ms = task_words_low size 0 n s.words (omega arith) in
       let Q : ℕ → List ℕ → List ℕ → View V E → Type 0 = λ x us ns u. SeatRule K size x us ns base r.registry u in
       let all : (j : ℕ) (u : View V E) → get_elem? (set s.views id w) j ≡ some u → u.number ≢ 0 → Q n ws ms u =
-      each_set (Q n ws ms) s.views id w (λ _. with_new_holding (word s) n ws ws ms base r.registry v (Holds base ws) mine (is, refl, agrees_refl v.number base ws) (ws, in_slot.1, spells) (λ e. absurd (holds_free base ws e)) (λ e. absurd (holds_free base ws e)))
+      each_set (Q n ws ms) s.views id w (λ _. with_new_holding (word s) n ws ws ms base r.registry v (Holds base ws) (base ∷ v.turns) v.refusals mine (is, refl, agrees_refl v.number base ws) (ws, in_slot.1, spells) (λ e. absurd (holds_free base ws e)) (λ e. absurd (holds_free base ws e)))
       (λ j u other e alive. let f = r.each j u e alive in
       let apart : u.number ≢ n = λ same. other (r.apart j id u v e at (same ∙ is) alive) in
-      with_new_holding (word s) n ws ws ms base r.registry u u.holding f (holding_taken (word s) n u.number ws base u.holding free alive apart f.holding) f.content f.word_set f.none_found) in (
+      with_new_holding (word s) n ws ws ms base r.registry u u.holding u.turns u.refusals f (holding_taken (word s) n u.number ws base u.holding free alive apart f.holding) f.content f.word_set f.none_found) in (
         w,
         takes 0 (Some base),
         in_slot.0,
@@ -280,7 +280,7 @@ module _ {V E : Type 0} (K : Ghosts V E) (size : ℕ) where
           unmade = λ k more. let m = r.unmade k more in record { events = m.events; connected = m.connected; listed = m.listed; task_word = ap (λ l. get_or l (line_of k) 0) also ∙ m.task_word };
           zero_number = r.zero_number;
         },
-        ((λ _. (base, ws, record { width = length-region size s.words (omega arith) ∙ sym mine.sized; sound = in_slot.1; seen = mine.seen; fixed = mine.fixed; events = mine.events; connected = mine.connected; listed = mine.listed; word_set = mine.word_set idle; none_found = mine.none_found idle; was_sound = mine.was_sound; content = spells; zero_number = r.zero_number }, refl, refl)), (λ no. absurd (no free))),
+        (base, ws, record { width = length-region size s.words (omega arith) ∙ sym mine.sized; sound = in_slot.1; seen = mine.seen; fixed = mine.fixed; events = mine.events; connected = mine.connected; listed = mine.listed; word_set = mine.word_set idle; none_found = mine.none_found idle; was_sound = mine.was_sound; content = spells; zero_number = r.zero_number }, refl, refl),
       )
 
   -- the turn word is 0 or the number of a seat that was made
@@ -289,10 +289,30 @@ module _ {V E : Type 0} (K : Ghosts V E) (size : ℕ) where
       (λ z. omega arith)
       (λ up. let out_of_slot = r.out_of_slot up in let h = out_of_slot.1 in let f = r.each h.0 h.1 h.2 (λ z. up (sym h.3 ∙ z)) in let n = f.numbered in let e = h.3 in omega arith)
 
+  -- the rule after a step that changes no word and no value: one seat knows something else
+  view_on : (s : St) (r : Rule s) (i id : ℕ) (cs : List (ℕ × Option V)) (v w : View V E) → get_elem? s.views id ≡ some v → w.number ≡ v.number → SeatRule K size (word s) (region size s.words) (task_words s) r.base r.registry w
+      → Rule (stepped s i (get_or s.words i 0) id cs w keeps)
+  view_on s r i id cs v w at same fits =
+      let Q : View V E → Type 0 = λ z. SeatRule K size (word s) (region size s.words) (task_words s) r.base r.registry z in
+      subst (λ (l : List ℕ). Rule record { words = l; homes = s.homes; views = set s.views id w }) (sym (set-get_or s.words i 0)) record {
+        base = r.base;
+        registry = r.registry;
+        few = r.few;
+        width = r.width;
+        in_slot = r.in_slot;
+        out_of_slot = λ up. away_set s r id v w at same up (word s) refl;
+        was_sound = r.was_sound;
+        apart = apart_set s.views id v w at (λ _. same) r.apart;
+        each = each_set Q s.views id w (λ _. fits) (λ j z other e alive. r.each j z e alive);
+        met = r.met;
+        unmade = r.unmade;
+        zero_number = r.zero_number;
+      }
+
   pub asks : (slots id : ℕ) (me : M) (n : ℕ) → n ≡ me.0.number → 0 < n → me.0.holding ≡ Free → Allows Rule slots id me 0 (λ x. either (eqb x 0) n x) (takes_turn K (step slots 0 0 n none) me)
   asks slots id me n is live free s r _ at _ = dite (ℕ_discrete (word s) 0)
       (λ hit. let t = won slots id me n is live free s r at hit in
-      (t.0, t.1, t.2, subst (λ b. Rule (stepped s 0 (either b n (word s)) id me.1 t.0 t.1)) (sym (eq-eqb (word s) 0 hit)) t.3, t.4))
+      (t.0, t.1, t.2, subst (λ b. Rule (stepped s 0 (either b n (word s)) id me.1 t.0 t.1)) (sym (eq-eqb (word s) 0 hit)) t.3, ((λ _. t.4), (λ some. absurd (some hit)))))
       (λ miss.
       let mine = r.each id me.0 at (λ z. absurd (omega arith)) in
       let other : word s ≢ me.0.number = subst (λ (g : Holding V). HoldingRule K (word s) (region size s.words) r.base me.0.number g) free mine.holding in
@@ -302,6 +322,25 @@ module _ {V E : Type 0} (K : Ghosts V E) (size : ℕ) where
         keeps,
         tt,
         subst (λ b. Rule (stepped s 0 (either b n (word s)) id me.1 me.0 keeps)) (sym (ne_eqb (word s) 0 miss)) (unmoved s r 0 id me.1 me.0 at),
+        ((λ hit. absurd (miss hit)), (λ _. (refl, other, omega arith))),
+      ))
+
+  pub tries : (slots id : ℕ) (me : M) (n : ℕ) → n ≡ me.0.number → 0 < n → me.0.holding ≡ Free → Allows Rule slots id me 0 (λ x. either (eqb x 0) n x) (tries_turn K (step slots 0 0 n none) me)
+  tries slots id me n is live free s r _ at _ = dite (ℕ_discrete (word s) 0)
+      (λ hit. let t = won slots id me n is live free s r at hit in
+      (t.0, t.1, t.2, subst (λ b. Rule (stepped s 0 (either b n (word s)) id me.1 t.0 t.1)) (sym (eq-eqb (word s) 0 hit)) t.3, ((λ _. t.4), (λ some. absurd (some hit)))))
+      (λ miss.
+      let v : View V E = me.0 in
+      let w : View V E = with_refusal v (word s) in
+      let mine : SeatRule K size (word s) (region size s.words) (task_words s) r.base r.registry v = r.each id v at (λ z. absurd (omega arith)) in
+      let other : word s ≢ v.number = subst (λ (g : Holding V). HoldingRule K (word s) (region size s.words) r.base v.number g) free mine.holding in
+      let keeps_on = with_new_holding (word s) (word s) (region size s.words) (region size s.words) (task_words s) r.base r.registry v v.holding v.turns (word s ∷ v.refusals) mine mine.holding mine.content mine.word_set mine.none_found in
+      let small = small_word s r in
+      let few = r.few in (
+        w,
+        keeps,
+        tt,
+        subst (λ b. Rule (stepped s 0 (either b n (word s)) id me.1 w keeps)) (sym (ne_eqb (word s) 0 miss)) (view_on s r 0 id me.1 v w at refl keeps_on),
         ((λ hit. absurd (miss hit)), (λ _. (refl, other, omega arith))),
       ))
 
@@ -543,10 +582,10 @@ module _ {V E : Type 0} (K : Ghosts V E) (size : ℕ) where
       let held_not : written v.holding (region_word k - line_words) x ≡ Free → ⊥ = λ e. holds_free b (set us k x) (sym held ∙ e) in
       let Q : ℕ → List ℕ → List ℕ → View V E → Type 0 = λ y l ns u. SeatRule K size y l ns base r.registry u in
       let all : (j : ℕ) (u : View V E) → get_elem? (set s.views id w) j ≡ some u → u.number ≢ 0 → Q (word s) (set ws k x) ms u =
-      each_set (Q (word s) (set ws k x) ms) s.views id w (λ _. with_new_holding (word s) (word s) ws (set ws k x) ms base r.registry v (written v.holding (region_word k - line_words) x) mine holding_now spells (λ e. absurd (held_not e)) (λ e. absurd (held_not e)))
+      each_set (Q (word s) (set ws k x) ms) s.views id w (λ _. with_new_holding (word s) (word s) ws (set ws k x) ms base r.registry v (written v.holding (region_word k - line_words) x) v.turns v.refusals mine holding_now spells (λ e. absurd (held_not e)) (λ e. absurd (held_not e)))
       (λ j u other e alive. let f = r.each j u e alive in
       let apart : u.number ≢ v.number = λ same. other (r.apart j id u v e at same alive) in
-      with_new_holding (word s) (word s) ws (set ws k x) ms base r.registry u u.holding f
+      with_new_holding (word s) (word s) ws (set ws k x) ms base r.registry u u.holding u.turns u.refusals f
       (holding_else (word s) (word s) u.number ws (set ws k x) base base u.holding (λ e. apart (e ∙ is)) (λ e. apart (sym e ∙ is)) f.holding)
       (spells_beside base ws k x u.number (idle_of v.found) u.holding u.task u.blocks u.content (listed_for u.number (K.tasks base)) f.listed (λ h. sym (f.word_set (idle_else (word s) u.number ws base u.holding (λ e. apart (e ∙ is)) f.holding)) ∙ bit_zero u.word_set (sym f.task_word ∙ (mine.idle u.number apart h).1)) (clear' u.number apart) f.content) f.word_set f.none_found) in
       let some_word : word s ≢ 0 = λ z. absurd (omega arith) in
@@ -890,7 +929,7 @@ module _ {V E : Type 0} (K : Ghosts V E) (size : ℕ) where
       )
 
   pub won_from : (p p' q : Seat (Option V) (View V E)) (x : V) → p.me.0 ≡ p'.me.0 → p.table_id ≡ p'.table_id → TookTurn K p q x → TookTurn K p' q x
-  won_from p p' q x e e' w = record { words = w.words; taken = subst (λ (v : View V E). Taken K v x w.words) e w.taken; view = w.view ∙ ap (λ (v : View V E). with_holding v (Holds x w.words)) e; out = w.out; table = w.table ∙ e' }
+  won_from p p' q x e e' w = record { words = w.words; taken = subst (λ (v : View V E). Taken K v x w.words) e w.taken; view = w.view ∙ ap (λ (v : View V E). with_turn v x w.words) e; out = w.out; table = w.table ∙ e' }
 
   holding_filled : (word : ℕ) (ws : List ℕ) (k x : ℕ) (base : V) (m : ℕ) (g : Holding V) → ((j : ℕ) → OutsideOtherFills m (K.tasks base) j → j ≢ k) → HoldingRule K word ws base m g → HoldingRule K word (set ws k x) base m g
   holding_filled word ws k x base m Free apart h = h
@@ -950,7 +989,7 @@ module _ {V E : Type 0} (K : Ghosts V E) (size : ℕ) where
       (λ j z other e alive. let f = r.each j z e alive in
       let apart : z.number ≢ v.number = λ same. other (r.apart j id z v e at same alive) in
       let apart' : v.number ≢ z.number = λ same. apart (sym same) in
-      with_new_holding (word s) (word s) ws ws' ms base r.registry z z.holding f
+      with_new_holding (word s) (word s) ws ws' ms base r.registry z z.holding z.turns z.refusals f
       (holding_filled (word s) ws k x base z.number z.holding (λ j out. off j (out v.number apart')) f.holding)
       (spells_on base ws k x z.number z.holding z.task z.blocks z.content (listed_for z.number (K.tasks base)) f.listed (K.fills_apart r.was_sound.0 base v.number z.number k r.was_sound.2 apart' hit) f.content) f.word_set f.none_found) in (
         w,
@@ -1144,20 +1183,7 @@ module _ {V E : Type 0} (K : Ghosts V E) (size : ℕ) where
         holding = mine.holding;
         content = mine.content;
       } in
-      subst (λ (l : List ℕ). Rule record { words = l; homes = s.homes; views = set s.views id w }) (sym (set-get_or s.words i 0)) record {
-        base = r.base;
-        registry = r.registry;
-        few = r.few;
-        width = r.width;
-        in_slot = r.in_slot;
-        out_of_slot = λ up. away_set s r id v w at refl up (word s) refl;
-        was_sound = r.was_sound;
-        apart = apart_set s.views id v w at (λ _. refl) r.apart;
-        each = each_set Q s.views id w (λ _. own_fits) (λ j z other e alive. r.each j z e alive);
-        met = r.met;
-        unmade = r.unmade;
-        zero_number = r.zero_number;
-      }
+      view_on s r i id cs v w at refl own_fits
 
   -- the holder reads a task word
   pub reads_word_step : (slots id : ℕ) (me : M) (b : V) (us : List ℕ) (m : ℕ) → 0 < me.0.number → 0 < m → me.0.holding ≡ Holds b us → Allows Rule slots id me (task_word size m) (λ x. x) (reads_task_word K (step slots (task_word size m) 0 0 none) me)

@@ -10,7 +10,7 @@ use Rattle.qc_turn.specs.Blocks.{places}
 use Rattle.qc_turn.specs.Bytes.{filled}
 use Rattle.qc_turn.specs.Rules.{ContentRule}
 use Rattle.qc_turn.specs.Tasks.{listed_for, is_stream, IsListed, OutsideOtherFills}
-use Rattle.qc_turn.specs.Views.{of_seat, IsSoundJournal, words_of, written, with_holding, with_content, with_word_set, with_found, found_word, after_stream, after_release}
+use Rattle.qc_turn.specs.Views.{of_seat, IsSoundJournal, words_of, written, with_holding, with_turn, with_refusal, with_content, with_word_set, with_found, found_word, after_stream, after_release}
 use Rattle.qc_turn.specs.Words.{StartsWith, line_words, task_word, last_seat}
 
 module _ {V E : Type 0} (K : Ghosts V E) where
@@ -32,11 +32,17 @@ module _ {V E : Type 0} (K : Ghosts V E) where
     pub content : ContentRule K value words v.task v.blocks v.content
     pub zero_number : (K.connected value 0 ≡ false) × (listed_for 0 (K.tasks value) ≡ [])
 
-  -- a compare-exchange of the turn word: 0 was found and the slot is the seat's, or the number of another seat was
+  -- 0 was found in the turn word, and the slot with the value is the seat's
+  abbrev pub GetsTurn : Known → Known → Type 0
+  GetsTurn m m' = (value : V) × (words : List ℕ) × Taken m.0 value words × (m'.0 ≡ with_turn m.0 value words) × (m'.1 ≡ (0, Some value) ∷ m.1)
+
+  -- a compare-exchange of the turn word: the seat gets the turn, or the number of another seat was found
   abbrev pub takes_turn : Step (Option V) → Known → ℕ → Known → Type 0
-  takes_turn st m r m' =
-      (r ≡ 0 → (value : V) × (words : List ℕ) × Taken m.0 value words × (m'.0 ≡ with_holding m.0 (Holds value words)) × (m'.1 ≡ (0, Some value) ∷ m.1))
-      × (r ≢ 0 → (m' ≡ m) × (r ≢ m.0.number) × (r ≤ last_seat))
+  takes_turn st m r m' = (r ≡ 0 → GetsTurn m m') × (r ≢ 0 → (m' ≡ m) × (r ≢ m.0.number) × (r ≤ last_seat))
+
+  -- the same by a seat that asks once, and keeps the number
+  abbrev pub tries_turn : Step (Option V) → Known → ℕ → Known → Type 0
+  tries_turn st m r m' = (r ≡ 0 → GetsTurn m m') × (r ≢ 0 → (m' ≡ (with_refusal m.0 r, m.1)) × (r ≢ m.0.number) × (r ≤ last_seat))
 
   -- a store of 0 into the turn word, which gives the slot with its value back
   abbrev pub releases_turn : Step (Option V) → Known → ℕ → Known → Type 0
@@ -74,7 +80,7 @@ module _ {V E : Type 0} (K : Ghosts V E) where
   pub record TookTurn (p q : Seat (Option V) (View V E)) (x : V) : Type 0 where
     pub words : List ℕ
     pub taken : Taken p.me.0 x words
-    pub view : q.me.0 ≡ with_holding p.me.0 (Holds x words)
+    pub view : q.me.0 ≡ with_turn p.me.0 x words
     pub out : q.me.1 ≡ (0, None) ∷ []
     pub table : q.table_id ≡ p.table_id
 

@@ -63,6 +63,14 @@ module _ {V E : Type 0} where
   abbrev pub with_holding : View V E → Holding V → View V E
   with_holding v g = record v { holding = g }
 
+  -- the seat has taken the turn with a value over these words
+  abbrev pub with_turn : View V E → V → List ℕ → View V E
+  with_turn v value words = record v { holding = Holds value words; turns = value ∷ v.turns }
+
+  -- the seat asked once, and found this number
+  abbrev pub with_refusal : View V E → ℕ → View V E
+  with_refusal v n = record v { refusals = n ∷ v.refusals }
+
   abbrev pub with_content : View V E → List ℕ → View V E
   with_content v t = record v { content = t }
 
@@ -78,7 +86,7 @@ module _ {V E : Type 0} where
 
   -- a seat that has done nothing yet
   abbrev pub new_seat : ℕ → ℕ → List E → List ℕ → View V E
-  new_seat size n seen fixed = record { size = size; number = n; registry = []; seen = seen; fixed = fixed; events = []; connected = false; task = Rest; blocks = []; content = []; holding = Free; word_set = false; found = [] }
+  new_seat size n seen fixed = record { size = size; number = n; registry = []; seen = seen; fixed = fixed; events = []; connected = false; task = Rest; blocks = []; content = []; holding = Free; word_set = false; found = []; turns = []; refusals = [] }
 
   -- the seat that a new turn gives
   abbrev pub first_seat : ℕ → List ℕ → View V E

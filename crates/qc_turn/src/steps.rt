@@ -14,6 +14,15 @@ impl<V: Kept> Play<Option<V>, View<V, V::Event>> for TakesTurn {
     ghost then = { takes_turn V.Kept };
 }
 
+/// The same by a seat that asks once.
+pub(crate) struct TriesTurn;
+
+impl<V: Kept> Play<Option<V>, View<V, V::Event>> for TriesTurn {
+    ghost use Rattle.qc_turn.specs.Steps.{tries_turn};
+
+    ghost then = { tries_turn V.Kept };
+}
+
 /// The store of 0 into the turn word.
 pub(crate) struct ReleasesTurn;
 

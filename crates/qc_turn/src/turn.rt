@@ -9,7 +9,7 @@ use crate::kept::Kept;
 use crate::lines::{region_index, task_index};
 use crate::rule::{Rule, Start};
 use crate::seat::Seat;
-use crate::steps::{LoadsWord, ReadsTaskWord, ReleasesTurn, SetsTaskWord, StoresWord, TakesTurn};
+use crate::steps::{LoadsWord, ReadsTaskWord, ReleasesTurn, SetsTaskWord, StoresWord, TakesTurn, TriesTurn};
 use crate::task::Task;
 use crate::view::View;
 use atomic_table::{Refused, Table};
@@ -60,8 +60,8 @@ pub struct Busy<'a, V: Kept> {
 
 impl<V: Kept> Turn<V> {
     ghost use Rattle.qc_turn.specs.Tasks.{listed_for, IsListed, is_stream};
-    ghost use Rattle.qc_turn.specs.Views.{with_holding, words_of, base_of, HoldsTurn, written, after_release, with_word_set, with_found, found_word, idle_of, AllMet, first_seat};
-    ghost use Rattle.qc_turn.specs.Steps.{takes_turn, Taken, TookTurn, LoadedWord};
+    ghost use Rattle.qc_turn.specs.Views.{with_holding, with_turn, with_refusal, words_of, base_of, HoldsTurn, written, after_release, with_word_set, with_found, found_word, idle_of, AllMet, first_seat};
+    ghost use Rattle.qc_turn.specs.Steps.{takes_turn, tries_turn, Taken, TookTurn, LoadedWord};
     ghost use Rattle.qc_turn.specs.Releases.{Follows, IsFresh, ClosesWith, SpellsReleased, HeldFreeOfOthers};
     ghost use Rattle.qc_turn.specs.Seats.{view, turn_id, no_ranges, IsSeatOf, words, holder, IsHeld};
     ghost use Rattle.atomic_table.specs.Table.{step};
@@ -112,7 +112,7 @@ impl<V: Kept> Turn<V> {
         ensures held { IsHeld result × (result.turn.now ≡ self.now) }
         ensures taken { Taken V.Kept (view seat.old) result.value (words result) }
         ensures ranges { result.ranges ≡ seat.old.ranges }
-        ensures holds { holder result ≡ with_holding (view seat.old) (Holds result.value (words result)) }
+        ensures holds { holder result ≡ with_turn (view seat.old) result.value (words result) }
     {
         let value = self.wait(rt, seat);
         let ranges = self.take_ranges(seat);
@@ -124,19 +124,20 @@ impl<V: Kept> Turn<V> {
         }
     }
 
-    /// Asks for the turn once. The error has the number of the seat that was found to hold it, which is another than this one, and hands the seat back
-    /// as it was.
+    /// Asks for the turn once. The error has the number of the seat that was found to hold it, which is another than this one, and hands the seat back,
+    /// which has kept that number and is else as it was.
     pub fn try_take<'a>(&'a self, seat: &'a mut Seat<V>) -> Result<Held<'a, V>, Busy<'a, V>>
         requires { IsSeatOf self.now seat.old }
         ensures same_seat { IfOk result (λ held. held.seat.ghost_name ≡ seat.entry.ghost_name) }
         ensures held { IfOk result (λ held. IsHeld held × (held.turn.now ≡ self.now)) }
         ensures taken { IfOk result (λ held. Taken V.Kept (view seat.old) held.value (words held)) }
         ensures ranges { IfOk result (λ held. held.ranges ≡ seat.old.ranges) }
-        ensures holds { IfOk result (λ held. holder held ≡ with_holding (view seat.old) (Holds held.value (words held))) }
-        ensures handed_back { IfErr result (λ busy. (busy.seat.ghost_name ≡ seat.entry.ghost_name) × IsSeatOf self.now busy.seat.now × (view busy.seat.now ≡ view seat.old) × (busy.seat.now.ranges ≡ seat.old.ranges)) }
+        ensures holds { IfOk result (λ held. holder held ≡ with_turn (view seat.old) held.value (words held)) }
+        ensures handed_back { IfErr result (λ busy. (busy.seat.ghost_name ≡ seat.entry.ghost_name) × IsSeatOf self.now busy.seat.now × (busy.seat.now.ranges ≡ seat.old.ranges)) }
+        ensures asked { IfErr result (λ busy. view busy.seat.now ≡ with_refusal (view seat.old) busy.holder) }
         ensures other { IfErr result (λ busy. (busy.holder ≢ 0) × (busy.holder ≢ (view seat.old).number)) }
     {
-        match self.try_seize(seat) {
+        match self.try_once(seat) {
             Ok(value) => {
                 let ranges = self.take_ranges(seat);
                 Ok(Held {
@@ -188,6 +189,44 @@ impl<V: Kept> Turn<V> {
             .compare_exchange::<TakesTurn>(&mut seat.pass, TURN_WORD, 0, number)
     }
 
+    /// The same by a seat that keeps the number that was found.
+    fn ask_once(&self, seat: &mut Seat<V>) -> u64
+        requires { IsSeatOf self.now seat.old }
+        ensures table { (seat.new.pass.table_id ≡ seat.old.pass.table_id) × (seat.new.ranges ≡ seat.old.ranges) }
+        ensures tells { tries_turn V.Kept (step 1 0 0 seat.old.number none) seat.old.pass.me result seat.new.pass.me }
+    {
+        let number = seat.number as u64;
+        self.table
+            .shared
+            .compare_exchange::<TriesTurn>(&mut seat.pass, TURN_WORD, 0, number)
+    }
+
+    /// Takes the value out of the slot that the seat has.
+    fn take_value(&self, seat: &mut Seat<V>) -> V
+        requires table { seat.old.pass.table_id ≡ turn_id self.now }
+        requires slot { (value : V) × (seat.old.pass.me.1 ≡ (0, Some value) ∷ []) }
+        ensures value { (value : V) → seat.old.pass.me.1 ≡ (0, Some value) ∷ [] → value ≡ result }
+        ensures out { (seat.new.pass.me.0 ≡ seat.old.pass.me.0) × (seat.new.pass.me.1 ≡ (0, None) ∷ []) }
+        ensures same { (seat.new.pass.table_id ≡ seat.old.pass.table_id) × (seat.new.ranges ≡ seat.old.ranges) }
+    {
+        let out = self.table.shared.exchange(&mut seat.pass, VALUE_SLOT, None);
+        out.unwrap()
+    }
+
+    /// Asks once and keeps the number where it is refused, which is the error.
+    fn try_once(&self, seat: &mut Seat<V>) -> Result<V, u32>
+        requires { IsSeatOf self.now seat.old }
+        ensures { MatchResult result
+            (λ value. TookTurn V.Kept seat.old.pass seat.new.pass value × (seat.new.ranges ≡ seat.old.ranges))
+            (λ found. (found ≢ 0) × (found ≢ (view seat.old).number) × IsSeatOf self.now seat.new × (view seat.new ≡ with_refusal (view seat.old) found) × (seat.new.ranges ≡ seat.old.ranges)) }
+    {
+        let found = self.ask_once(seat);
+        if found != 0 {
+            return Err(found as u32);
+        }
+        Ok(self.take_value(seat))
+    }
+
     /// Asks once, and takes the value out of the slot. The error is the number that was found.
     fn try_seize(&self, seat: &mut Seat<V>) -> Result<V, u32>
         requires { IsSeatOf self.now seat.old }
@@ -199,8 +238,7 @@ impl<V: Kept> Turn<V> {
         if found != 0 {
             return Err(found as u32);
         }
-        let out = self.table.shared.exchange(&mut seat.pass, VALUE_SLOT, None);
-        Ok(out.unwrap())
+        Ok(self.take_value(seat))
     }
 
     /// Asks until the turn is the seat's.

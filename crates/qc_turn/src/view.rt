@@ -56,4 +56,8 @@ pub struct View<V, E> {
     pub word_set: bool,
     /// The task words that it read in this holding, the last one first.
     pub found: LinkedList<FoundWord>,
+    /// The values that it took with the turn, the last one first.
+    pub turns: LinkedList<V>,
+    /// The numbers that it found in the turn word where it asked once in vain, the last one first.
+    pub refusals: LinkedList<u32>,
 }

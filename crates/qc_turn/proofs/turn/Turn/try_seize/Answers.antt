@@ -1,21 +1,16 @@
-use Rattle.std.proofs.Common.{rules, Some, None, ap, sym, subst, refl, ◌∙◌, ◌∷◌, ◌≡◌}
-use Rattle.atomic_table.specs.Table.{rest}
+use Rattle.std.proofs.Common.{rules, Some, ap, subst, sym, ◌∙◌, ◌∷◌, ◌≡◌}
 use Rattle.qc_turn.specs.Seats.{view}
 use Rattle.qc_turn.specs.Steps.{Taken}
 use Rattle.qc_turn.specs.Tasks.{HasBlocks}
-use Rattle.qc_turn.specs.Views.{IsSoundJournal, with_holding}
-use Rattle.qc_turn.specs.declared.view.Holding.TheVariants.{Holds}
+use Rattle.qc_turn.specs.Views.{IsSoundJournal, with_turn}
 use Rattle.qc_chain.specs.Chains.{Ranged}
-use Rattle.qc_turn.proofs.RuleKept.{came_out}
 use Rattle.qc_turn.proofs.turn.Turn.try_seize.Goals as goal
 
-pub exchange-out-requires : goal.exchange-out-requires
-exchange-out-requires g c = let t = c.ask-found.ensures.tells.0 c.if-found-ne0.false in
-    (search rules, (Some t.0, t.4 ∙ ap (λ l. (0, Some t.0) ∷ rest l) (sym t.4)))
+pub take_value-requires-clause-table : goal.take_value-requires-clause-table
+take_value-requires-clause-table g c = c.ask-found.ensures.table.0 ∙ c.requires.table
 
-pub unwrap-requires : goal.unwrap-requires
-unwrap-requires g c = let t = c.ask-found.ensures.tells.0 c.if-found-ne0.false in
-    let e = came_out _ _ _ _ _ t.4 c.exchange-out.ensures.2 in rw e refl
+pub take_value-requires-clause-slot : goal.take_value-requires-clause-slot
+take_value-requires-clause-slot g c = let t = c.ask-found.ensures.tells.0 c.if-found-ne0.false in (t.0, t.4 ∙ ap (λ l. (0, Some t.0) ∷ l) c.requires.out)
 
 pub returns-then-found-ne0 : goal.returns-then-found-ne0
 returns-then-found-ne0 g c = let t = c.ask-found.ensures.tells.1 c.if-found-ne0.true in (
@@ -34,16 +29,14 @@ returns-then-found-ne0 g c = let t = c.ask-found.ensures.tells.1 c.if-found-ne0.
 
 pub returns : goal.returns
 returns g c = let t = c.ask-found.ensures.tells.0 c.if-found-ne0.false in
-    let e = came_out _ _ _ _ _ t.4 c.exchange-out.ensures.2 in
-    let same : t.0 ≡ c.unwrap.result = cc (c.unwrap.ensures, e) in
-    let out = c.exchange-out.ensures in
-    let old = c.requires.out in (
+    let v = c.take_value.ensures in
+    let same : t.0 ≡ c.take_value.result = v.value t.0 (t.4 ∙ ap (λ l. (0, Some t.0) ∷ l) c.requires.out) in (
       record {
         words = t.1;
         taken = subst (λ x. Taken g.V.Kept (view c.args.seat.now) x t.1) same t.2;
-        view = ap (λ m. m.0) out.3 ∙ (t.3 ∙ ap (λ x. with_holding (view c.args.seat.now) (Holds x t.1)) same);
-        out = ap (λ m. m.1) out.3 ∙ ap (λ l. (0, None) ∷ rest l) (t.4 ∙ ap (λ l. (0, Some t.0) ∷ l) old);
-        table = out.0 ∙ c.ask-found.ensures.table.0;
+        view = v.out.0 ∙ (t.3 ∙ ap (λ x. with_turn (view c.args.seat.now) x t.1) same);
+        out = v.out.1;
+        table = v.same.0 ∙ c.ask-found.ensures.table.0;
       },
-      c.ask-found.ensures.table.1,
+      v.same.1 ∙ c.ask-found.ensures.table.1,
     )
