@@ -51,7 +51,7 @@ use Rattle.qc_core.specs.Sweeps.{swept, ReadsStreams, Finds}
 use Rattle.qc_core.proofs.FillTasks.{IsAfter, pruned_after, still_filling}
 use Rattle.qc_core.proofs.Filling.{fills_of, there_same, none_of, was_overtaken}
 use Rattle.qc_turn.proofs.Tasks.{starts_trans}
-use Rattle.qc_flow.specs.Growths.{HoldFewer, GrowFor, Onward, settled, Continues, FillsFor, WasShort}
+use Rattle.qc_flow.specs.Growths.{HoldFewer, GrowFor, Onward, settled, Continues, FillsFor, WasShort, AsksBlock}
 use Rattle.qc_flow.specs.Seats.{EndsIn}
 use Rattle.qc_flow.proofs.Removals.{overtaken_ends}
 
@@ -120,10 +120,10 @@ onward_kept s t k = record { later = []; events = ap (λ (j : Recorded). j.event
 -- ---- one call on the holding
 
 pub continues_same : (h : Held Parts Event ghosts) → Continues h h
-continues_same h = record { seat = refl; turn = refl; view = refl; value = onward_same h.value; room = refl }
+continues_same h = record { seat = refl; turn = refl; view = refl; turns = refl; value = onward_same h.value; room = refl }
 
 pub continues_both : (h k m : Held Parts Event ghosts) → Continues h k → Continues k m → Continues h m
-continues_both h k m p q = record { seat = q.seat ∙ p.seat; turn = q.turn ∙ p.turn; view = q.view ∙ p.view; value = onward_both h.value k.value m.value p.value q.value; room = q.room ∙ p.room }
+continues_both h k m p q = record { seat = q.seat ∙ p.seat; turn = q.turn ∙ p.turn; view = q.view ∙ p.view; turns = q.turns ∙ p.turns; value = onward_both h.value k.value m.value p.value q.value; room = q.room ∙ p.room }
 
 told_value : (n : ℕ) (s t : Parts) (q r : Ranged) (told : Result Block Short) → TellsGrowth n s q t r told → Onward s t × (r.room ≡ q.room)
 told_value n s t q r (Ok b) g = (onward_grown n s t b g.ok.0, ap (λ (x : Ranged). x.room) g.ok.1)
@@ -141,6 +141,7 @@ grew n h k told g =
       seat = g.2.seat;
       turn = g.2.turn;
       view = ap settled g.2.holder;
+      turns = ap (λ v. v.turns) g.2.holder;
       value = onward_both h.value (swept found h.value) k.value (onward_kept h.value (swept found h.value) (swept_keeps found h.value)) t.0;
       room = t.1;
     }
@@ -150,6 +151,10 @@ grew_block n h k told b is g = ap (λ (x : Ranged). x.blocks) (subst (λ r. Tell
 
 pub grew_none : (n : ℕ) (h k : Held Parts Event ghosts) (told : Result Block Short) (e : Short) → told ≡ Err e → Told n h k told → k.ranges.blocks ≡ h.ranges.blocks
 grew_none n h k told e is g = ap (λ (x : Ranged). x.blocks) (subst (λ r. TellsGrowth n (swept g.0 h.value) h.ranges k.value k.ranges r) is g.3).err.1
+
+-- the same of the server, by the number of the seat
+pub asked_block : (seat n : ℕ) (h k : Held Parts Event ghosts) (told r : Result Block Short) → told ≡ r → seat ≡ (holder h).number → Told n h k told → AsksBlock seat n h.value h.ranges k.value k.ranges r
+asked_block seat n h k told r is number g = (g.0, subst (λ i. ReadsStreams i h.value g.0) (sym number) g.1, subst (λ z. TellsGrowth n (swept g.0 h.value) h.ranges k.value k.ranges z) is g.3)
 
 -- a chain that grew begins as it was
 pub grown_front : (total : ℕ) (old new : List Block) → GrowFor total old new → StartsWith new old

@@ -29,21 +29,21 @@ use Rattle.qc_flow.specs.Seats.{GoesOn, IsAtRest}
 -- ---- what stays
 
 module _ (v : View Parts Event) (b : Parts) (ws : List ℕ) (taken : Taken ghosts v b ws) (free : v.holding ≡ Free) (unset : v.word_set ≡ false) where
-  on : (x : Parts) (us : List ℕ) → Onward b x → GoesOn v (after_release ghosts (with_word_set v false) x us)
-  on x us o =
+  on : (turns : List Parts) (x : Parts) (us : List ℕ) → Onward b x → GoesOn v (after_release ghosts (with_word_set (record v { turns = turns }) false) x us)
+  on turns x us o =
       let events : of_seat ghosts v.number x.journal.events ≡ v.events =
       ap (of_seat ghosts v.number) o.events
       ∙ (filter-append _ b.journal.events o.later ∙ (ap (λ l. of_seat ghosts v.number b.journal.events ++ l) (o.quiet v.number) ∙ (append-nil (of_seat ghosts v.number b.journal.events) ∙ sym taken.events))) in
       let connected : list_any (λ m. m == v.number) x.connected.items ≡ v.connected = ap (λ c. list_any (λ m. m == v.number) c.items) o.connected ∙ sym taken.connected in
-      let new = after_release ghosts (with_word_set v false) x us in
+      let new = after_release ghosts (with_word_set (record v { turns = turns }) false) x us in
       record {
         seen = starts_trans x.journal.events b.journal.events v.seen (o.later, o.events) taken.seen;
-        same = λ i. record v { seen = new.seen; events = events i; connected = connected i; task = new.task; blocks = new.blocks; content = new.content; holding = sym free i; word_set = sym unset i; found = sym taken.none_found i };
+        same = λ i. record v { seen = new.seen; events = events i; connected = connected i; task = new.task; blocks = new.blocks; content = new.content; holding = sym free i; word_set = sym unset i; found = sym taken.none_found i; turns = turns };
         told = λ h. refl;
       }
 
   pub released_on : (w : View Parts Event) (x : Parts) (us : List ℕ) → settled w ≡ settled v → Onward b x → GoesOn v (after_release ghosts (with_word_set w false) x us)
-  released_on w x us same o = subst (λ u. GoesOn v (after_release ghosts (with_word_set u false) x us)) (sym same) (on x us o)
+  released_on w x us same o = subst (λ (u : View Parts Event). GoesOn v (after_release ghosts (with_word_set (record u { turns = w.turns }) false) x us)) (sym same) (on w.turns x us o)
 
 -- ---- the seat rests
 

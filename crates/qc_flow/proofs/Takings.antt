@@ -1,5 +1,5 @@
 -- What a seat that fills knows when it has taken the turn, and what it may release.
-use Rattle.std.proofs.Common.{◌≡◌, ℕ, ◌*◌, ◌≤◌, false, List, [], ◌++◌, length, take, sym, ap, subst, ◌∙◌, ⊎_elim, arith}
+use Rattle.std.proofs.Common.{◌≡◌, ℕ, ◌*◌, ◌≤◌, false, List, [], ◌∷◌, ◌++◌, length, take, sym, ap, subst, ◌∙◌, ⊎_elim, arith}
 use Rattle.std.specs.Prelude.{Some, slice_index}
 use Rattle.qc_model.specs.declared.events.Event.{Event}
 use Rattle.qc_tiles.specs.declared.blocks.Block.{Block}
@@ -17,7 +17,7 @@ use Rattle.qc_turn.specs.Words.{StartsWith}
 use Rattle.qc_turn.specs.declared.task.Task.{Task}
 use Rattle.qc_turn.specs.declared.task.Task.TheVariants as task
 use Rattle.qc_turn.specs.declared.task.ListedTask.{ListedTask}
-use Rattle.qc_turn.specs.declared.view.Holding.TheVariants.{Free, Holds}
+use Rattle.qc_turn.specs.declared.view.Holding.TheVariants.{Free}
 use Rattle.qc_turn.specs.declared.view.View.{View}
 use Rattle.qc_turn.proofs.Holders.{follows_refl}
 use Rattle.qc_turn.proofs.Tasks.{starts_trans, length_words}
@@ -30,8 +30,8 @@ use Rattle.qc_core.specs.declared.grows.Short.TheVariants as short
 use Rattle.qc_core.specs.contracts.server.ServerKept.TheImpl.{ghosts}
 use Rattle.qc_core.specs.declared.parts.Parts.{Parts}
 use Rattle.qc_flow.specs.Fills.{IsWholeAnswer, size_of, limit_of}
-use Rattle.qc_flow.specs.Growths.{HoldFewer, Widens, WasShort, IsFull, EndsShort, step_of, Wants, Onward, settled, Continues, FillsFor}
-use Rattle.qc_flow.specs.Seats.{GoesOn, IsAtRest, HasEnded}
+use Rattle.qc_flow.specs.Growths.{HoldFewer, Widens, WasShort, IsFull, EndsShort, step_of, Wants, Onward, settled, Continues, FillsFor, GrowsShort}
+use Rattle.qc_flow.specs.Seats.{GoesOn, IsAtRest, HasEnded, TookOnce}
 use Rattle.qc_flow.proofs.Licences.{started_in, seen_fits}
 use Rattle.qc_flow.proofs.Seats.{released_on, released_rests, released_fills, fill_spells, longer_front}
 
@@ -54,6 +54,7 @@ pub record TookFill (v : View Parts Event) (h : Held Parts Event ghosts) (serial
   pub stands : MayRelease h
   pub listed : listed_for (holder h).number (tasks_of h.value) ≡ own (holder h).number (task.Fill serial) v.blocks
   pub view : settled (holder h) ≡ settled v
+  pub turns : (holder h).turns ≡ h.value ∷ v.turns
   pub unset : v.word_set ≡ false
   pub front : v.content ≡ take (length v.content) (bytes_of (spelled (words h) v.blocks))
 
@@ -69,6 +70,7 @@ took_fill v h serial held t holds fill =
       };
       listed = subst (λ n. listed_for n (tasks_of h.value) ≡ own n (task.Fill serial) v.blocks) (sym number) (fill_alone v.number serial v.task v.blocks (listed_for v.number (tasks_of h.value)) fill t.listed);
       view = ap settled holds;
+      turns = ap (λ u. u.turns) holds;
       unset = t.word_set ∙ ap is_stream fill;
       front = (stored_front h.value (words h) v.task serial v.blocks v.content fill t.content).0;
     }
@@ -89,6 +91,10 @@ stores_whole v h serial bytes f t whole few bs one =
     }
 
 -- ---- the seat after the release
+
+-- a seat that took the turn once has no other server from it
+pub took_once : (v w : View Parts Event) (h k : Held Parts Event ghosts) (serial : ℕ) (set : _) → TookFill v h serial → (holder k).turns ≡ (holder h).turns → w ≡ after_release ghosts (with_word_set (holder k) set) k.value (words k) → TookOnce h.value v w
+took_once v w h k serial set f same is = ap (λ u. u.turns) is ∙ (same ∙ f.turns)
 
 -- the seat rests, and has seen this journal
 pub record Rested (v w : View Parts Event) (x : Parts) : Type 0 where
@@ -157,8 +163,9 @@ is_full n total k (short.NoRoom need largest) f was =
     record { tile = was.0.1; blocks = k.ranges.blocks; listed = f.listed; start = f.start; all = f.all; answered = f.answered; longer = omega (arith, was.1, f.long) }
 
 -- no block was found
-pub widens_short : (serial total : ℕ) (v w : View Parts Event) (k m : Parts) (bs : List Block) (e : Short) → HoldFewer v.blocks total → IsSomewhereSound k → listed_for v.number (tasks_of k) ≡ own v.number (task.Fill serial) bs → StartsWith bs v.blocks → WasShort serial k e × HoldFewer bs total
+pub widens_short : (serial total : ℕ) (v w : View Parts Event) (k m : Parts) (bs : List Block) (e : Short) (taken : Parts) (before after : Ranged) → TookOnce taken v w → GrowsShort v.number serial taken before k after e → before.blocks ≡ v.blocks → after.blocks ≡ bs
+    → HoldFewer v.blocks total → IsSomewhereSound k → listed_for v.number (tasks_of k) ≡ own v.number (task.Fill serial) bs → StartsWith bs v.blocks → WasShort serial k e × HoldFewer bs total
     → EndsShort serial k.journal.events m.journal.events e → w.seen ≡ m.journal.events → HasEnded serial w → Widens serial total v w (step_of e)
-widens_short serial total v w k m bs (short.Overtaken by) fewer sound listed longer was ends seen ended = (fewer, ended, subst (λ j. IsOvertaken j serial by) (sym (seen ∙ ends)) was.0.1)
-widens_short serial total v w k m bs (short.NoRoom need largest) fewer sound listed longer was ends seen ended =
-    (ended, record { server = k; sound = sound; events = seen ∙ ends; blocks = bs; listed = listed; longer = longer; fewer = was.1; lacks = was.0.1 })
+widens_short serial total v w k m bs (short.Overtaken by) taken before after once grown begun ended_with fewer sound listed longer was ends seen ended = (fewer, ended, subst (λ j. IsOvertaken j serial by) (sym (seen ∙ ends)) was.0.1)
+widens_short serial total v w k m bs (short.NoRoom need largest) taken before after once grown begun ended_with fewer sound listed longer was ends seen ended =
+    (ended, record { taken = taken; once = once; before = before; after = after; ranged = (begun, ended_with); server = k; grown = grown; sound = sound; events = seen ∙ ends; blocks = bs; listed = listed; longer = longer; fewer = was.1; lacks = was.0.1 })

@@ -17,7 +17,7 @@ use Rattle.qc_turn.specs.Views.{with_content}
 use Rattle.qc_core.specs.contracts.server.ServerKept.TheImpl.{ghosts}
 use Rattle.qc_core.specs.declared.parts.Parts.{Parts}
 use Rattle.qc_core.specs.Overtaken.{IsOvertaken}
-use Rattle.qc_flow.specs.Seats.{HasEnded, EndsIn}
+use Rattle.qc_flow.specs.Seats.{HasEnded, EndsIn, EndsAlone}
 use Rattle.qc_flow.specs.Growths.{HoldFewer, GrowFor, LackedRoom}
 use Rattle.qc_flow.specs.declared.fills.Fill.{Fill}
 use Rattle.qc_flow.specs.declared.fills.FillStep.{FillStep}
@@ -78,7 +78,8 @@ abbrev pub Puts : Fill → Fill → List ℕ → View Parts Event → Seat Parts
 Puts f g packet old s step.More = Stores f g packet old s
 -- the packet needed a block, and a commit or a reset had taken the entry out
 Puts f g packet old s (step.Overtaken by) = HoldFewer old.blocks (f.bytes + length packet) × HasEnded f.serial (view s) × IsOvertaken (view s).seen f.serial by
-Puts f g packet old s (step.TooLarge total) = HasEnded f.serial (view s) × (total ≡ f.bytes + length packet) × IsLargeIn f.serial total f.limit (view s).seen
+-- the one event of the one holding tells it, and no entry was pruned for it
+Puts f g packet old s (step.TooLarge total) = HasEnded f.serial (view s) × (total ≡ f.bytes + length packet) × IsLargeIn f.serial total f.limit (view s).seen × EndsAlone (event.Gone f.serial (gone.TooLarge total f.limit)) old (view s)
 -- the packet needed a block, and there was no room
 Puts f g packet old s (step.NoRoom need largest) = HasEnded f.serial (view s) × LackedRoom f.serial (f.bytes + length packet) need largest old (view s)
 

@@ -1,5 +1,5 @@
 -- A fill gets blocks: what is asked, and what becomes of the holding and of the seat.
-use Rattle.std.specs.Prelude.{◌≡◌, ℕ, ◌*◌, ◌<◌, ◌≤◌, ◌⊎◌, Some, None, List, [], ◌∷◌, ◌++◌, length}
+use Rattle.std.specs.Prelude.{◌≡◌, ℕ, zero, suc, Result, Ok, Err, ◌*◌, ◌<◌, ◌≤◌, ◌⊎◌, Some, None, List, [], ◌∷◌, ◌++◌, length}
 use Rattle.qc_model.specs.declared.events.Event.{Event}
 use Rattle.qc_model.specs.declared.events.Event.TheVariants as event
 use Rattle.qc_model.specs.declared.events.GoneWhy.TheVariants as gone
@@ -9,8 +9,10 @@ use Rattle.qc_model.specs.Licence.{IsFilling, unit_words}
 use Rattle.qc_model.specs.Session.{answer}
 use Rattle.qc_laws.specs.history.Runs.{IsStarted}
 use Rattle.qc_tiles.specs.declared.blocks.Block.{Block}
+use Rattle.qc_chain.specs.Chains.{Ranged}
 use Rattle.qc_chain.specs.Words.{words_of}
 use Rattle.qc_turn.specs.declared.task.Task.TheVariants as task
+use Rattle.qc_turn.specs.declared.view.FoundWord.{FoundWord}
 use Rattle.qc_turn.specs.declared.view.Holding.TheVariants.{Free}
 use Rattle.qc_turn.specs.declared.view.View.{View}
 use Rattle.qc_turn.specs.Seats.{Held, holder}
@@ -19,13 +21,15 @@ use Rattle.qc_turn.specs.Views.{of_seat}
 use Rattle.qc_turn.specs.Words.{StartsWith}
 use Rattle.qc_core.specs.Allocates.{LacksTile}
 use Rattle.qc_core.specs.Calls.{LacksRoom}
+use Rattle.qc_core.specs.Grows.{TellsGrowth}
 use Rattle.qc_core.specs.Overtaken.{IsOvertaken}
+use Rattle.qc_core.specs.Sweeps.{ReadsStreams, swept}
 use Rattle.qc_core.specs.Whole.{IsSomewhereSound, tasks_of}
 use Rattle.qc_core.specs.contracts.server.ServerKept.TheImpl.{ghosts}
 use Rattle.qc_core.specs.declared.grows.Short.{Short}
 use Rattle.qc_core.specs.declared.grows.Short.TheVariants as short
 use Rattle.qc_core.specs.declared.parts.Parts.{Parts}
-use Rattle.qc_flow.specs.Seats.{HasEnded}
+use Rattle.qc_flow.specs.Seats.{HasEnded, TookOnce}
 use Rattle.qc_flow.specs.declared.fills.FillStep.{FillStep}
 use Rattle.qc_flow.specs.declared.fills.FillStep.TheVariants as step
 
@@ -45,15 +49,40 @@ HoldFewer blocks total = 8 * words_of blocks < total
 abbrev pub GrowFor : ℕ → List Block → List Block → Type 0
 GrowFor total old new = (new ≡ old) ⊎ ((front : List Block) × (last : Block) × (new ≡ front ++ last ∷ []) × StartsWith front old × HoldFewer front total)
 
--- The last event says that the fill found no room. The server before it was sound and listed the fill, whose blocks, with those that it got meanwhile, held
--- fewer bytes; no free block had a unit, and no idle entry was left to prune.
-pub record LackedRoom (serial total need largest : ℕ) (old new : View Parts Event) : Type 0 where
+-- ---- the chain grows in one holding, by the calls of the server
+
+-- the server after its streams that had ended were struck off, and then one more block was looked for
+abbrev pub AsksBlock : (seat serial : ℕ) → Parts → Ranged → Parts → Ranged → Result Block Short → Type 0
+AsksBlock seat serial s r t q told = (found : List FoundWord) × ReadsStreams seat s found × TellsGrowth serial (swept found s) r t q told
+
+-- so many blocks were found, one after another
+abbrev pub GrowsBy : (seat serial count : ℕ) → Parts → Ranged → Parts → Ranged → Type 0
+GrowsBy seat serial zero s r t q = (t ≡ s) × (q ≡ r)
+GrowsBy seat serial (suc count) s r t q = (m : Parts) × (p : Ranged) × GrowsBy seat serial count s r m p × ((b : Block) × AsksBlock seat serial m p t q (Ok b))
+
+-- so many blocks were found, and then none
+pub record GrowsShort (seat serial : ℕ) (s : Parts) (r : Ranged) (t : Parts) (q : Ranged) (e : Short) : Type 0 where
+  pub count : ℕ
   pub server : Parts
+  pub ranges : Ranged
+  pub grown : GrowsBy seat serial count s r server ranges
+  pub last : AsksBlock seat serial server ranges t q (Err e)
+
+-- The last event says that the fill found no room. The seat took the turn once; the server that it took grew the chain until no block was found. That server
+-- was sound and listed the fill, whose blocks, with those that it got meanwhile, held fewer bytes; no free block had a unit, and no idle entry was left to prune.
+pub record LackedRoom (serial total need largest : ℕ) (old new : View Parts Event) : Type 0 where
+  pub taken : Parts
+  pub once : TookOnce taken old new
+  pub before : Ranged
+  pub after : Ranged
+  pub server : Parts
+  pub grown : GrowsShort old.number serial taken before server after (short.NoRoom need largest)
   pub sound : IsSomewhereSound server
   pub events : new.seen ≡ server.journal.events ++ event.Gone serial (gone.NoRoom need largest) ∷ []
   pub blocks : List Block
   pub listed : listed_for old.number (tasks_of server) ≡ own old.number (task.Fill serial) blocks
   pub longer : StartsWith blocks old.blocks
+  pub ranged : (before.blocks ≡ old.blocks) × (after.blocks ≡ blocks)
   pub fewer : HoldFewer blocks total
   pub lacks : LacksTile (unit_words server.options) server (record { need = need; largest = largest })
 
@@ -74,15 +103,16 @@ pub record Onward (old new : Parts) : Type 0 where
   pub options : new.options ≡ old.options
   pub connected : new.connected ≡ old.connected
 
--- what the holder knew before it took the turn
+-- what the holder knew before it took the turn, but for the servers that it took
 abbrev pub settled : View Parts Event → View Parts Event
-settled v = record v { holding = Free; found = [] }
+settled v = record v { holding = Free; found = []; turns = [] }
 
 -- the same seat holds the same turn
 pub record Continues (h k : Held Parts Event ghosts) : Type 0 where
   pub seat : k.seat.ghost_name ≡ h.seat.ghost_name
   pub turn : k.turn.now ≡ h.turn.now
   pub view : settled (holder k) ≡ settled (holder h)
+  pub turns : (holder k).turns ≡ (holder h).turns
   pub value : Onward h.value k.value
   pub room : k.ranges.room ≡ h.ranges.room
 

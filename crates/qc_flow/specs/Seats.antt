@@ -1,5 +1,5 @@
 -- What becomes of a seat by calls on its fill.
-use Rattle.std.specs.Prelude.{◌≡◌, ℕ, true, [], ◌∷◌, ◌++◌}
+use Rattle.std.specs.Prelude.{◌≡◌, ◌⊎◌, ℕ, true, [], ◌∷◌, ◌++◌}
 use Rattle.qc_model.specs.declared.events.Event.{Event}
 use Rattle.qc_model.specs.Agrees.{is_ended}
 use Rattle.qc_model.specs.Journal.{Journal}
@@ -10,12 +10,20 @@ use Rattle.qc_turn.specs.Words.{StartsWith}
 use Rattle.qc_core.specs.contracts.server.ServerKept.TheImpl.{ghosts}
 use Rattle.qc_core.specs.declared.parts.Parts.{Parts}
 
--- The seat has seen more, and may have another task. All else of it stays: it is connected as before, and its session has the same events. Where it knew
+-- The seat has seen more, may have another task, and may have taken the turn. All else of it stays: it is connected as before, and its session has the same events. Where it knew
 -- those of its events that are in what it had seen, it knows those that are in what it has seen now.
 pub record GoesOn (old new : View Parts Event) : Type 0 where
   pub seen : StartsWith new.seen old.seen
-  pub same : new ≡ record old { seen = new.seen; task = new.task; blocks = new.blocks; content = new.content }
+  pub same : new ≡ record old { seen = new.seen; task = new.task; blocks = new.blocks; content = new.content; turns = new.turns }
   pub told : old.events ≡ of_seat ghosts old.number old.seen → new.events ≡ of_seat ghosts new.number new.seen
+
+-- the seat took the turn once, with this server
+abbrev pub TookOnce : Parts → View Parts Event → View Parts Event → Type 0
+TookOnce s old new = new.turns ≡ s ∷ old.turns
+
+-- The seat took the turn once. The journal is as it was then with this event and no other, or, where the entry had left, as it was.
+abbrev pub EndsAlone : Event → View Parts Event → View Parts Event → Type 0
+EndsAlone e old new = (s : Parts) × TookOnce s old new × ((new.seen ≡ s.journal.events ++ e ∷ []) ⊎ (new.seen ≡ s.journal.events))
 
 -- the seat has no task
 pub record IsAtRest (v : View Parts Event) : Type 0 where

@@ -11,7 +11,7 @@ ghost use Rattle.qc_chain.specs.Words.{words_of};
 ghost use Rattle.qc_core.specs.Calls.{IsInWant};
 ghost use Rattle.qc_core.specs.Overtaken.{IsOvertaken};
 ghost use Rattle.qc_core.specs.declared.parts.Parts.{Parts};
-ghost use Rattle.qc_flow.specs.Seats.{GoesOn, IsAtRest, HasEnded, EndsIn};
+ghost use Rattle.qc_flow.specs.Seats.{GoesOn, IsAtRest, HasEnded, EndsIn, EndsAlone};
 ghost use Rattle.qc_flow.specs.Fills.{IsWholeAnswer, Ends, Abandons, IsLargeIn, limit_of};
 ghost use Rattle.qc_flow.specs.Endings.{IsGrantedFor, IsTooLong};
 ghost use Rattle.qc_flow.specs.declared.fills.FillStep.TheVariants as step;
@@ -81,6 +81,7 @@ fn give_up<R: Wait>(
     ensures seated { IsSeatOf turn.now seat.new × (seat.new.ranges ≡ seat.old.ranges) }
     ensures goes_on { GoesOn (view seat.old) (view seat.new) }
     ensures rests { IsAtRest (view seat.new) }
+    ensures alone { EndsAlone (event.Gone serial why) (view seat.old) (view seat.new) }
     ensures ok { IfOk result (λ place. EndsIn (event.Gone serial why) (view seat.new).seen) }
     ensures err { IfErr result (λ by. IsOvertaken (view seat.new).seen serial by × (is_ended serial [] (view seat.new).seen ≡ true)) }
 {
@@ -103,7 +104,7 @@ pub(crate) fn end_large<R: Wait>(
     requires long { IsTooLong serial length limit (view seat.old) }
     ensures seated { IsSeatOf turn.now seat.new × (seat.new.ranges ≡ seat.old.ranges) }
     ensures goes_on { GoesOn (view seat.old) (view seat.new) }
-    ensures step { (result ≡ step.TooLarge length) × HasEnded serial (view seat.new) × IsLargeIn serial length limit (view seat.new).seen }
+    ensures step { (result ≡ step.TooLarge length) × HasEnded serial (view seat.new) × IsLargeIn serial length limit (view seat.new).seen × EndsAlone (event.Gone serial (why.TooLarge length limit)) (view seat.old) (view seat.new) }
 {
     let _ended = give_up(rt, turn, seat, serial, GoneWhy::TooLarge { length, limit });
     FillStep::TooLarge(length)

@@ -11,7 +11,7 @@ ghost use Rattle.qc_core.specs.Calls.{ListsFill};
 ghost use Rattle.qc_core.specs.Whole.{tasks_of};
 ghost use Rattle.qc_flow.specs.Seats.{GoesOn};
 ghost use Rattle.qc_flow.specs.Fills.{size_of};
-ghost use Rattle.qc_flow.specs.Growths.{HoldFewer, GrowFor, Wants, Widens, Continues, FillsFor, WasShort, IsFull, EndsShort, step_of};
+ghost use Rattle.qc_flow.specs.Growths.{HoldFewer, GrowFor, Wants, Widens, Continues, FillsFor, GrowsShort, WasShort, IsFull, EndsShort, step_of};
 
 use crate::fills::FillStep;
 use qc_core::{Server, Short, gone, grow};
@@ -77,6 +77,7 @@ fn grow_to(held: &mut Held<'_, Server>, serial: u64, total: u64) -> Result<(), S
     ensures fills { FillsFor serial total held.new }
     ensures ok { OnOk result (total ≤ 8 * words_of held.new.ranges.blocks) }
     ensures err { IfErr result (λ short. WasShort serial held.new.value short × HoldFewer held.new.ranges.blocks total) }
+    ensures grown { IfErr result (GrowsShort (holder held.old).number serial held.old.value held.old.ranges held.new.value held.new.ranges) }
 {
     while !holds(held, total) {
         grow(held, serial)?;

@@ -24,7 +24,7 @@ returns-clause-goes_on g c =
     let k = c.done-ended.new.held in
     let e = c.done-ended.ensures in
     let r = c.done-ended.result in
-    let told = (ended_seat (event.Done n) n v _ h k r (quiet_done n) f t.taken c.requires.seated.0.free (ap settled e.stands.1.holder) e.there (done_by n (holder h).number c.args.bytes h.value k.value r e.ok) e.err e.rests c.release.ensures.view).goes_on in
+    let told = (ended_seat (event.Done n) n v _ h k r (quiet_done n) f t.taken c.requires.seated.0.free (ap settled e.stands.1.holder) (ap (λ u. u.turns) e.stands.1.holder) e.there (done_by n (holder h).number c.args.bytes h.value k.value r e.ok) e.err e.rests c.release.ensures.view).goes_on in
     search (rules, told)
 
 pub returns-clause-err : goal.returns-clause-err
@@ -37,5 +37,5 @@ returns-clause-err g c =
     let k = c.done-ended.new.held in
     let e = c.done-ended.ensures in
     let r = c.done-ended.result in
-    let told = (ended_seat (event.Done n) n v _ h k r (quiet_done n) f t.taken c.requires.seated.0.free (ap settled e.stands.1.holder) e.there (done_by n (holder h).number c.args.bytes h.value k.value r e.ok) e.err e.rests c.release.ensures.view).err in
+    let told = (ended_seat (event.Done n) n v _ h k r (quiet_done n) f t.taken c.requires.seated.0.free (ap settled e.stands.1.holder) (ap (λ u. u.turns) e.stands.1.holder) e.there (done_by n (holder h).number c.args.bytes h.value k.value r e.ok) e.err e.rests c.release.ensures.view).err in
     search (rules, told)

@@ -12,7 +12,7 @@ returns-clause-step g c =
     let e = c.give_up-ended.ensures in
     let w = view c.give_up-ended.new.seat in
     let told = large_told w.seen c.args.serial c.args.length c.args.limit c.give_up-ended.result e.ok e.err in
-    (refl, has_ended c.args.serial w e.rests told.0, told.1)
+    (refl, has_ended c.args.serial w e.rests told.0, told.1, e.alone)
 
 pub give_up-ended-requires-clause-other : goal.give_up-ended-requires-clause-other
 give_up-ended-requires-clause-other g c = λ seat s. tt

@@ -20,7 +20,18 @@ returns-clause-goes_on g c =
     let t = c.take-held.ensures in
     let f = took_fill v h n t.held.0 t.taken t.holds c.requires.seated.1 in
     let e = c.gone-ended.ensures in
-    let told = (ended_seat (event.Gone n c.args.why) n v _ h c.gone-ended.new.held c.gone-ended.result (quiet_gone n c.args.why) f t.taken c.requires.seated.0.free (ap settled e.stands.1.holder) e.there e.ok e.err e.rests c.release.ensures.view).goes_on in
+    let told = (ended_seat (event.Gone n c.args.why) n v _ h c.gone-ended.new.held c.gone-ended.result (quiet_gone n c.args.why) f t.taken c.requires.seated.0.free (ap settled e.stands.1.holder) (ap (λ u. u.turns) e.stands.1.holder) e.there e.ok e.err e.rests c.release.ensures.view).goes_on in
+    search (rules, told)
+
+pub returns-clause-alone : goal.returns-clause-alone
+returns-clause-alone g c =
+    let n = c.args.serial in
+    let h = c.take-held.result in
+    let v = view c.args.seat.now in
+    let t = c.take-held.ensures in
+    let f = took_fill v h n t.held.0 t.taken t.holds c.requires.seated.1 in
+    let e = c.gone-ended.ensures in
+    let told = (ended_seat (event.Gone n c.args.why) n v _ h c.gone-ended.new.held c.gone-ended.result (quiet_gone n c.args.why) f t.taken c.requires.seated.0.free (ap settled e.stands.1.holder) (ap (λ u. u.turns) e.stands.1.holder) e.there e.ok e.err e.rests c.release.ensures.view).alone in
     search (rules, told)
 
 pub returns-clause-err : goal.returns-clause-err
@@ -31,5 +42,5 @@ returns-clause-err g c =
     let t = c.take-held.ensures in
     let f = took_fill v h n t.held.0 t.taken t.holds c.requires.seated.1 in
     let e = c.gone-ended.ensures in
-    let told = (ended_seat (event.Gone n c.args.why) n v _ h c.gone-ended.new.held c.gone-ended.result (quiet_gone n c.args.why) f t.taken c.requires.seated.0.free (ap settled e.stands.1.holder) e.there e.ok e.err e.rests c.release.ensures.view).err in
+    let told = (ended_seat (event.Gone n c.args.why) n v _ h c.gone-ended.new.held c.gone-ended.result (quiet_gone n c.args.why) f t.taken c.requires.seated.0.free (ap settled e.stands.1.holder) (ap (λ u. u.turns) e.stands.1.holder) e.there e.ok e.err e.rests c.release.ensures.view).err in
     search (rules, told)

@@ -1,4 +1,4 @@
-use Rattle.std.proofs.Common.{◌≡◌, ℕ, Result, Ok, Err, ◌-◌, ◌*◌, ◌<◌, ◌∷◌, ◌++◌, [], inl, inr, false, refl, ap, sym, subst, ◌∙◌, arith}
+use Rattle.std.proofs.Common.{◌≡◌, ℕ, suc, Result, Ok, Err, ◌-◌, ◌*◌, ◌<◌, ◌∷◌, ◌++◌, [], inl, inr, false, refl, ap, sym, subst, ◌∙◌, arith}
 use Rattle.std.specs.Prelude.{nat_le, IfErr}
 use Rattle.std.specs.Result.{IsErrAnd}
 use Rattle.std.proofs.lemmas.Bool.Decides.{nat_tests}
@@ -11,14 +11,14 @@ use Rattle.qc_core.specs.Whole.{tasks_of}
 use Rattle.qc_core.specs.contracts.server.ServerKept.TheImpl.{ghosts}
 use Rattle.qc_core.specs.declared.grows.Short.{Short}
 use Rattle.qc_core.specs.declared.parts.Parts.{Parts}
-use Rattle.qc_flow.specs.Growths.{HoldFewer, GrowFor, Continues, FillsFor, WasShort}
-use Rattle.qc_flow.proofs.Holdings.{continues_same, continues_both, grew, grew_block, grew_none, grown_front, grew_more, grew_short, fills_on, asks_more}
+use Rattle.qc_flow.specs.Growths.{HoldFewer, GrowFor, Continues, FillsFor, GrowsShort, AsksBlock, WasShort}
+use Rattle.qc_flow.proofs.Holdings.{continues_same, continues_both, grew, grew_block, grew_none, grown_front, grew_more, grew_short, fills_on, asks_more, asked_block, number_on}
 use Rattle.qc_flow.proofs.growths.grow_to.Goals as goal
 
 pub loop-held-init : goal.loop-held-init
 loop-held-init c =
     let h = c.args.held.now in
-    record { stands = c.requires.stands; goes_on = continues_same h; words = refl; blocks = inl refl; fills = c.requires.fills }
+    record { stands = c.requires.stands; goes_on = continues_same h; words = refl; blocks = inl refl; fills = c.requires.fills; grown = (0, (refl, refl)) }
 
 pub grow-requires-clause-stands : goal.grow-requires-clause-stands
 grow-requires-clause-stands c = subst MayRelease (sym c.holds.ensures.same) c.loop-held.invariant.stands
@@ -51,6 +51,11 @@ loop-held-preserved c =
       words = e.words ∙ (ap (λ (z : Held Parts Event ghosts). words z) c.holds.ensures.same ∙ i.words);
       blocks = inr (k.ranges.blocks, b, behind, grown_front c.args.total c.args.held.now.ranges.blocks k.ranges.blocks i.blocks, over);
       fills = fills_on n c.args.total k m i.fills goes listed;
+      grown =
+          let seat = (holder c.args.held.now).number in
+          let number : seat ≡ (holder q).number = sym (ap (λ (z : Held Parts Event ghosts). (holder z).number) c.holds.ensures.same ∙ number_on c.args.held.now k i.goes_on) in
+          let asked = subst (λ (z : Held Parts Event ghosts). AsksBlock seat n z.value z.ranges m.value m.ranges (Ok b)) c.holds.ensures.same (asked_block seat n q m c.grow.result (Ok b) c.in_ok-grow.was number e.found) in
+          (suc i.grown.0, (k.value, k.ranges, i.grown.1, (b, asked)));
     }
 
 pub loop-held-smaller : goal.loop-held-smaller
@@ -109,3 +114,18 @@ returns-in_err-grow-clause-err c =
     let lacks : nat_le c.args.total (8 * words_of k.ranges.blocks) ≡ false = sym c.holds.ensures.holds ∙ c.loop-held-test.true in
     let over : 8 * words_of k.ranges.blocks < c.args.total = grind (arith, nat_tests, lacks) in
     handed_on c.from_residual.result e (λ x. WasShort n m.value x × HoldFewer m.ranges.blocks c.args.total) c.from_residual.ensures.1 (short, subst (λ bs. HoldFewer bs c.args.total) (sym same) over)
+
+pub returns-in_err-grow-clause-grown : goal.returns-in_err-grow-clause-grown
+returns-in_err-grow-clause-grown c =
+    let i = c.loop-held.invariant in
+    let k = c.loop-held.held in
+    let q = c.holds.new.held in
+    let m = c.grow.new.held in
+    let n = c.args.serial in
+    let e = c.in_err-grow.field-0.0 in
+    let s = c.args.held.now in
+    let seat = (holder s).number in
+    let number : seat ≡ (holder q).number = sym (ap (λ (z : Held Parts Event ghosts). (holder z).number) c.holds.ensures.same ∙ number_on s k i.goes_on) in
+    let asked = subst (λ (z : Held Parts Event ghosts). AsksBlock seat n z.value z.ranges m.value m.ranges (Err e)) c.holds.ensures.same (asked_block seat n q m c.grow.result (Err e) c.in_err-grow.was number c.grow.ensures.found) in
+    handed_on c.from_residual.result e (GrowsShort seat n s.value s.ranges m.value m.ranges) c.from_residual.ensures.1
+        (record { count = i.grown.0; server = k.value; ranges = k.ranges; grown = i.grown.1; last = asked })

@@ -1,15 +1,15 @@
-use Rattle.std.proofs.Common.{rules, ◌≡◌, true, [], ap, sym, subst, ◌∙◌}
+use Rattle.std.proofs.Common.{rules, ◌≡◌, true, false, [], refl, ap, sym, subst, ◌∙◌}
 use Rattle.std.specs.Prelude.{IfErr}
 use Rattle.qc_model.specs.Agrees.{is_ended}
 use Rattle.qc_chain.specs.Chains.{Ranged}
-use Rattle.qc_turn.specs.Seats.{view, words}
+use Rattle.qc_turn.specs.Seats.{view, words, holder}
 use Rattle.qc_turn.specs.Tasks.{listed_for, own, HasBlocks}
 use Rattle.qc_turn.specs.Words.{StartsWith}
 use Rattle.qc_turn.specs.declared.task.Task.TheVariants as task
 use Rattle.qc_core.specs.Whole.{tasks_of}
-use Rattle.qc_flow.specs.Growths.{HoldFewer, Widens, WasShort}
+use Rattle.qc_flow.specs.Growths.{HoldFewer, Widens, WasShort, GrowsShort}
 use Rattle.qc_flow.proofs.Holdings.{continues_both, number_on, grown_front}
-use Rattle.qc_flow.proofs.Takings.{took_fill, fills_for, fill_content, seat_fills, seat_rests, widens_short, is_full}
+use Rattle.qc_flow.proofs.Takings.{took_fill, fills_for, fill_content, seat_fills, seat_rests, widens_short, is_full, took_once}
 use Rattle.qc_flow.proofs.Told.{has_ended}
 use Rattle.qc_flow.proofs.growths.widen.Goals as goal
 
@@ -87,6 +87,9 @@ returns-in-Err-clause-step g c =
     let blocks : h.ranges.blocks ≡ v.blocks = ap (λ (r : Ranged). r.blocks) t.ranges ∙ subst (λ u. HasBlocks u v.blocks c.args.seat.now.ranges.blocks) c.requires.seated.1 c.requires.seated.0.ranges in
     let longer = subst (λ bs. StartsWith k.ranges.blocks bs) blocks (grown_front c.args.total h.ranges.blocks k.ranges.blocks e.blocks) in
     let was = subst (λ r. IfErr r (λ x. WasShort n k.value x × HoldFewer k.ranges.blocks c.args.total)) c.in-Err.is e.err in
+    let once = took_once v _ h m n false f both.turns c.release.ensures.view in
+    let number : (holder h).number ≡ v.number = ap (λ u. u.number) f.view in
+    let grown = subst (λ i. GrowsShort i n h.value h.ranges k.value k.ranges c.in-Err.short) number (subst (λ r. IfErr r (GrowsShort (holder h).number n h.value h.ranges k.value k.ranges)) c.in-Err.is e.grown) in
     let ended = has_ended n _ q.rests (subst (λ j. is_ended n [] j ≡ true) (sym q.seen) s.ended) in
-    let told = subst (Widens n c.args.total v _) (sym s.step) (widens_short n c.args.total v _ k.value m.value k.ranges.blocks c.in-Err.short c.requires.fewer (words k, e.stands.0.sound) listed longer was s.events q.seen ended) in
+    let told = subst (Widens n c.args.total v _) (sym s.step) (widens_short n c.args.total v _ k.value m.value k.ranges.blocks c.in-Err.short h.value h.ranges k.ranges once grown blocks refl c.requires.fewer (words k, e.stands.0.sound) listed longer was s.events q.seen ended) in
     search (rules, told)
