@@ -35,7 +35,7 @@ goes_same v = record { seen = ([], sym (append-nil v.seen)); same = refl; told =
 pub goes_both : (u v w : View Parts Event) → GoesOn u v → GoesOn v w → GoesOn u w
 goes_both u v w p q = record {
   seen = starts_trans w.seen v.seen u.seen q.seen p.seen;
-  same = q.same ∙ ap (λ (x : View Parts Event). record x { seen = w.seen; task = w.task; blocks = w.blocks; content = w.content }) p.same;
+  same = q.same ∙ ap (λ (x : View Parts Event). record x { seen = w.seen; task = w.task; blocks = w.blocks; content = w.content; turns = w.turns }) p.same;
   told = λ h. q.told (p.told h);
 }
 
