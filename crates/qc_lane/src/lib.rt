@@ -5,8 +5,6 @@ mod aggregates;
 mod bits;
 mod compare;
 mod masks;
-#[cfg(test)]
-mod tests;
 
 pub use aggregates::{max_masked, min_masked, sum_masked};
 pub use bits::SetBits;
