@@ -9,7 +9,9 @@ use crate::kept::Kept;
 use crate::lines::{region_index, task_index};
 use crate::rule::{Rule, Start};
 use crate::seat::Seat;
-use crate::steps::{LoadsWord, ReadsTaskWord, ReleasesTurn, SetsTaskWord, StoresWord, TakesTurn, TriesTurn};
+use crate::steps::{
+    LoadsWord, ReadsTaskWord, ReleasesTurn, SetsTaskWord, StoresWord, TakesTurn, TriesTurn,
+};
 use crate::task::Task;
 use crate::view::View;
 use atomic_table::{Refused, Table};

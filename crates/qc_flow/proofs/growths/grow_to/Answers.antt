@@ -128,4 +128,4 @@ returns-in_err-grow-clause-grown c =
     let number : seat ≡ (holder q).number = sym (ap (λ (z : Held Parts Event ghosts). (holder z).number) c.holds.ensures.same ∙ number_on s k i.goes_on) in
     let asked = subst (λ (z : Held Parts Event ghosts). AsksBlock seat n z.value z.ranges m.value m.ranges (Err e)) c.holds.ensures.same (asked_block seat n q m c.grow.result (Err e) c.in_err-grow.was number c.grow.ensures.found) in
     handed_on c.from_residual.result e (GrowsShort seat n s.value s.ranges m.value m.ranges) c.from_residual.ensures.1
-        (record { count = i.grown.0; server = k.value; ranges = k.ranges; grown = i.grown.1; last = asked })
+    (record { count = i.grown.0; server = k.value; ranges = k.ranges; grown = i.grown.1; last = asked })
