@@ -52,17 +52,17 @@ use Rattle.qc_sound.proofs.Fresh.{no_chain, no_entry}
 use Rattle.qc_sound.proofs.Handed.{times, times_append, times_permuted, self_one, permuted, pin_hands, pin_pins}
 use Rattle.qc_sound.proofs.Needs.{needs_close}
 use Rattle.qc_sound.proofs.Starts.{start_step, start_lists}
-use Rattle.qc_core.specs.declared.hands.Hand.{Hand}
-use Rattle.qc_core.specs.declared.takes.Taken.{Taken}
-use Rattle.qc_core.specs.declared.parts.RunningTask.{RunningTask}
-use Rattle.qc_core.specs.declared.parts.Parts.{Parts}
+use Rattle.qc_core.specs.declared.reserved_blocks.ReservedBlocks.{ReservedBlocks}
+use Rattle.qc_core.specs.declared.start_blocks.Taken.{Taken}
+use Rattle.qc_core.specs.declared.server_state.RunningTask.{RunningTask}
+use Rattle.qc_core.specs.declared.server_state.ServerState.{ServerState}
 use Rattle.qc_core.specs.Whole.{Named, is_named, IsNamedAs, chain_blocks, chain_bytes, chain_in, stored, table_pair, work_in, plain, tasks_of, IsNamed, ChainsHaveRoom, IsWhole, with_event}
 use Rattle.qc_core.specs.KeptLaws.{tasks_same}
-use Rattle.qc_core.specs.Leaves.{table_blocks}
-use Rattle.qc_core.specs.Starts.{HasStartRoom, new_entry, fill_of, AddsFill}
-use Rattle.qc_core.specs.Takes.{holds, starts, IsStarting}
-use Rattle.qc_core.specs.Grows.{MayAppend}
-use Rattle.qc_core.specs.Adds.{MayAdd, IsAdded}
+use Rattle.qc_core.specs.EntryRemoval.{table_blocks}
+use Rattle.qc_core.specs.EntryStart.{HasStartRoom, new_entry, fill_of, AddsFill}
+use Rattle.qc_core.specs.Allocation.{holds, starts, IsStarting}
+use Rattle.qc_core.specs.FillGrowth.{MayAppend}
+use Rattle.qc_core.specs.EntryInsertion.{MayAdd, IsAdded}
 use Rattle.qc_core.proofs.Appending.{get_else}
 use Rattle.qc_core.proofs.Handing.{hand_fresh}
 use Rattle.qc_core.proofs.Noting.{alone, none_listed}
@@ -117,7 +117,7 @@ free_there (Some x ∷ l) h = let r = free_there l h in (suc r.0, omega (arith, 
 pub name_begun : (cs : Chained) (n : ℕ) → slice_get cs.chains n ≡ Some None → chain_at n (with_chain n (Some empty_chain) cs) ≡ Some empty_chain
 name_begun cs n free = ap (λ (o : Option (Option Kept)). option_and_then (λ x. x) o) (get_put cs.chains n None (Some empty_chain) free)
 
-abbrev pub may_append_first : (s : Parts) (cs : Chained) (n : ℕ) (t : Taken) (serial wide : ℕ) (hand : Hand) → MayAdd serial hand t s wide → slice_get s.chains.chains n ≡ Some None → cs ≡ with_chain n (Some empty_chain) s.chains → MayAppend n t.first (record s { chains = cs }) wide
+abbrev pub may_append_first : (s : ServerState) (cs : Chained) (n : ℕ) (t : Taken) (serial wide : ℕ) (hand : ReservedBlocks) → MayAdd serial hand t s wide → slice_get s.chains.chains n ≡ Some None → cs ≡ with_chain n (Some empty_chain) s.chains → MayAppend n t.first (record s { chains = cs }) wide
 may_append_first s cs n t serial wide hand m free is = record {
   held = empty_chain;
   begun = subst (λ (x : Chained). chain_at n x ≡ Some empty_chain) (sym is) (name_begun s.chains n free);
@@ -191,7 +191,7 @@ pub serial_absent : (n : ℕ) (cs : Chained) (es : List Entry) → AllByRecursio
 serial_absent n cs [] h = refl
 serial_absent n cs (e ∷ es) h = ap (λ b. cond b (Some e) (entry_at n es)) h.0 ∙ serial_absent n cs es h.1
 
-module _ (who : Who) (serial : ℕ) (key : List ℕ) (tables : List TableName) (hand : Hand) (t : Taken) (words : List ℕ) (s : Parts) (st : IsStarting (starts who serial key tables) words [] (t.text ∷ t.first ∷ []) hand s) where
+module _ (who : Who) (serial : ℕ) (key : List ℕ) (tables : List TableName) (hand : ReservedBlocks) (t : Taken) (words : List ℕ) (s : ServerState) (st : IsStarting (starts who serial key tables) words [] (t.text ∷ t.first ∷ []) hand s) where
   abbrev p : PlainServer
   p = plain st.names s
 
@@ -251,7 +251,7 @@ module _ (who : Who) (serial : ℕ) (key : List ℕ) (tables : List TableName) (
           task_room = tasks;
         }
 
-    module _ (seat : ℕ) (new : Parts) (a : IsAdded seat serial key hand t s new) where
+    module _ (seat : ℕ) (new : ServerState) (a : IsAdded seat serial key hand t s new) where
       abbrev name : ℕ
       name = a.name
 
@@ -296,7 +296,7 @@ module _ (who : Who) (serial : ℕ) (key : List ℕ) (tables : List TableName) (
       abbrev ev : Event
       ev = event.Run who (how.Start serial key hand.tables)
 
-      abbrev so : Parts
+      abbrev so : ServerState
       so = record s {
         dir = new.dir;
         chains = cs;
@@ -448,23 +448,23 @@ module _ (who : Who) (serial : ℕ) (key : List ℕ) (tables : List TableName) (
         tasks_are : tasks_of (with_event ev so) ≡ listed_tasks then
         tasks_are = tasks_same names (with_event ev so) so_whole.named ∙ ap listed_tasks plain_is
 
-        pub added_whole : (v : Parts) → v ≡ with_event ev new → IsWhole (at_rest hash) names words v
+        pub added_whole : (v : ServerState) → v ≡ with_event ev new → IsWhole (at_rest hash) names words v
         added_whole v is = subst (IsWhole (at_rest hash) names words) (sym (is ∙ ap (with_event ev) a.server)) so_whole
 
-        pub added_others : (v : Parts) → v ≡ with_event ev new → (k : ℕ) → k ≢ seat → listed_for k (tasks_of v) ≡ listed_for k (tasks_of s)
+        pub added_others : (v : ServerState) → v ≡ with_event ev new → (k : ℕ) → k ≢ seat → listed_for k (tasks_of v) ≡ listed_for k (tasks_of s)
         added_others v is k ne =
-            ap (λ (x : Parts). listed_for k (tasks_of x)) (is ∙ ap (with_event ev) a.server) ∙ (ap (listed_for k) tasks_are ∙ (lists.others k ne ∙ ap (listed_for k) (sym (tasks_same st.names s st.whole.named))))
+            ap (λ (x : ServerState). listed_for k (tasks_of x)) (is ∙ ap (with_event ev) a.server) ∙ (ap (listed_for k) tasks_are ∙ (lists.others k ne ∙ ap (listed_for k) (sym (tasks_same st.names s st.whole.named))))
 
-        pub added_alone : (v : Parts) → v ≡ with_event ev new → listed_for seat (tasks_of v) ≡ own seat (task.Fill serial) (t.first ∷ [])
+        pub added_alone : (v : ServerState) → v ≡ with_event ev new → listed_for seat (tasks_of v) ≡ own seat (task.Fill serial) (t.first ∷ [])
         added_alone v is =
-            ap (λ (x : Parts). listed_for seat (tasks_of x)) (is ∙ ap (with_event ev) a.server) ∙ (ap (listed_for seat) tasks_are ∙ (lists.alone ∙ ap (own seat (task.Fill serial)) (at_new serial p.chains (t.first ∷ []) chainless)))
+            ap (λ (x : ServerState). listed_for seat (tasks_of x)) (is ∙ ap (with_event ev) a.server) ∙ (ap (listed_for seat) tasks_are ∙ (lists.alone ∙ ap (own seat (task.Fill serial)) (at_new serial p.chains (t.first ∷ []) chainless)))
 
-        pub adds_so : (v : Parts) → v ≡ with_event ev new → AddsFill seat serial key tables t.first t.text s v
+        pub adds_so : (v : ServerState) → v ≡ with_event ev new → AddsFill seat serial key tables t.first t.text s v
         adds_so v is =
             let v_is = is ∙ ap (with_event ev) a.server in
             record {
               chain = name;
               free = a.free;
-              entries = ap (λ (x : Parts). x.dir.entries) v_is ∙ (a.dir.entries ∙ ap (λ ts. s.dir.entries ++ new_entry serial key ts t.text name ∷ []) same);
+              entries = ap (λ (x : ServerState). x.dir.entries) v_is ∙ (a.dir.entries ∙ ap (λ ts. s.dir.entries ++ new_entry serial key ts t.text name ∷ []) same);
               server = v_is ∙ (λ i. record so { journal = (sym v_is i).journal; dir = (sym v_is i).dir });
             }

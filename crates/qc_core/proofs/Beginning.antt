@@ -9,7 +9,7 @@ use Rattle.qc_tiles.specs.Tiles.{IsTiling, fresh, free_tile, handed_out}
 use Rattle.qc_turn.specs.Releases.{IsFresh}
 use Rattle.qc_sound.specs.parts.Memory.{pinned_blocks}
 use Rattle.qc_laws.specs.history.Runs.{are_distinct}
-use Rattle.qc_core.specs.declared.parts.Parts.{Parts}
+use Rattle.qc_core.specs.declared.server_state.ServerState.{ServerState}
 use Rattle.qc_core.specs.contracts.server.ServerKept.TheImpl.{ghosts}
 use Rattle.std.specs.Prelude.{map, IfSome}
 use Rattle.std.specs.List.{list_any, AllByRecursion}
@@ -22,7 +22,7 @@ use Rattle.qc_sound.specs.PlainServer.{PlainServer}
 use Rattle.qc_sound.specs.Sound.{IsSound}
 use Rattle.qc_sound.specs.Moment.{at_rest}
 use Rattle.qc_sound.specs.PlainServer.{serial_of}
-use Rattle.qc_core.specs.declared.parts.RunningTask.{RunningTask}
+use Rattle.qc_core.specs.declared.server_state.RunningTask.{RunningTask}
 use Rattle.qc_chain.specs.Chains.{no_chains}
 use Rattle.qc_core.proofs.ChainRooms.{fresh_room}
 use Rattle.qc_core.specs.Whole.{ChainsHaveRoom, plain, stored, table_pair, work_in, listed_in, IsNamedAs}
@@ -34,7 +34,7 @@ no_pins : (words : ℕ) → pinned_blocks (fresh words) ≡ []
 no_pins words = elim (eqb words 0) as (λ b. pinned_blocks (cond b [] (free_tile 0 words ∷ [])) ≡ []) [ true ↦ refl | false ↦ refl ]
 
 -- nothing is in it
-pub record IsNew (s : Parts) : Type 0 where
+pub record IsNew (s : ServerState) : Type 0 where
   pub size : s.options.size % 1024 ≡ 0
   pub unit : (s.options.unit % 8 ≡ 0) × (512 ≤ s.options.unit)
   pub events : s.journal.events ≡ []
@@ -52,10 +52,10 @@ pub record IsNew (s : Parts) : Type 0 where
   pub tasks : s.tasks.items ≡ []
   pub task_room : s.tasks.room ≡ 65
 
-abbrev nothing : Parts → PlainServer
+abbrev nothing : ServerState → PlainServer
 nothing s = record { options = s.options; journal = []; spare = s.journal.spare; database = empty_database; entries = []; chains = []; table_blocks = []; tiles = fresh (region_words s.options); connected = []; tasks = [] }
 
-nothing_sound : (s : Parts) → IsNew s → IsSound (at_rest hash) (replicate (region_words s.options) 0) (nothing s)
+nothing_sound : (s : ServerState) → IsNew s → IsSound (at_rest hash) (replicate (region_words s.options) 0) (nothing s)
 nothing_sound s h = record {
   rounded = record { size = omega (arith, h.size); unit = omega (arith, h.unit.0); least = omega (arith, h.unit.0, h.unit.1) };
   region = length-replicate {A = ℕ} (region_words s.options) 0;
@@ -75,7 +75,7 @@ nothing_sound s h = record {
   tasks = record { connected = tt; one_each = refl; each = tt; filled = tt; users = tt };
 }
 
-plain_nothing : (s : Parts) → IsNew s → plain [] s ≡ nothing s
+plain_nothing : (s : ServerState) → IsNew s → plain [] s ≡ nothing s
 plain_nothing s h = λ i. record {
   options = s.options;
   journal = h.events i;
@@ -89,7 +89,7 @@ plain_nothing s h = λ i. record {
   tasks = map work_in (h.tasks i);
 }
 
-pub fresh_of : (s : Parts) → IsNew s → IsFresh ghosts (region_words s.options) s
+pub fresh_of : (s : ServerState) → IsNew s → IsFresh ghosts (region_words s.options) s
 fresh_of s h = record {
   sound = (
     [],

@@ -8,7 +8,7 @@ use Rattle.qc_turn.specs.Releases.{IsFreeOfOthers}
 use Rattle.qc_turn.specs.Views.{idle_of}
 use Rattle.qc_turn.specs.Seats.{Held, holder, words, taken, IsHeld, SameHolder}
 use Rattle.qc_turn.proofs.Holders.{taken_is, number_is, same_on}
-use Rattle.qc_core.specs.Compacts.{MayCarry, HasCarried}
+use Rattle.qc_core.specs.Compaction.{MayCarry, HasCarried}
 use Rattle.qc_core.proofs.Spelling.{is_same, outside_on}
 
 module _ {V E : Type 0} {K : Ghosts V E} where

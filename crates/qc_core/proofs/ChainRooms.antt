@@ -10,7 +10,7 @@ use Rattle.qc_chain.specs.Chains.{Chain as Kept}
 use Rattle.qc_sound.specs.PlainServer.{EntryChain}
 use Rattle.qc_sound.proofs.Handed.{permuted, times_append}
 use Rattle.qc_core.specs.Whole.{Named, is_named, IsNamedAs, chain_blocks, chain_in, ChainsHaveRoom}
-use Rattle.qc_core.specs.Leaves.{released}
+use Rattle.qc_core.specs.EntryRemoval.{released}
 use Rattle.qc_core.proofs.Seating.{found_less}
 use Rattle.qc_core.proofs.OwnBlocks.{chain_count}
 use Rattle.qc_core.proofs.Remaining.{IsOther, without_name, chain_found, chains_left}

@@ -31,12 +31,12 @@ use Rattle.qc_sound.specs.Moment.{at_rest}
 use Rattle.qc_sound.specs.parts.Directory.{IsStoredAs}
 use Rattle.qc_sound.specs.steps.Leaving.{staying, is_touched}
 use Rattle.qc_sound.proofs.Needs.{needs_push}
-use Rattle.qc_core.specs.declared.parts.Parts.{Parts}
+use Rattle.qc_core.specs.declared.server_state.ServerState.{ServerState}
 use Rattle.qc_core.specs.Whole.{stored, plain, tasks_of, Sound, with_event}
 use Rattle.qc_core.specs.Calls.{HasSpare}
-use Rattle.qc_core.specs.Leaves.{MayLeave}
-use Rattle.qc_core.specs.Cuts.{HasSoundBlocks, LeaveInTurn, is_removed}
-use Rattle.qc_core.specs.Commits.{named_table, is_on, is_named_by, tables_dropped_by, tables_dropped, uses_touched, EntriesHaveTables, TakesOut, with_database, IsCommitted}
+use Rattle.qc_core.specs.EntryRemoval.{MayLeave}
+use Rattle.qc_core.specs.EntriesCut.{HasSoundBlocks, LeaveInTurn, is_removed}
+use Rattle.qc_core.specs.Invalidation.{named_table, is_on, is_named_by, tables_dropped_by, tables_dropped, uses_touched, EntriesHaveTables, TakesOut, with_database, IsCommitted}
 use Rattle.qc_core.proofs.Cutting.{whole_blocks}
 use Rattle.qc_core.proofs.Emptying.{cut_tasks, commit_whole}
 use Rattle.qc_core.proofs.Dropping.{in_turn, turn_cut, turn_others, left_entries, removed_stored, filter_twice, filter_all, filter_same, drop_item, drop_end}
@@ -46,18 +46,18 @@ use Rattle.qc_core.proofs.Noting.{alone}
 
 -- ---- in turn
 
-pub takes_both : (p q : Entry → Bool) (old mid new : Parts) → TakesOut p old mid → TakesOut q mid new → TakesOut (λ e. q e || p e) old new
+pub takes_both : (p q : Entry → Bool) (old mid new : ServerState) → TakesOut p old mid → TakesOut q mid new → TakesOut (λ e. q e || p e) old new
 takes_both p q old mid new a b = record {
   serials = b.serials ++ a.serials;
   left = in_turn b.serials a.serials old mid new a.left b.left;
   entries = b.entries ∙ (ap (filter (λ e. not (q e))) a.entries ∙ filter_twice q p old.dir.entries);
 }
 
-pub takes_same : (p q : Entry → Bool) (old new : Parts) → AllByRecursion (λ e. p e ≡ q e) old.dir.entries → TakesOut p old new → TakesOut q old new
+pub takes_same : (p q : Entry → Bool) (old new : ServerState) → AllByRecursion (λ e. p e ≡ q e) old.dir.entries → TakesOut p old new → TakesOut q old new
 takes_same p q old new h a = record { serials = a.serials; left = a.left; entries = a.entries ∙ filter_same p q old.dir.entries h }
 
 -- those that use a touched table are out, where the ones that name the operations' tables and the dropped ones are
-pub touched_out : (ops : List RowOp) (d : Database) (dropped : List TableName) (s mid new : Parts) → EntriesHaveTables s → dropped ≡ tables_dropped ops s.database → TakesOut (λ e. list_any (λ t. names_table t e) dropped) (with_database d s) mid
+pub touched_out : (ops : List RowOp) (d : Database) (dropped : List TableName) (s mid new : ServerState) → EntriesHaveTables s → dropped ≡ tables_dropped ops s.database → TakesOut (λ e. list_any (λ t. names_table t e) dropped) (with_database d s) mid
     → TakesOut (λ e. list_any (λ o. is_named_by o e) ops) mid new → TakesOut (uses_touched ops) (with_database d s) new
 touched_out ops d dropped s mid new have is a b =
     let all = tables_dropped ops s.database in
@@ -71,7 +71,7 @@ stored_tables cs d [] h = tt
 stored_tables cs d (e ∷ es) h = (h.0, stored_tables cs d es h.1)
 
 -- the tables of each entry of a server that stands are there
-pub have_tables : (words : List ℕ) (s : Parts) → Sound words s → EntriesHaveTables s
+pub have_tables : (words : List ℕ) (s : ServerState) → Sound words s → EntriesHaveTables s
 have_tables words s h =
     let w = h.1 in
     let j = s.journal.events in
@@ -87,7 +87,7 @@ have_tables words s h =
 -- ---- the database
 
 -- entries leave whatever the database is
-pub turn_database : (d : Database) (serials : List ℕ) (old new : Parts) → LeaveInTurn serials old new → LeaveInTurn serials (with_database d old) (with_database d new)
+pub turn_database : (d : Database) (serials : List ℕ) (old new : ServerState) → LeaveInTurn serials old new → LeaveInTurn serials (with_database d old) (with_database d new)
 turn_database d [] old new same = ap (with_database d) same
 turn_database d (n ∷ ns) old new l =
     let one = l.2 in
@@ -107,7 +107,7 @@ touched_stored who ops cs (e ∷ es) = elim (uses_touched ops e) as (λ b. map (
 pub carried_out : (ops : List RowOp) (d x : Database) → fitting (apply ops d) ≡ Ok x → (is_within_rows (apply ops d) ≡ true) × (x ≡ apply ops d)
 carried_out ops d x is = let f = fitted (apply ops d) x is in (within_rows (apply ops d) f.0, f.1)
 
-pub commit_left : (words : List ℕ) (s v : Parts) (who : Who) (ops : List RowOp) (seat : ℕ) (idle : List ℕ) → Sound words s → 0 < seat → who.session ≡ seat - 1 → who.number ≡ event_count s.journal.events who.session + 1 → listed_for seat (tasks_of s) ≡ [] → HasSpare s
+pub commit_left : (words : List ℕ) (s v : ServerState) (who : Who) (ops : List RowOp) (seat : ℕ) (idle : List ℕ) → Sound words s → 0 < seat → who.session ≡ seat - 1 → who.number ≡ event_count s.journal.events who.session + 1 → listed_for seat (tasks_of s) ≡ [] → HasSpare s
     → 0 < length ops → ops_fit ops s.database ≡ true → list_all is_small_operation ops ≡ true → is_within_rows (apply ops s.database) ≡ true → IsCommitted who ops s v → IsLeft words seat idle s v
 commit_left words s v who ops seat idle sound ps is number free room some fit small within r =
     let w = sound.1 in
@@ -124,17 +124,17 @@ commit_left words s v who ops seat idle sound ps is number free room some fit sm
     let may : MayCommit s.journal.events ops = record { some = some; fit = subst (λ x. ops_fit ops x ≡ true) w.sound.journal.database fit; not_full = subst (λ x. is_within_rows (apply ops x) ≡ true) w.sound.journal.database within } in
     let whole = commit_whole (at_rest hash) names serials words s t k who ops w same (a.decides, may, small) small (needs_push s.options s.journal.events e w.sound.journal.needs tt) a.none room in
     let others = turn_others serials (with_database d s) r.mid r.out.left in
-    let made : r.mid.database ≡ d = ap (λ (x : Parts). x.database) others in
+    let made : r.mid.database ≡ d = ap (λ (x : ServerState). x.database) others in
     let back : with_event e (with_database d r.mid) ≡ v = (λ i. with_event e (with_database (sym made i) r.mid)) ∙ sym r.server in
     let listed : tasks_of r.mid ≡ tasks_of s = cut_tasks (at_rest hash) names serials s t k w.named in
     record {
       sound = subst (Sound words) back (k.names, whole);
-      follows = subst (Follows ghosts seat idle s) (sym r.server) (left_follows s r.mid e who seat idle refl ps is (ap (λ (x : Parts). x.journal) others) (ap (λ (x : Parts). x.options) others) (ap (λ (x : Parts). x.connected) others) listed);
+      follows = subst (Follows ghosts seat idle s) (sym r.server) (left_follows s r.mid e who seat idle refl ps is (ap (λ (x : ServerState). x.journal) others) (ap (λ (x : ServerState). x.options) others) (ap (λ (x : ServerState). x.connected) others) listed);
       listed = ap tasks_of r.server ∙ listed;
     }
 
 -- whatever the answer is: where it is an error, nothing changed
-pub commit_any : (words : List ℕ) (s v : Parts) (who : Who) (ops : List RowOp) (seat : ℕ) (idle : List ℕ) (answer : Result ℕ (Or TableFull)) → Sound words s → 0 < seat → who.session ≡ seat - 1 → who.number ≡ event_count s.journal.events who.session + 1 → listed_for seat (tasks_of s) ≡ [] → HasSpare s
+pub commit_any : (words : List ℕ) (s v : ServerState) (who : Who) (ops : List RowOp) (seat : ℕ) (idle : List ℕ) (answer : Result ℕ (Or TableFull)) → Sound words s → 0 < seat → who.session ≡ seat - 1 → who.number ≡ event_count s.journal.events who.session + 1 → listed_for seat (tasks_of s) ≡ [] → HasSpare s
     → 0 < length ops → ops_fit ops s.database ≡ true → list_all is_small_operation ops ≡ true → Gives (λ number. v.database) (λ full. full.table) answer (fitting (apply ops s.database)) → OnOk answer (IsCommitted who ops s v) → OnErr answer (v ≡ s) → IsLeft words seat idle s v
 commit_any words s v who ops seat idle (Ok n) sound ps is number free room some fit small made ok err = commit_left words s v who ops seat idle sound ps is number free room some fit small (carried_out ops s.database v.database made).0 ok
 commit_any words s v who ops seat idle (Err e) sound ps is number free room some fit small made ok err =
@@ -147,7 +147,7 @@ commit_any words s v who ops seat idle (Err e) sound ps is number free room some
 -- ---- what the code asks
 
 -- blocks are sound whatever the database is
-pub blocks_database : (d : Database) (s : Parts) → HasSoundBlocks s → HasSoundBlocks (with_database d s)
+pub blocks_database : (d : Database) (s : ServerState) → HasSoundBlocks s → HasSoundBlocks (with_database d s)
 blocks_database d s h =
     let b = h.sound in
     record {
@@ -167,13 +167,13 @@ blocks_database d s h =
       };
     }
 
-pub out_spare : (p : Entry → Bool) (old new : Parts) → TakesOut p old new → new.journal.spare ≡ old.journal.spare
-out_spare p old new h = ap (λ (x : Parts). x.journal.spare) (turn_others h.serials old new h.left)
+pub out_spare : (p : Entry → Bool) (old new : ServerState) → TakesOut p old new → new.journal.spare ≡ old.journal.spare
+out_spare p old new h = ap (λ (x : ServerState). x.journal.spare) (turn_others h.serials old new h.left)
 
-pub out_database : (p : Entry → Bool) (old new : Parts) → TakesOut p old new → new.database ≡ old.database
-out_database p old new h = ap (λ (x : Parts). x.database) (turn_others h.serials old new h.left)
+pub out_database : (p : Entry → Bool) (old new : ServerState) → TakesOut p old new → new.database ≡ old.database
+out_database p old new h = ap (λ (x : ServerState). x.database) (turn_others h.serials old new h.left)
 
-pub commits : (who : Who) (ops : List RowOp) (x : Database) (dropped : List TableName) (s mid t v : Parts) → EntriesHaveTables s → dropped ≡ tables_dropped ops s.database → x ≡ apply ops s.database
+pub commits : (who : Who) (ops : List RowOp) (x : Database) (dropped : List TableName) (s mid t v : ServerState) → EntriesHaveTables s → dropped ≡ tables_dropped ops s.database → x ≡ apply ops s.database
     → TakesOut (λ e. list_any (λ t. names_table t e) dropped) (with_database x s) mid → TakesOut (λ e. list_any (λ o. is_named_by o e) ops) mid t → v ≡ with_event (event.Commit who ops) t → IsCommitted who ops s v
 commits who ops x dropped s mid t v have is made a b server = record {
   mid = t;
@@ -182,7 +182,7 @@ commits who ops x dropped s mid t v have is made a b server = record {
 }
 
 -- an operation that names no table takes nothing out
-pub takes_none : (o : RowOp) (s : Parts) → named_table o ≡ None → TakesOut (is_named_by o) s s
+pub takes_none : (o : RowOp) (s : ServerState) → named_table o ≡ None → TakesOut (is_named_by o) s s
 takes_none o s none = record { serials = []; left = refl; entries = sym (ap (λ t. filter (λ e. not (is_on t e)) s.dir.entries) none ∙ filter_all s.dir.entries) }
 
 -- the tables of one more operation

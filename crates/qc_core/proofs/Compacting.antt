@@ -24,11 +24,11 @@ use Rattle.qc_sound.specs.PlainServer.{PlainServer, SeatTask, blocks_of, listed,
 use Rattle.qc_sound.specs.Moment.{at_rest}
 use Rattle.qc_sound.specs.parts.Memory.{pinned_blocks, blocks_of_tasks}
 use Rattle.qc_sound.proofs.Counts.{occurs, occurs_misses, occurs_append, counted_here, all_blocks, tiled_once, parted}
-use Rattle.qc_core.specs.declared.parts.Parts.{Parts}
+use Rattle.qc_core.specs.declared.server_state.ServerState.{ServerState}
 use Rattle.qc_core.specs.contracts.server.ServerKept.TheImpl.{ghosts}
 use Rattle.qc_core.specs.Whole.{Named, plain, tasks_of, IsWhole}
 use Rattle.qc_core.specs.KeptLaws.{tasks_same}
-use Rattle.qc_core.specs.Compacts.{OneFreeBetween}
+use Rattle.qc_core.specs.Compaction.{OneFreeBetween}
 
 -- ---- where the next block goes
 
@@ -144,7 +144,7 @@ of_tasks s = by s.tasks
     by [] = refl
     by (w ∷ ws) = ap (λ l. blocks_of s.chains w.task ++ l) (by ws)
 
-pub move_misses : (names : List Named) (words : List ℕ) (s : Parts) (change : Move) (x n : ℕ) → IsWhole (at_rest hash) names words s → movable s.tiles ≡ Some change → change.to ≤ x → x < change.from + change.words → Misses x (places_of (listed_for n (tasks_of s)))
+pub move_misses : (names : List Named) (words : List ℕ) (s : ServerState) (change : Move) (x n : ℕ) → IsWhole (at_rest hash) names words s → movable s.tiles ≡ Some change → change.to ≤ x → x < change.from + change.words → Misses x (places_of (listed_for n (tasks_of s)))
 move_misses names words s change x n w is low high =
     let p = plain names s in
     let none = pinned_misses (region_words s.options) x s.tiles change w.sound.memory.tiles.tiling is low high in
@@ -163,7 +163,7 @@ fills_missed x (t ∷ ts) h = misses_join x (fill_of t.task t.blocks) (fill_plac
     by (task.Fill s) m = m
 
 -- a word that no other seat's task has in the value is free in the value as taken
-pub free_words : (n x : ℕ) (idle : List ℕ) (taken s : Parts) → Follows ghosts n idle taken s → ((m : ℕ) → Misses x (places_of (listed_for m (tasks_of s)))) → OutsideOtherFills n (tasks_of taken) x × IsFreeOfOthers ghosts n idle x taken
+pub free_words : (n x : ℕ) (idle : List ℕ) (taken s : ServerState) → Follows ghosts n idle taken s → ((m : ℕ) → Misses x (places_of (listed_for m (tasks_of s)))) → OutsideOtherFills n (tasks_of taken) x × IsFreeOfOthers ghosts n idle x taken
 free_words n x idle taken s f none = (
   λ m ne. subst (Misses x) (keeps_fills idle m (listed_for m (tasks_of taken)) (listed_for m (tasks_of s)) (f.tasks m ne)) (fills_missed x (listed_for m (tasks_of s)) (none m)),
   λ m ne. ⊎_elim

@@ -46,14 +46,14 @@ use Rattle.qc_sound.proofs.Done.{done_step, done_lists}
 use Rattle.qc_sound.proofs.Handed.{times, times_append, times_permuted, permuted}
 use Rattle.qc_sound.proofs.Laws.{fills_alone, streams_apart}
 use Rattle.qc_sound.proofs.Needs.{needs_push}
-use Rattle.qc_core.specs.declared.parts.RunningTask.{RunningTask}
-use Rattle.qc_core.specs.declared.parts.Parts.{Parts}
+use Rattle.qc_core.specs.declared.server_state.RunningTask.{RunningTask}
+use Rattle.qc_core.specs.declared.server_state.ServerState.{ServerState}
 use Rattle.qc_core.specs.Whole.{Named, IsNamedAs, chain_blocks, chain_bytes, chain_in, stored, table_pair, work_in, task_blocks, plain, tasks_of, IsNamed, ChainsHaveRoom, IsWhole, with_event}
 use Rattle.qc_core.specs.KeptLaws.{blocks_named, tasks_same}
-use Rattle.qc_core.specs.Pins.{after_unpins, IsUnpinnedSo}
-use Rattle.qc_core.specs.Strikes.{others, without_task_of, MayLetGo}
-use Rattle.qc_core.specs.Cuts.{BlocksAreSound}
-use Rattle.qc_core.specs.Ends.{Fills, HasWhole, MayCut, cut_to, cut_as, MayComplete, EndsFill}
+use Rattle.qc_core.specs.ChainPins.{after_unpins, IsUnpinnedSo}
+use Rattle.qc_core.specs.TaskEnd.{others, without_task_of, MayLetGo}
+use Rattle.qc_core.specs.EntriesCut.{BlocksAreSound}
+use Rattle.qc_core.specs.FillEnd.{Fills, HasWhole, MayCut, cut_to, cut_as, MayComplete, EndsFill}
 use Rattle.qc_core.proofs.Seating.{all_less, all_push, found_less, distinct_parts}
 use Rattle.qc_core.proofs.GivingUp.{room_of}
 use Rattle.qc_core.proofs.Uses.{stored_at, stored_without, serial_at, find_all, all_without}
@@ -69,18 +69,18 @@ use Rattle.qc_core.proofs.Filling.{there_same, some_of, named_n, partial}
 
 -- ---- what a cut leaves
 
-cut_as_dir : (number bytes : ℕ) (o : Option Kept) (s : Parts) → (cut_as number bytes o s).dir ≡ s.dir
+cut_as_dir : (number bytes : ℕ) (o : Option Kept) (s : ServerState) → (cut_as number bytes o s).dir ≡ s.dir
 cut_as_dir number bytes None s = refl
 cut_as_dir number bytes (Some held) s = refl
 
-cut_as_journal : (number bytes : ℕ) (o : Option Kept) (s : Parts) → (cut_as number bytes o s).journal ≡ s.journal
+cut_as_journal : (number bytes : ℕ) (o : Option Kept) (s : ServerState) → (cut_as number bytes o s).journal ≡ s.journal
 cut_as_journal number bytes None s = refl
 cut_as_journal number bytes (Some held) s = refl
 
-pub cut_dir : (number bytes : ℕ) (s : Parts) → (cut_to number bytes s).dir ≡ s.dir
+pub cut_dir : (number bytes : ℕ) (s : ServerState) → (cut_to number bytes s).dir ≡ s.dir
 cut_dir number bytes s = cut_as_dir number bytes (chain_at number s.chains) s
 
-pub cut_journal : (number bytes : ℕ) (s : Parts) → (cut_to number bytes s).journal ≡ s.journal
+pub cut_journal : (number bytes : ℕ) (s : ServerState) → (cut_to number bytes s).journal ≡ s.journal
 cut_journal number bytes s = cut_as_journal number bytes (chain_at number s.chains) s
 
 -- ---- the entries
@@ -227,7 +227,7 @@ tasks_stay n f cs (w ∷ ws) h = let t = neither (is_task_on n w) (list_any (is_
     by (task.Stream m) e = at_other n f m cs e
     by (task.Fill m) e = at_other n f m cs e
 
-module _ (seat n bytes : ℕ) (s : Parts) (u : MayComplete seat n bytes s) where
+module _ (seat n bytes : ℕ) (s : ServerState) (u : MayComplete seat n bytes s) where
   abbrev m : Moment
   m = at_rest hash
 
@@ -380,7 +380,7 @@ module _ (seat n bytes : ℕ) (s : Parts) (u : MayComplete seat n bytes s) where
   abbrev cs : Chained
   cs = with_chain k (Some (cut_chain bytes c.held)) s.chains
 
-  abbrev after_parts : Parts
+  abbrev after_parts : ServerState
   after_parts = record s {
     dir = with_entries (after_complete n s.dir.entries) s.dir;
     chains = cs;
@@ -472,18 +472,18 @@ module _ (seat n bytes : ℕ) (s : Parts) (u : MayComplete seat n bytes s) where
   pub some_room : 1 ≤ s.journal.spare
   some_room = room_of (cache j) cached.0 n s.journal.spare cached.1 u.whole.sound.journal.room
 
-  pub completed : (x : Parts) → x ≡ cut_to k bytes (without_task_of seat s) → IsDirectory (with_entries (after_complete n x.dir.entries) x.dir) → EndsFill ev seat u.words s (with_event ev (record x { dir = with_entries (after_complete n x.dir.entries) x.dir }))
+  pub completed : (x : ServerState) → x ≡ cut_to k bytes (without_task_of seat s) → IsDirectory (with_entries (after_complete n x.dir.entries) x.dir) → EndsFill ev seat u.words s (with_event ev (record x { dir = with_entries (after_complete n x.dir.entries) x.dir }))
   completed x is valid =
       let same : x ≡ cut_as k bytes (Some c.held) (without_task_of seat s) = is ∙ ap (λ o. cut_as k bytes o (without_task_of seat s)) c.begun in
-      subst (λ (z : Parts). IsDirectory (with_entries (after_complete n z.dir.entries) z.dir) → EndsFill ev seat u.words s (with_event ev (record z { dir = with_entries (after_complete n z.dir.entries) z.dir }))) (sym same) completes valid
+      subst (λ (z : ServerState). IsDirectory (with_entries (after_complete n z.dir.entries) z.dir) → EndsFill ev seat u.words s (with_event ev (record z { dir = with_entries (after_complete n z.dir.entries) z.dir }))) (sym same) completes valid
 
 -- ---- what the call asks, of the chain
 
 -- what is listed for the seat is the fill, with the blocks of its chain
-fill_listed : (m : Moment) (names : List Named) (words : List ℕ) (s : Parts) (seat n : ℕ) → IsWhole m names words s → (f : Fills seat n s) → listed_for seat (tasks_of s) ≡ own seat (task.Fill n) (chain_blocks (chain_at f.work.chain.number s.chains))
+fill_listed : (m : Moment) (names : List Named) (words : List ℕ) (s : ServerState) (seat n : ℕ) → IsWhole m names words s → (f : Fills seat n s) → listed_for seat (tasks_of s) ≡ own seat (task.Fill n) (chain_blocks (chain_at f.work.chain.number s.chains))
 fill_listed m names words s seat n h f =
     let bs = chain_blocks (chain_at f.work.chain.number s.chains) in
     one_listed s.chains seat s.tasks.items f.work (once_each m names words s h) f.at ∙ (λ i. record { number = seat_there seat s.tasks.items f.work f.at i; task = f.fill i; blocks = task_blocks (f.fill i) bs } ∷ [])
 
-pub stored_chain : (names : List Named) (words : List ℕ) (s : Parts) (seat n bytes : ℕ) → IsWhole (at_rest hash) names words s → (f : Fills seat n s) → ((bs : List Block) → listed_for seat (tasks_of s) ≡ own seat (task.Fill n) bs → HasWhole words n bytes bs s) → HasWhole words n bytes (chain_blocks (chain_at f.work.chain.number s.chains)) s
+pub stored_chain : (names : List Named) (words : List ℕ) (s : ServerState) (seat n bytes : ℕ) → IsWhole (at_rest hash) names words s → (f : Fills seat n s) → ((bs : List Block) → listed_for seat (tasks_of s) ≡ own seat (task.Fill n) bs → HasWhole words n bytes bs s) → HasWhole words n bytes (chain_blocks (chain_at f.work.chain.number s.chains)) s
 stored_chain names words s seat n bytes h f stored = stored (chain_blocks (chain_at f.work.chain.number s.chains)) (fill_listed (at_rest hash) names words s seat n h f)

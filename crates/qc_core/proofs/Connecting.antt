@@ -10,11 +10,11 @@ use Rattle.qc_sound.specs.Moment.{Moment, at_rest}
 use Rattle.qc_sound.specs.parts.Tasks.{IsSeat}
 use Rattle.qc_sound.proofs.Ending.{seat_step}
 use Rattle.qc_key.specs.Hash.{hash}
-use Rattle.qc_core.specs.declared.parts.Parts.{Parts}
+use Rattle.qc_core.specs.declared.server_state.ServerState.{ServerState}
 use Rattle.qc_core.specs.contracts.server.ServerKept.TheImpl.{ghosts}
 use Rattle.qc_core.specs.Whole.{Named, plain, IsWhole, Sound}
-use Rattle.qc_core.specs.Reserved.{Reserved}
-use Rattle.qc_core.specs.Connects.{is_connected, connects, disconnects}
+use Rattle.qc_core.specs.ListRoom.{Reserved}
+use Rattle.qc_core.specs.Connection.{is_connected, connects, disconnects}
 use Rattle.qc_core.proofs.Seating.{map_same, all_push, all_less, one_less, distinct_less, removed_is, one_more}
 
 any_else : (k n : ℕ) (xs : List ℕ) → k ≢ n → list_any (λ m. m == k) (xs ++ n ∷ []) ≡ list_any (λ m. m == k) xs
@@ -33,17 +33,17 @@ any_less k n (x ∷ xs) ne =
 pub seat_of : (n : ℕ) → 0 < n → n ≤ word_seats → IsSeat n
 seat_of n low high = record { low = low; high = high }
 
-pub connect_follows : (s : Parts) (n : ℕ) (idle : List ℕ) → Follows ghosts n idle s (connects n s)
+pub connect_follows : (s : ServerState) (n : ℕ) (idle : List ℕ) → Follows ghosts n idle s (connects n s)
 connect_follows s n idle = record { journal = ([], sym (append-nil s.journal.events)); others = λ k ne. refl; fixed = refl; connected = λ k ne. any_else k n s.connected.items ne; tasks = λ k ne. inl refl }
 
-pub disconnect_follows : (s : Parts) (n : ℕ) (idle : List ℕ) → Follows ghosts n idle s (disconnects n s)
+pub disconnect_follows : (s : ServerState) (n : ℕ) (idle : List ℕ) → Follows ghosts n idle s (disconnects n s)
 disconnect_follows s n idle = record { journal = ([], sym (append-nil s.journal.events)); others = λ k ne. refl; fixed = refl; connected = λ k ne. any_less k n s.connected.items ne; tasks = λ k ne. inl refl }
 
 -- there is room for a seat that isn't connected
-pub seat_room : (m : Moment) (names : List Named) (words : List ℕ) (s : Parts) (n : ℕ) → IsWhole m names words s → IsSeat n → is_connected n s ≡ false → 0 < s.connected.room
+pub seat_room : (m : Moment) (names : List Named) (words : List ℕ) (s : ServerState) (n : ℕ) → IsWhole m names words s → IsSeat n → is_connected n s ≡ false → 0 < s.connected.room
 seat_room m names words s n h is none = omega (arith, h.seats.room, one_more n s.connected.items h.seats.once h.sound.tasks.connected none is)
 
-pub connect_sound : (words : List ℕ) (s : Parts) (n : ℕ) → Sound words s → IsSeat n → is_connected n s ≡ false → Sound words (connects n s)
+pub connect_sound : (words : List ℕ) (s : ServerState) (n : ℕ) → Sound words s → IsSeat n → is_connected n s ≡ false → Sound words (connects n s)
 connect_sound words s n sound is none =
     let h = sound.1 in
     let more = length-append s.connected.items (n ∷ []) in
@@ -58,7 +58,7 @@ connect_sound words s n sound is none =
       },
     )
 
-pub disconnect_sound : (words : List ℕ) (s : Parts) (n i : ℕ) → Sound words s → slice_get s.connected.items i ≡ Some n → Sound words (disconnects n s)
+pub disconnect_sound : (words : List ℕ) (s : ServerState) (n i : ℕ) → Sound words s → slice_get s.connected.items i ≡ Some n → Sound words (disconnects n s)
 disconnect_sound words s n i sound at =
     let h = sound.1 in
     let distinct : are_distinct (map (λ m. m) s.connected.items) ≡ true = ap are_distinct (map_same s.connected.items) ∙ h.seats.once in

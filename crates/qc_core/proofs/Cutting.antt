@@ -23,10 +23,10 @@ use Rattle.qc_sound.specs.Handed.{IsGivenBack}
 use Rattle.qc_sound.proofs.Filters.{tasks_wanted, pins_stay, or_right, distinct_filter}
 use Rattle.qc_sound.proofs.Handed.{times, times_append, times_permuted, permuted, gives_all}
 use Rattle.qc_sound.proofs.Ending.{none_each}
-use Rattle.qc_core.specs.declared.parts.Parts.{Parts}
+use Rattle.qc_core.specs.declared.server_state.ServerState.{ServerState}
 use Rattle.qc_core.specs.Whole.{Named, is_named, IsNamedAs, chain_blocks, chain_in, stored, table_pair, plain, IsNamed, IsWhole, RoomIsSound}
-use Rattle.qc_core.specs.Leaves.{own_blocks, free_chain, has_task, released, MayLeave, Leaves, left_by}
-use Rattle.qc_core.specs.Cuts.{BlocksAreSound, cut}
+use Rattle.qc_core.specs.EntryRemoval.{own_blocks, free_chain, has_task, released, MayLeave, Leaves, left_by}
+use Rattle.qc_core.specs.EntriesCut.{BlocksAreSound, cut}
 use Rattle.qc_core.proofs.Seating.{found_less}
 use Rattle.qc_core.proofs.Seating.{distinct_less as serials_less}
 use Rattle.qc_core.proofs.Uses.{serials_distinct, all_members, stored_at, stored_without, serial_at, find_all, all_without}
@@ -37,7 +37,7 @@ use Rattle.qc_core.proofs.Remaining.{IsOther, differ, entries_else, stored_same,
 
 -- ---- from the whole
 
-pub whole_blocks : (m : Moment) (names : List Named) (words : List ℕ) (s : Parts) → IsWhole m names words s → BlocksAreSound m names s
+pub whole_blocks : (m : Moment) (names : List Named) (words : List ℕ) (s : ServerState) → IsWhole m names words s → BlocksAreSound m names s
 whole_blocks m names words s h = record {
   named = h.named;
   tiles = h.sound.memory.tiles;
@@ -71,7 +71,7 @@ eqb_other n m h = ne_eqb m n (λ z. true≢false (sym (eq-eqb n m (sym z)) ∙ h
 
 -- ---- one entry
 
-module _ (m : Moment) (names : List Named) (s : Parts) (n : ℕ) (h : BlocksAreSound m names s) (e : Entry) (held : Kept) (there : entry_at n s.dir.entries ≡ Some e) (begun : Begun e.chain.number s.chains held) where
+module _ (m : Moment) (names : List Named) (s : ServerState) (n : ℕ) (h : BlocksAreSound m names s) (e : Entry) (held : Kept) (there : entry_at n s.dir.entries ≡ Some e) (begun : Begun e.chain.number s.chains held) where
   abbrev p : PlainServer
   p = plain names s
 
@@ -173,8 +173,8 @@ module _ (m : Moment) (names : List Named) (s : Parts) (n : ℕ) (h : BlocksAreS
   names_after true = names
   names_after false = without_name n names
 
-  module _ (freed : List TableBlock) (t : Parts) (l : Leaves n e held freed s t) (valid : IsDirectory t.dir) where
-    abbrev so : (on : Bool) → Parts
+  module _ (freed : List TableBlock) (t : ServerState) (l : Leaves n e held freed s t) (valid : IsDirectory t.dir) where
+    abbrev so : (on : Bool) → ServerState
     so on = left_by t.dir on e held freed s
 
     abbrev ts : (on : Bool) → List Tile
@@ -271,8 +271,8 @@ module _ (m : Moment) (names : List Named) (s : Parts) (n : ℕ) (h : BlocksAreS
     one on is room server = record {
       under = names_after on;
       blocks = subst (BlocksAreSound m (names_after on)) (sym server) (blocks_is on is room);
-      plain = ap (plain (names_after on)) server ∙ (plain_is on is ∙ ap (λ (x : Parts). cut (is_stored n) x.tiles (map table_pair t.dir.tables) p) (sym server));
-      pinned = ap (λ (x : Parts). pinned_blocks x.tiles) server ∙ (back (free_chain on held) (count on is) (ts on) freed t.dir.tables l.removed.tables refl).pins;
+      plain = ap (plain (names_after on)) server ∙ (plain_is on is ∙ ap (λ (x : ServerState). cut (is_stored n) x.tiles (map table_pair t.dir.tables) p) (sym server));
+      pinned = ap (λ (x : ServerState). pinned_blocks x.tiles) server ∙ (back (free_chain on held) (count on is) (ts on) freed t.dir.tables l.removed.tables refl).pins;
       others = server ∙ (λ i. record s { dir = t.dir; chains = (sym server i).chains; tiles = (sym server i).tiles });
     }
 

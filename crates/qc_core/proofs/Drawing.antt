@@ -17,14 +17,14 @@ use Rattle.qc_tiles.specs.Tiles.{largest_free}
 use Rattle.qc_chain.specs.Chains.{AreHandedOut, after_release}
 use Rattle.qc_dir.specs.declared.tables.TableBlock.{TableBlock}
 use Rattle.qc_sound.proofs.Handed.{times, times_append}
-use Rattle.qc_core.specs.declared.hands.Hand.{Hand}
-use Rattle.qc_core.specs.declared.takes.Taken.{Taken}
-use Rattle.qc_core.specs.declared.parts.Parts.{Parts}
-use Rattle.qc_core.specs.Leaves.{table_blocks}
-use Rattle.qc_core.specs.Hands.{IsInHand}
-use Rattle.qc_core.specs.Allocates.{PrunesMany}
-use Rattle.qc_core.specs.Starts.{TakesOne, Takes, needs_for}
-use Rattle.qc_core.specs.Takes.{holds, starts, next_of, IsStarting, KeepsRoom, MayTakeOne, PrunesSome, HasNone, TakesKeeping, GivesBlocks, MayTake, TakesTables, HaveSizes, TakesPair, TakesAll, Stops}
+use Rattle.qc_core.specs.declared.reserved_blocks.ReservedBlocks.{ReservedBlocks}
+use Rattle.qc_core.specs.declared.start_blocks.Taken.{Taken}
+use Rattle.qc_core.specs.declared.server_state.ServerState.{ServerState}
+use Rattle.qc_core.specs.EntryRemoval.{table_blocks}
+use Rattle.qc_core.specs.BlocksReserved.{IsInHand}
+use Rattle.qc_core.specs.Eviction.{PrunesMany}
+use Rattle.qc_core.specs.EntryStart.{TakesOne, Takes, needs_for}
+use Rattle.qc_core.specs.Allocation.{holds, starts, next_of, IsStarting, KeepsRoom, MayTakeOne, PrunesSome, HasNone, TakesKeeping, GivesBlocks, MayTake, TakesTables, HaveSizes, TakesPair, TakesAll, Stops}
 use Rattle.qc_core.proofs.FillTasks.{pruned_after}
 use Rattle.qc_core.proofs.Handing.{hand_takes, hand_few}
 use Rattle.qc_core.proofs.Keeping.{reheld}
@@ -53,20 +53,20 @@ text_need o key = by (eqb n least_block || eqb n (raised (unit_words o))) (eqb n
 
 -- ---- needs joined
 
-pub takes_join : (tables : List TableName) (xs ys : List ℕ) (s m t : Parts) (bs cs : List Block) → Takes tables xs s bs m → Takes tables ys m cs t → Takes tables (xs ++ ys) s (bs ++ cs) t
+pub takes_join : (tables : List TableName) (xs ys : List ℕ) (s m t : ServerState) (bs cs : List Block) → Takes tables xs s bs m → Takes tables ys m cs t → Takes tables (xs ++ ys) s (bs ++ cs) t
 takes_join tables [] ys s m t [] cs h k = subst (λ z. Takes tables ys z cs t) h k
 takes_join tables [] ys s m t (b ∷ bs) cs h k = absurd h
 takes_join tables (x ∷ xs) ys s m t [] cs h k = absurd h
 takes_join tables (x ∷ xs) ys s m t (b ∷ bs) cs h k = (h.0, h.1, takes_join tables xs ys h.0 m t bs cs h.2 k)
 
-pub takes_options : (tables : List TableName) (xs : List ℕ) (s t : Parts) (bs : List Block) → Takes tables xs s bs t → t.options ≡ s.options
-takes_options tables [] s t [] h = ap (λ (x : Parts). x.options) h
+pub takes_options : (tables : List TableName) (xs : List ℕ) (s t : ServerState) (bs : List Block) → Takes tables xs s bs t → t.options ≡ s.options
+takes_options tables [] s t [] h = ap (λ (x : ServerState). x.options) h
 takes_options tables [] s t (b ∷ bs) h = absurd h
 takes_options tables (x ∷ xs) s t [] h = absurd h
 takes_options tables (x ∷ xs) s t (b ∷ bs) h = takes_options tables xs h.0 t bs h.2 ∙ one_options tables x s b h.0 h.1
   where
-    one_options : (tables : List TableName) (x : ℕ) (s : Parts) (b : Block) (t : Parts) → TakesOne tables x s b t → t.options ≡ s.options
-    one_options tables x s b t o = ap (λ (x : Parts). x.options) o.server ∙ (pruned_after tables x o.count s o.mid o.prunes).options
+    one_options : (tables : List TableName) (x : ℕ) (s : ServerState) (b : Block) (t : ServerState) → TakesOne tables x s b t → t.options ≡ s.options
+    one_options tables x s b t o = ap (λ (x : ServerState). x.options) o.server ∙ (pruned_after tables x o.count s o.mid o.prunes).options
 
 -- ---- places in a list
 
@@ -93,7 +93,7 @@ drop_all (suc n) (x ∷ l) h = drop_all n l (omega (arith, h))
 -- ---- a table
 
 -- so many of the tables have got their blocks
-pub record Drawing (next : Option Event) (words : List ℕ) (missing : List TableName) (n : ℕ) (before hand : Hand) (old now : Parts) : Type 0 where
+pub record Drawing (next : Option Event) (words : List ℕ) (missing : List TableName) (n : ℕ) (before hand : ReservedBlocks) (old now : ServerState) : Type 0 where
   pub blocks : List Block
   pub takes : Takes before.tables (map (λ t. least_block) (take n missing)) old blocks now
   pub starting : IsStarting next words (drop n missing) [] hand now
@@ -101,7 +101,7 @@ pub record Drawing (next : Option Event) (words : List ℕ) (missing : List Tabl
   pub room : KeepsRoom old now
   pub gives : GivesBlocks (take n missing) blocks before hand old now
 
-pub drawing_start : (missing : List TableName) (bytes : ℕ) (hand : Hand) (s : Parts) (u : MayTake missing bytes hand s) → Drawing (next_of missing bytes hand s u) u.words missing 0 hand hand s s
+pub drawing_start : (missing : List TableName) (bytes : ℕ) (hand : ReservedBlocks) (s : ServerState) (u : MayTake missing bytes hand s) → Drawing (next_of missing bytes hand s u) u.words missing 0 hand hand s s
 drawing_start missing bytes hand s u = record {
   blocks = [];
   takes = refl;
@@ -111,11 +111,11 @@ drawing_start missing bytes hand s u = record {
   gives = record { given = []; named = refl; taken = refl; only = λ all h. subst (λ (ts : List TableBlock). AllByRecursion (Contains ts) (hand.fresh ++ s.dir.tables)) (sym (append-nil all)) h };
 }
 
-abbrev pub may_take_table : (next : Option Event) (words : List ℕ) (t : TableName) (rest : List TableName) (hand : Hand) (s : Parts) → IsStarting next words (t ∷ rest) [] hand s → ((j : Journal) → PruneHasNeed s.options j least_block next) → MayTakeOne least_block hand s
+abbrev pub may_take_table : (next : Option Event) (words : List ℕ) (t : TableName) (rest : List TableName) (hand : ReservedBlocks) (s : ServerState) → IsStarting next words (t ∷ rest) [] hand s → PruneHasNeed s.options s.journal.events least_block next → MayTakeOne least_block hand s
 may_take_table next words t rest hand s st needs = record { next = next; words = words; missing = t ∷ rest; others = []; starting = st; least = omega arith; needs = needs; few = omega arith; small = tt }
 
-module _ (next : Option Event) (words : List ℕ) (t : TableName) (rest : List TableName) (hand : Hand) (s : Parts) (b : Block) (st : IsStarting next words (t ∷ rest) (b ∷ []) hand s) (low : b.words ≤ 127) where
-  abbrev more : Hand
+module _ (next : Option Event) (words : List ℕ) (t : TableName) (rest : List TableName) (hand : ReservedBlocks) (s : ServerState) (b : Block) (st : IsStarting next words (t ∷ rest) (b ∷ []) hand s) (low : b.words ≤ 127) where
+  abbrev more : ReservedBlocks
   more = record { tables = hand.tables; fresh = hand.fresh ++ record { table = t; block = b } ∷ [] }
 
   in_hand : IsInHand more rest s.dir.tables
@@ -145,7 +145,7 @@ module _ (next : Option Event) (words : List ℕ) (t : TableName) (rest : List T
 
 -- ---- the tables, one after another
 
-module _ (next : Option Event) (words : List ℕ) (missing : List TableName) (n : ℕ) (before hand : Hand) (old now : Parts) (d : Drawing next words missing n before hand old now) (t : TableName) (inside : n < length missing) (is : t ≡ get_or missing n t) where
+module _ (next : Option Event) (words : List ℕ) (missing : List TableName) (n : ℕ) (before hand : ReservedBlocks) (old now : ServerState) (d : Drawing next words missing n before hand old now) (t : TableName) (inside : n < length missing) (is : t ≡ get_or missing n t) where
   left_is : drop n missing ≡ t ∷ drop (n + 1) missing
   left_is = drop_at_place missing n t inside is
 
@@ -155,7 +155,7 @@ module _ (next : Option Event) (words : List ℕ) (missing : List TableName) (n 
   needs_join : map (λ t. least_block) (take (n + 1) missing) ≡ map (λ t. least_block) (take n missing) ++ least_block ∷ []
   needs_join = ap (map (λ t. least_block)) (take_at_place missing n t inside is) ∙ map-append (λ t. least_block) (take n missing) (t ∷ [])
 
-  pub draws_on : (after : Hand) (b : Block) (new : Parts) → TakesKeeping least_block next words (t ∷ drop (n + 1) missing) [] hand after now b new → Drawing next words missing (n + 1) before (record { tables = after.tables; fresh = after.fresh ++ record { table = t; block = b } ∷ [] }) old new
+  pub draws_on : (after : ReservedBlocks) (b : Block) (new : ServerState) → TakesKeeping least_block next words (t ∷ drop (n + 1) missing) [] hand after now b new → Drawing next words missing (n + 1) before (record { tables = after.tables; fresh = after.fresh ++ record { table = t; block = b } ∷ [] }) old new
   draws_on after b new k = record {
     blocks = d.blocks ++ b ∷ [];
     takes = subst (λ l. Takes before.tables l old (d.blocks ++ b ∷ []) new) (sym needs_join) (takes_join before.tables (map (λ t. least_block) (take n missing)) (least_block ∷ []) old now new d.blocks (b ∷ []) d.takes (new, subst (λ ts. TakesOne ts least_block now b new) d.tables k.takes, refl));
@@ -173,14 +173,14 @@ module _ (next : Option Event) (words : List ℕ) (missing : List TableName) (n 
         };
   }
 
-  pub draw_room : (after : Hand) (b : Block) (new : Parts) → TakesKeeping least_block next words (t ∷ drop (n + 1) missing) [] hand after now b new → length after.fresh < 8
+  pub draw_room : (after : ReservedBlocks) (b : Block) (new : ServerState) → TakesKeeping least_block next words (t ∷ drop (n + 1) missing) [] hand after now b new → length after.fresh < 8
   draw_room after b new k = push_room next words t (drop (n + 1) missing) after new b k.starting (omega (arith, k.small))
 
   pub needs_split : map (λ t. least_block) missing ≡ map (λ t. least_block) (take n missing) ++ least_block ∷ map (λ t. least_block) (drop (n + 1) missing)
   needs_split = ap (map (λ t. least_block)) (sym (take-append-drop n missing)) ∙ (map-append (λ t. least_block) (take n missing) (drop n missing) ∙ ap (λ l. map (λ t. least_block) (take n missing) ++ map (λ t. least_block) l) left_is)
 
 -- all are there
-pub draws_all : (next : Option Event) (words : List ℕ) (missing : List TableName) (n : ℕ) (before hand : Hand) (old now : Parts) → n ≡ length missing → Drawing next words missing n before hand old now → TakesTables next words missing before hand old now
+pub draws_all : (next : Option Event) (words : List ℕ) (missing : List TableName) (n : ℕ) (before hand : ReservedBlocks) (old now : ServerState) → n ≡ length missing → Drawing next words missing n before hand old now → TakesTables next words missing before hand old now
 draws_all next words missing n before hand old now all d = record {
   blocks = d.blocks;
   takes = subst (λ l. Takes before.tables (map (λ t. least_block) l) old d.blocks now) (take_all n missing (omega (arith, all))) d.takes;
@@ -192,7 +192,7 @@ draws_all next words missing n before hand old now all d = record {
 
 -- ---- a need gets none
 
-module _ (done : List ℕ) (need : ℕ) (rest : List ℕ) (next : Option Event) (words : List ℕ) (missing : List TableName) (others : List Block) (before hand : Hand) (tables : List TableName) (same : before.tables ≡ tables) (old mid last : Parts) (blocks : List Block) (e : NoTile) (takes : Takes tables done old blocks mid) (some : PrunesSome need next words missing others before hand mid last) (none : HasNone need last e) (least : least_block ≤ need) (room : KeepsRoom old mid) where
+module _ (done : List ℕ) (need : ℕ) (rest : List ℕ) (next : Option Event) (words : List ℕ) (missing : List TableName) (others : List Block) (before hand : ReservedBlocks) (tables : List TableName) (same : before.tables ≡ tables) (old mid last : ServerState) (blocks : List Block) (e : NoTile) (takes : Takes tables done old blocks mid) (some : PrunesSome need next words missing others before hand mid last) (none : HasNone need last e) (least : least_block ≤ need) (room : KeepsRoom old mid) where
   size_is : e ≡ record { need = need; largest = largest_free last.tiles }
   size_is = none.lacks.answer
 
@@ -211,7 +211,7 @@ module _ (done : List ℕ) (need : ℕ) (rest : List ℕ) (next : Option Event) 
   given_out given held split = held_out (holds next (table_blocks hand.fresh ++ others)) held given some.starting.names words last some.starting.whole split
 
 -- blocks that are held still are given back
-pub stops_more : (tables : List TableName) (next : Option Event) (words needs : List ℕ) (held : List Block) (old s : Parts) (e : NoTile) → Stops tables next words needs held old s e → Stops tables next words needs [] old (record s { tiles = after_release held s.tiles }) e
+pub stops_more : (tables : List TableName) (next : Option Event) (words needs : List ℕ) (held : List Block) (old s : ServerState) (e : NoTile) → Stops tables next words needs held old s e → Stops tables next words needs [] old (record s { tiles = after_release held s.tiles }) e
 stops_more tables next words needs held old s e h =
     let i = h.short in
     record {
@@ -238,7 +238,7 @@ stops_more tables next words needs held old s e h =
     }
 
 -- needs that stand in front of these got theirs
-pub stops_after : (tables : List TableName) (next : Option Event) (words front needs : List ℕ) (held : List Block) (old mid s : Parts) (blocks : List Block) (e : NoTile) → Takes tables front old blocks mid → KeepsRoom old mid → Stops tables next words needs held mid s e
+pub stops_after : (tables : List TableName) (next : Option Event) (words front needs : List ℕ) (held : List Block) (old mid s : ServerState) (blocks : List Block) (e : NoTile) → Takes tables front old blocks mid → KeepsRoom old mid → Stops tables next words needs held mid s e
     → Stops tables next words (front ++ needs) held old s e
 stops_after tables next words front needs held old mid s blocks e takes room h =
     let i = h.short in
@@ -266,7 +266,7 @@ stops_after tables next words front needs held old mid s blocks e takes room h =
     }
 
 -- and none of those behind matters
-pub stops_before : (tables : List TableName) (next : Option Event) (words needs more : List ℕ) (held : List Block) (old s : Parts) (e : NoTile) → Stops tables next words needs held old s e → Stops tables next words (needs ++ more) held old s e
+pub stops_before : (tables : List TableName) (next : Option Event) (words needs more : List ℕ) (held : List Block) (old s : ServerState) (e : NoTile) → Stops tables next words needs held old s e → Stops tables next words (needs ++ more) held old s e
 stops_before tables next words needs more held old s e h =
     let i = h.short in
     record {
@@ -294,14 +294,14 @@ stops_before tables next words needs more held old s e h =
 
 -- ---- the first block of the chain, and that of the key
 
-module _ (bytes : ℕ) (hand : Hand) (s : Parts) (u : MayTake [] bytes hand s) where
+module _ (bytes : ℕ) (hand : ReservedBlocks) (s : ServerState) (u : MayTake [] bytes hand s) where
   pub least_unit : least_block ≤ unit_words s.options
   least_unit = u.starting.whole.sound.rounded.least
 
   abbrev pub may_take_first : MayTakeOne (unit_words s.options) hand s
-  may_take_first = record { next = next_of [] bytes hand s u; words = u.words; missing = []; others = []; starting = u.starting; least = least_unit; needs = λ j. unit_need s.options u.key least_unit; few = omega arith; small = tt }
+  may_take_first = record { next = next_of [] bytes hand s u; words = u.words; missing = []; others = []; starting = u.starting; least = least_unit; needs = unit_need s.options u.key least_unit; few = omega arith; small = tt }
 
-  module _ (first : Block) (next_hand : Hand) (mid : Parts) (t : TakesKeeping (unit_words s.options) (next_of [] bytes hand s u) u.words [] [] hand next_hand s first mid) where
+  module _ (first : Block) (next_hand : ReservedBlocks) (mid : ServerState) (t : TakesKeeping (unit_words s.options) (next_of [] bytes hand s u) u.words [] [] hand next_hand s first mid) where
     pub mid_options : mid.options ≡ s.options
     mid_options = takes_options hand.tables (unit_words s.options ∷ []) s mid (first ∷ []) (mid, t.takes, refl)
 
@@ -313,12 +313,12 @@ module _ (bytes : ℕ) (hand : Hand) (s : Parts) (u : MayTake [] bytes hand s) w
       others = first ∷ [];
       starting = t.starting;
       least = omega arith;
-      needs = λ j. subst (λ n. is_need mid.options u.key (raised (words_of_bytes n)) ≡ true) u.long (text_need mid.options u.key);
+      needs = subst (λ n. is_need mid.options u.key (raised (words_of_bytes n)) ≡ true) u.long (text_need mid.options u.key);
       few = omega arith;
       small = (subst (λ (o : Options). first.words ≤ unit_words o + 63) (sym mid_options) (omega (arith, t.small, least_unit)), tt);
     }
 
-    pub pair_so : (text : Block) (after : Hand) (new : Parts) → TakesKeeping (raised (words_of_bytes bytes)) (next_of [] bytes hand s u) u.words [] (first ∷ []) next_hand after mid text new
+    pub pair_so : (text : Block) (after : ReservedBlocks) (new : ServerState) → TakesKeeping (raised (words_of_bytes bytes)) (next_of [] bytes hand s u) u.words [] (first ∷ []) next_hand after mid text new
         → TakesPair (next_of [] bytes hand s u) u.words bytes hand after s (record { first = first; text = text }) new
     pair_so text after new q = record {
       takes = (mid, t.takes, (new, subst (λ ts. TakesOne ts (raised (words_of_bytes bytes)) mid text new) t.tables q.takes, refl));
@@ -331,7 +331,7 @@ module _ (bytes : ℕ) (hand : Hand) (s : Parts) (u : MayTake [] bytes hand s) w
 
 -- ---- all
 
-abbrev pub may_take_pair : (missing : List TableName) (bytes : ℕ) (hand after : Hand) (s new : Parts) (u : MayTake missing bytes hand s) → TakesTables (next_of missing bytes hand s u) u.words missing hand after s new → MayTake [] bytes after new
+abbrev pub may_take_pair : (missing : List TableName) (bytes : ℕ) (hand after : ReservedBlocks) (s new : ServerState) (u : MayTake missing bytes hand s) → TakesTables (next_of missing bytes hand s u) u.words missing hand after s new → MayTake [] bytes after new
 may_take_pair missing bytes hand after s new u t = record {
   who = u.who;
   number = u.number;
@@ -342,7 +342,7 @@ may_take_pair missing bytes hand after s new u t = record {
   starting = subst (λ ts. IsStarting (starts u.who u.number u.key ts) u.words [] [] after new) (sym t.tables) t.starting;
 }
 
-pub all_so : (missing : List TableName) (bytes : ℕ) (hand after last : Hand) (s mid new : Parts) (u : MayTake missing bytes hand s) (t : TakesTables (next_of missing bytes hand s u) u.words missing hand after s mid) (taken : Taken)
+pub all_so : (missing : List TableName) (bytes : ℕ) (hand after last : ReservedBlocks) (s mid new : ServerState) (u : MayTake missing bytes hand s) (t : TakesTables (next_of missing bytes hand s u) u.words missing hand after s mid) (taken : Taken)
     → TakesPair (next_of [] bytes after mid (may_take_pair missing bytes hand after s mid u t)) u.words bytes after last mid taken new → TakesAll (next_of missing bytes hand s u) u.words missing bytes hand last s taken new
 all_so missing bytes hand after last s mid new u t taken q =
     let options = takes_options hand.tables (map (λ t. least_block) missing) s mid t.blocks t.takes in
@@ -372,7 +372,7 @@ err_weaker (Ok x) P Q f h = tt
 err_weaker (Err e) P Q f h = f e h
 
 -- the first block of the chain, or the key's, isn't found
-pub all_stops : (missing : List TableName) (bytes : ℕ) (hand after : Hand) (s mid new : Parts) (u : MayTake missing bytes hand s) (t : TakesTables (next_of missing bytes hand s u) u.words missing hand after s mid) (held : List Block) (e : NoTile)
+pub all_stops : (missing : List TableName) (bytes : ℕ) (hand after : ReservedBlocks) (s mid new : ServerState) (u : MayTake missing bytes hand s) (t : TakesTables (next_of missing bytes hand s u) u.words missing hand after s mid) (held : List Block) (e : NoTile)
     → Stops after.tables (next_of [] bytes after mid (may_take_pair missing bytes hand after s mid u t)) u.words (unit_words mid.options ∷ raised (words_of_bytes bytes) ∷ []) held mid new e → Stops hand.tables (next_of missing bytes hand s u) u.words (needs_for s.options missing bytes) held s new e
 all_stops missing bytes hand after s mid new u t held e h =
     let options = takes_options hand.tables (map (λ t. least_block) missing) s mid t.blocks t.takes in

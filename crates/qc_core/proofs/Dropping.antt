@@ -12,22 +12,22 @@ use Rattle.qc_dir.specs.declared.tables.TableBlock.{TableBlock}
 use Rattle.qc_dir.specs.Directory.{IsDirectory, entry_at, has_serial, without}
 use Rattle.qc_sound.specs.Moment.{Moment}
 use Rattle.qc_sound.specs.steps.Leaving.{staying}
-use Rattle.qc_core.specs.declared.parts.Parts.{Parts}
+use Rattle.qc_core.specs.declared.server_state.ServerState.{ServerState}
 use Rattle.qc_core.specs.Whole.{Named, stored}
-use Rattle.qc_core.specs.Leaves.{MayLeave, Leaves}
-use Rattle.qc_core.specs.Cuts.{BlocksAreSound, HasSoundBlocks, LeavesAlone, LeaveInTurn, is_removed, IsCut}
-use Rattle.qc_core.specs.Commits.{TakesOut}
+use Rattle.qc_core.specs.EntryRemoval.{MayLeave, Leaves}
+use Rattle.qc_core.specs.EntriesCut.{BlocksAreSound, HasSoundBlocks, LeavesAlone, LeaveInTurn, is_removed, IsCut}
+use Rattle.qc_core.specs.Invalidation.{TakesOut}
 use Rattle.qc_core.proofs.Emptying.{cut_none, cut_more, chain_of}
 use Rattle.qc_core.proofs.Emptying.{may_leave as leaves}
 use Rattle.qc_core.proofs.Seating.{none_other, found_less}
 
 -- ---- in turn
 
-pub in_turn : (ms ns : List ℕ) (old mid new : Parts) → LeaveInTurn ns old mid → LeaveInTurn ms mid new → LeaveInTurn (ms ++ ns) old new
+pub in_turn : (ms ns : List ℕ) (old mid new : ServerState) → LeaveInTurn ns old mid → LeaveInTurn ms mid new → LeaveInTurn (ms ++ ns) old new
 in_turn [] ns old mid new a b = subst (LeaveInTurn ns old) (sym b) a
 in_turn (m ∷ ms) ns old mid new a b = (b.0, in_turn ms ns old mid b.0 a b.1, b.2)
 
-pub turn_cut : (m : Moment) (before : List Named) (old : Parts) → BlocksAreSound m before old → (serials : List ℕ) (new : Parts) → LeaveInTurn serials old new → IsCut m before serials old new
+pub turn_cut : (m : Moment) (before : List Named) (old : ServerState) → BlocksAreSound m before old → (serials : List ℕ) (new : ServerState) → LeaveInTurn serials old new → IsCut m before serials old new
 turn_cut m before old h [] new same = subst (IsCut m before [] old) (sym same) (cut_none m before old h)
 turn_cut m before old h (n ∷ ns) new l =
     let mid = l.0 in
@@ -38,13 +38,13 @@ turn_cut m before old h (n ∷ ns) new l =
     cut_more m before ns old mid k n one.may.entry one.may.there new one.freed (subst (λ (x : Kept). Leaves n one.may.entry x one.freed mid new) same one.left) one.valid
 
 -- an entry that is there may leave
-pub may_drop : (n : ℕ) (s : Parts) (e : Entry) → HasSoundBlocks s → entry_at n s.dir.entries ≡ Some e → MayLeave n s
+pub may_drop : (n : ℕ) (s : ServerState) (e : Entry) → HasSoundBlocks s → entry_at n s.dir.entries ≡ Some e → MayLeave n s
 may_drop n s e h there = leaves h.moment h.names [] s s (cut_none h.moment h.names s h.sound) n e there
 
-pub one_left : (n : ℕ) (old new : Parts) (u : MayLeave n old) → ((u : MayLeave n old) → (freed : List TableBlock) × Leaves n u.entry u.held freed old new) → IsDirectory new.dir → LeavesAlone n old new
+pub one_left : (n : ℕ) (old new : ServerState) (u : MayLeave n old) → ((u : MayLeave n old) → (freed : List TableBlock) × Leaves n u.entry u.held freed old new) → IsDirectory new.dir → LeavesAlone n old new
 one_left n old new u left valid = let l = left u in record { may = u; freed = l.0; left = l.1; valid = valid }
 
-pub blocks_left : (serials : List ℕ) (old new : Parts) → HasSoundBlocks old → LeaveInTurn serials old new → HasSoundBlocks new
+pub blocks_left : (serials : List ℕ) (old new : ServerState) → HasSoundBlocks old → LeaveInTurn serials old new → HasSoundBlocks new
 blocks_left serials old new h l = let k = turn_cut h.moment h.names old h.sound serials new l in record { moment = h.moment; names = k.names; sound = k.blocks }
 
 -- ---- the entries
@@ -74,8 +74,8 @@ filter_same p q (x ∷ xs) h = λ i. cond (not (h.0 i)) (x ∷ filter_same p q x
 abbrev pub is_out : List ℕ → Entry → Bool
 is_out serials e = list_any (λ n. has_serial n e) serials
 
-pub left_entries : (serials : List ℕ) (old new : Parts) → LeaveInTurn serials old new → new.dir.entries ≡ filter (λ e. not (is_out serials e)) old.dir.entries
-left_entries [] old new same = ap (λ (s : Parts). s.dir.entries) same ∙ sym (filter_all old.dir.entries)
+pub left_entries : (serials : List ℕ) (old new : ServerState) → LeaveInTurn serials old new → new.dir.entries ≡ filter (λ e. not (is_out serials e)) old.dir.entries
+left_entries [] old new same = ap (λ (s : ServerState). s.dir.entries) same ∙ sym (filter_all old.dir.entries)
 left_entries (n ∷ ns) old new l =
     l.2.left.removed.entries ∙ (ap (without n) (left_entries ns old l.0 l.1) ∙ filter_twice (has_serial n) (is_out ns) old.dir.entries)
 
@@ -101,7 +101,7 @@ without_passing p n (x ∷ es) e d there h =
           elim (p x) as (λ b. cond (not b) (x ∷ filter (λ y. not (p y)) (without n es)) (filter (λ y. not (p y)) (without n es)) ≡ cond (not b) (x ∷ filter (λ y. not (p y)) es) (filter (λ y. not (p y)) es)) [ true ↦ rest | false ↦ ap (λ l. x ∷ l) rest ]
     ] refl there
 
-pub fewer : (n : ℕ) (old new : Parts) (e : Entry) → HasSoundBlocks old → entry_at n old.dir.entries ≡ Some e → LeavesAlone n old new → length new.dir.entries < length old.dir.entries
+pub fewer : (n : ℕ) (old new : ServerState) (e : Entry) → HasSoundBlocks old → entry_at n old.dir.entries ≡ Some e → LeavesAlone n old new → length new.dir.entries < length old.dir.entries
 fewer n old new e h there l =
     let less : length new.dir.entries + 1 ≡ length old.dir.entries = ap (λ (es : List Entry). length es + 1) l.left.removed.entries ∙ found_less (λ (e : Entry). e.serial) n old.dir.entries e h.sound.serials there in
     omega (arith, less)
@@ -126,31 +126,31 @@ passing_there p (Some e) h = (e, refl, h)
 
 -- ---- what stays
 
-pub turn_others : (serials : List ℕ) (old new : Parts) → LeaveInTurn serials old new → new ≡ record old { dir = new.dir; chains = new.chains; tiles = new.tiles }
+pub turn_others : (serials : List ℕ) (old new : ServerState) → LeaveInTurn serials old new → new ≡ record old { dir = new.dir; chains = new.chains; tiles = new.tiles }
 turn_others [] old new same = λ i. record (same i) { dir = new.dir; chains = new.chains; tiles = new.tiles }
 turn_others (n ∷ ns) old new l =
     let server = l.2.left.server in
     server
     ∙ ((λ i. record l.0 { dir = new.dir; chains = (sym server i).chains; tiles = (sym server i).tiles })
-    ∙ ap (λ (x : Parts). record x { dir = new.dir; chains = new.chains; tiles = new.tiles }) (turn_others ns old l.0 l.1))
+    ∙ ap (λ (x : ServerState). record x { dir = new.dir; chains = new.chains; tiles = new.tiles }) (turn_others ns old l.0 l.1))
 
 -- ---- loops
 
 -- Entries left in turn. Those that pass the first test are still to leave, and with them all have left that passed the second.
-pub record AreLeaving (rest all : Entry → Bool) (old now : Parts) : Type 0 where
+pub record AreLeaving (rest all : Entry → Bool) (old now : ServerState) : Type 0 where
   pub blocks : HasSoundBlocks now
   pub serials : List ℕ
   pub left : LeaveInTurn serials old now
   pub stay : filter (λ e. not (rest e)) now.dir.entries ≡ filter (λ e. not (all e)) old.dir.entries
 
-pub leaving_start : (p : Entry → Bool) (old : Parts) → HasSoundBlocks old → AreLeaving p p old old
+pub leaving_start : (p : Entry → Bool) (old : ServerState) → HasSoundBlocks old → AreLeaving p p old old
 leaving_start p old h = record { blocks = h; serials = []; left = refl; stay = refl }
 
-pub leaving_end : (rest all : Entry → Bool) (old now : Parts) → AreLeaving rest all old now → list_any rest now.dir.entries ≡ false → TakesOut all old now
+pub leaving_end : (rest all : Entry → Bool) (old now : ServerState) → AreLeaving rest all old now → list_any rest now.dir.entries ≡ false → TakesOut all old now
 leaving_end rest all old now h none = record { serials = h.serials; left = h.left; entries = sym (filter_none rest now.dir.entries none) ∙ h.stay }
 
 -- one more
-pub leaving_one : (rest all : Entry → Bool) (old now new : Parts) (n : ℕ) (e : Entry) → AreLeaving rest all old now → entry_at n now.dir.entries ≡ Some e → rest e ≡ true → LeavesAlone n now new → AreLeaving rest all old new
+pub leaving_one : (rest all : Entry → Bool) (old now new : ServerState) (n : ℕ) (e : Entry) → AreLeaving rest all old now → entry_at n now.dir.entries ≡ Some e → rest e ≡ true → LeavesAlone n now new → AreLeaving rest all old new
 leaving_one rest all old now new n e h there passes one = record {
   blocks = blocks_left (n ∷ []) now new h.blocks (now, refl, one);
   serials = n ∷ h.serials;
@@ -159,7 +159,7 @@ leaving_one rest all old now new n e h there passes one = record {
 }
 
 -- more of them
-pub leaving_more : (p rest more all : Entry → Bool) (old now new : Parts) → AreLeaving rest all old now → TakesOut p now new → HasSoundBlocks new → ((e : Entry) → (more e || p e) ≡ rest e) → AreLeaving more all old new
+pub leaving_more : (p rest more all : Entry → Bool) (old now new : ServerState) → AreLeaving rest all old now → TakesOut p now new → HasSoundBlocks new → ((e : Entry) → (more e || p e) ≡ rest e) → AreLeaving more all old new
 leaving_more p rest more all old now new h out blocks same = record {
   blocks = blocks;
   serials = out.serials ++ h.serials;
@@ -194,13 +194,13 @@ abbrev pub any_of : {A : Type 0} → (A → Entry → Bool) → List A → Entry
 any_of f xs e = list_any (λ x. f x e) xs
 
 -- those that one more item tells
-pub leaving_item : {A : Type 0} (f : A → Entry → Bool) (xs : List A) (k : ℕ) (x : A) (old now new : Parts) → slice_get xs k ≡ Some x → AreLeaving (any_of f (drop k xs)) (any_of f xs) old now → TakesOut (f x) now new → HasSoundBlocks new → AreLeaving (any_of f (drop (k + 1) xs)) (any_of f xs) old new
+pub leaving_item : {A : Type 0} (f : A → Entry → Bool) (xs : List A) (k : ℕ) (x : A) (old now new : ServerState) → slice_get xs k ≡ Some x → AreLeaving (any_of f (drop k xs)) (any_of f xs) old now → TakesOut (f x) now new → HasSoundBlocks new → AreLeaving (any_of f (drop (k + 1) xs)) (any_of f xs) old new
 leaving_item f xs k x old now new got h out blocks =
     leaving_more (f x) (any_of f (drop k xs)) (any_of f (drop (k + 1) xs)) (any_of f xs) old now new h out blocks
     (λ e. or_turn (any_of f (drop (k + 1) xs) e) (f x e) ∙ sym (ap (λ l. any_of f l e) (drop_item xs k x got)))
 
 -- no item is left
-pub leaving_items : {A : Type 0} (f : A → Entry → Bool) (xs : List A) (k : ℕ) (old now : Parts) → length xs ≤ k → AreLeaving (any_of f (drop k xs)) (any_of f xs) old now → TakesOut (any_of f xs) old now
+pub leaving_items : {A : Type 0} (f : A → Entry → Bool) (xs : List A) (k : ℕ) (old now : ServerState) → length xs ≤ k → AreLeaving (any_of f (drop k xs)) (any_of f xs) old now → TakesOut (any_of f xs) old now
 leaving_items f xs k old now end h = leaving_end (any_of f (drop k xs)) (any_of f xs) old now h (none now.dir.entries)
   where
     none : (es : List Entry) → list_any (any_of f (drop k xs)) es ≡ false

@@ -27,12 +27,12 @@ use Rattle.qc_sound.specs.steps.Events.{OfNone, HasRoom}
 use Rattle.qc_sound.specs.steps.Leaving.{staying, left, is_touched, GivesBack}
 use Rattle.qc_sound.proofs.Filters.{tasks_stay, tasks_wanted}
 use Rattle.qc_sound.proofs.Leaves.{reset_step, commit_step}
-use Rattle.qc_core.specs.declared.parts.Parts.{Parts}
+use Rattle.qc_core.specs.declared.server_state.ServerState.{ServerState}
 use Rattle.qc_core.specs.Whole.{Named, IsNamedAs, IsNamed, table_pair, plain, IsWhole, with_event, tasks_of}
 use Rattle.qc_core.specs.KeptLaws.{tasks_same}
-use Rattle.qc_core.specs.Commits.{with_database}
-use Rattle.qc_core.specs.Leaves.{MayLeave, Leaves}
-use Rattle.qc_core.specs.Cuts.{BlocksAreSound, cut, is_removed, IsCut}
+use Rattle.qc_core.specs.Invalidation.{with_database}
+use Rattle.qc_core.specs.EntryRemoval.{MayLeave, Leaves}
+use Rattle.qc_core.specs.EntriesCut.{BlocksAreSound, cut, is_removed, IsCut}
 use Rattle.qc_core.proofs.Uses.{find_all, begun_at}
 use Rattle.qc_core.proofs.Letting.{chain_out}
 use Rattle.qc_core.proofs.Cutting.{cut_leaves, cut_one, CutOne}
@@ -47,7 +47,7 @@ keep_all f [] h = refl
 keep_all f (c ∷ cs) h = ap (λ b. cond b (c ∷ filter f cs) (filter f cs)) h.0 ∙ ap (λ l. c ∷ l) (keep_all f cs h.1)
 
 -- none is out before the first
-pub cut_none : (m : Moment) (names : List Named) (s : Parts) → BlocksAreSound m names s → IsCut m names [] s s
+pub cut_none : (m : Moment) (names : List Named) (s : ServerState) → BlocksAreSound m names s → IsCut m names [] s s
 cut_none m names s h =
     let p = plain names s in
     let same = none_removed p.entries in
@@ -79,7 +79,7 @@ cut_twice a b ts us xs ys p =
     ∙ ap (λ l. filter (λ (c : EntryChain). is_wanted l p.tasks c.serial) p.chains) same in
     λ i. record p { entries = same i; chains = chains i; table_blocks = ys; tiles = us }
 
-module _ (m : Moment) (before : List Named) (serials : List ℕ) (old s : Parts) (k : IsCut m before serials old s) (n : ℕ) (e : Entry) (there : entry_at n s.dir.entries ≡ Some e) where
+module _ (m : Moment) (before : List Named) (serials : List ℕ) (old s : ServerState) (k : IsCut m before serials old s) (n : ℕ) (e : Entry) (there : entry_at n s.dir.entries ≡ Some e) where
   abbrev named : IsNamedAs k.names e.serial e.chain.number
   named = find_all (λ e. IsNamedAs k.names e.serial e.chain.number) (has_serial n) s.dir.entries e k.blocks.named.entries there
 
@@ -90,7 +90,7 @@ module _ (m : Moment) (before : List Named) (serials : List ℕ) (old s : Parts)
   pub may_leave : MayLeave n s
   may_leave = cut_leaves m k.names s n k.blocks e chain_of.0 there chain_of.1 (chain_out m k.names s e.serial e.chain.number chain_of.0 k.blocks named chain_of.1)
 
-  module _ (t : Parts) (freed : List TableBlock) (l : Leaves n e chain_of.0 freed s t) (valid : IsDirectory t.dir) where
+  module _ (t : ServerState) (freed : List TableBlock) (l : Leaves n e chain_of.0 freed s t) (valid : IsDirectory t.dir) where
     abbrev o : CutOne m k.names s n k.blocks e chain_of.0 there chain_of.1 freed t l valid
     o = cut_one m k.names s n k.blocks e chain_of.0 there chain_of.1 freed t l valid
 
@@ -101,7 +101,7 @@ module _ (m : Moment) (before : List Named) (serials : List ℕ) (old s : Parts)
       blocks = o.blocks;
       plain = o.plain ∙ (ap (cut (is_stored n) t.tiles (map table_pair t.dir.tables)) k.plain ∙ cut_twice (is_stored n) (is_removed serials) s.tiles t.tiles (map table_pair s.dir.tables) (map table_pair t.dir.tables) (plain before old));
       pinned = o.pinned ∙ k.pinned;
-      others = o.others ∙ ap (λ (x : Parts). record x { dir = t.dir; chains = t.chains; tiles = t.tiles }) k.others;
+      others = o.others ∙ ap (λ (x : ServerState). record x { dir = t.dir; chains = t.chains; tiles = t.tiles }) k.others;
     }
 
 -- ---- with the event
@@ -111,7 +111,7 @@ none_stay [] = refl
 none_stay (e ∷ es) = none_stay es
 
 -- The entries are out that an event takes out, and the database is the one that it makes.
-module _ (m : Moment) (before : List Named) (serials words : List ℕ) (old t : Parts) (k : IsCut m before serials old t) (e : Event) (gone : StoredEntry → Bool) (same : staying (is_removed serials) (plain before old).entries ≡ staying gone (plain before old).entries) (d : Database) (made : d ≡ apply (operations e) old.database) where
+module _ (m : Moment) (before : List Named) (serials words : List ℕ) (old t : ServerState) (k : IsCut m before serials old t) (e : Event) (gone : StoredEntry → Bool) (same : staying (is_removed serials) (plain before old).entries ≡ staying gone (plain before old).entries) (d : Database) (made : d ≡ apply (operations e) old.database) where
   abbrev p : PlainServer
   p = plain before old
 
@@ -147,16 +147,16 @@ module _ (m : Moment) (before : List Named) (serials words : List ℕ) (old t : 
       }
 
 -- a reset, where all entries are out
-pub reset_whole : (m : Moment) (before : List Named) (serials words : List ℕ) (old t : Parts) (k : IsCut m before serials old t) (who : Who) → IsWhole m before words old → staying (is_removed serials) (plain before old).entries ≡ [] → IsLicensed old.options old.journal.events (event.Reset who) → NeedsOf old.options m.next (old.journal.events ++ event.Reset who ∷ []) → OfNone (event.Reset who) (plain before old).tasks → HasRoom (plain before old) → IsWhole m k.names words (with_event (event.Reset who) t)
+pub reset_whole : (m : Moment) (before : List Named) (serials words : List ℕ) (old t : ServerState) (k : IsCut m before serials old t) (who : Who) → IsWhole m before words old → staying (is_removed serials) (plain before old).entries ≡ [] → IsLicensed old.options old.journal.events (event.Reset who) → NeedsOf old.options m.next (old.journal.events ++ event.Reset who ∷ []) → OfNone (event.Reset who) (plain before old).tasks → HasRoom (plain before old) → IsWhole m k.names words (with_event (event.Reset who) t)
 reset_whole m before serials words old t k who h all licensed needs none room =
     let p = plain before old in
     let e = event.Reset who in
     let same = all ∙ none_stay p.entries in
-    let made : t.database ≡ old.database = ap (λ (x : Parts). x.database) k.others in
+    let made : t.database ≡ old.database = ap (λ (x : ServerState). x.database) k.others in
     cut_whole m before serials words old t k e (λ e. true) same t.database made (reset_step m words p who t.tiles (map table_pair t.dir.tables) h.sound licensed needs none room (gives m before serials words old t k e (λ e. true) same t.database made))
 
 -- a commit, where those are out that use a table which it touches
-pub commit_whole : (m : Moment) (before : List Named) (serials words : List ℕ) (old t : Parts) (k : IsCut m before serials old t) (who : Who) (ops : List RowOp) → IsWhole m before words old → staying (is_removed serials) (plain before old).entries ≡ staying (is_touched (event.Commit who ops)) (plain before old).entries → IsLicensed old.options old.journal.events (event.Commit who ops) → list_all is_small_operation ops ≡ true → NeedsOf old.options m.next (old.journal.events ++ event.Commit who ops ∷ []) → OfNone (event.Commit who ops) (plain before old).tasks → HasRoom (plain before old) → IsWhole m k.names words (with_event (event.Commit who ops) (with_database (apply ops old.database) t))
+pub commit_whole : (m : Moment) (before : List Named) (serials words : List ℕ) (old t : ServerState) (k : IsCut m before serials old t) (who : Who) (ops : List RowOp) → IsWhole m before words old → staying (is_removed serials) (plain before old).entries ≡ staying (is_touched (event.Commit who ops)) (plain before old).entries → IsLicensed old.options old.journal.events (event.Commit who ops) → list_all is_small_operation ops ≡ true → NeedsOf old.options m.next (old.journal.events ++ event.Commit who ops ∷ []) → OfNone (event.Commit who ops) (plain before old).tasks → HasRoom (plain before old) → IsWhole m k.names words (with_event (event.Commit who ops) (with_database (apply ops old.database) t))
 commit_whole m before serials words old t k who ops h same licensed small needs none room =
     let p = plain before old in
     let e = event.Commit who ops in
@@ -164,7 +164,7 @@ commit_whole m before serials words old t k who ops h same licensed small needs 
     cut_whole m before serials words old t k e (is_touched e) same d refl (commit_step m words p who ops t.tiles (map table_pair t.dir.tables) h.sound licensed small needs none room (gives m before serials words old t k e (is_touched e) same d refl))
 
 -- what is listed stays
-pub cut_tasks : (m : Moment) (before : List Named) (serials : List ℕ) (old t : Parts) → IsCut m before serials old t → IsNamed before old → tasks_of t ≡ tasks_of old
+pub cut_tasks : (m : Moment) (before : List Named) (serials : List ℕ) (old t : ServerState) → IsCut m before serials old t → IsNamed before old → tasks_of t ≡ tasks_of old
 cut_tasks m before serials old t k named =
     let p = plain before old in
     let es = staying (is_removed serials) p.entries in

@@ -33,14 +33,16 @@ use Rattle.qc_sound.specs.Ended.{is_ended}
 use Rattle.qc_sound.specs.steps.Leaving.{is_of_seat, filling}
 use Rattle.qc_sound.proofs.Growing.{fill_found}
 use Rattle.qc_sound.proofs.Laws.{completed_ended}
-use Rattle.qc_core.specs.declared.parts.RunningTask.{RunningTask}
-use Rattle.qc_core.specs.declared.parts.Parts.{Parts}
+use Rattle.qc_core.specs.declared.server_state.RunningTask.{RunningTask}
+use Rattle.qc_core.specs.declared.server_state.ServerState.{ServerState}
 use Rattle.qc_core.specs.contracts.server.ServerKept.TheImpl.{ghosts}
 use Rattle.qc_core.specs.Whole.{Named, is_named, IsNamedAs, chain_blocks, task_blocks, listed_in, work_in, plain, tasks_of, with_event, IsWhole}
-use Rattle.qc_core.specs.Strikes.{is_of}
-use Rattle.qc_core.specs.Leaves.{has_task, left_by}
-use Rattle.qc_core.specs.Allocates.{MayAllocate, Prunes, PrunesMany}
-use Rattle.qc_core.specs.Overtaken.{overtakes, WasOvertaken}
+use Rattle.qc_core.specs.TaskEnd.{is_of}
+use Rattle.qc_core.specs.EntryRemoval.{has_task, left_by}
+use Rattle.qc_core.specs.Eviction.{Prunes, PrunesMany}
+use Rattle.qc_core.specs.BlocksReserved.{nothing}
+use Rattle.qc_core.specs.Allocation.{MayTakeOne}
+use Rattle.qc_core.specs.OvertakenFill.{overtakes, WasOvertaken}
 use Rattle.qc_core.proofs.Uses.{find_all}
 use Rattle.qc_core.proofs.Seeking.{pair_of, pair_there}
 use Rattle.qc_core.proofs.Overtaking.{stays_all}
@@ -88,7 +90,7 @@ plain_at seat n bs cs ws t = mapped ws t.at ∙ λ i. Some (record { seat = t.se
 
 -- ---- its entry, if it is there
 
-module _ (m : Moment) (names : List Named) (words : List ℕ) (s : Parts) (seat n : ℕ) (bs : List Block) (h : IsWhole m names words s) (t : FillTask seat n bs s.chains s.tasks.items) where
+module _ (m : Moment) (names : List Named) (words : List ℕ) (s : ServerState) (seat n : ℕ) (bs : List Block) (h : IsWhole m names words s) (t : FillTask seat n bs s.chains s.tasks.items) where
   pub fill_named : IsNamedAs names n t.work.chain.number
   fill_named = subst (λ o. IfSome o (λ k. IsNamedAs names k t.work.chain.number)) (ap serial_of t.task) (find_all (λ w. IfSome (serial_of w.task) (λ k. IsNamedAs names k w.chain.number)) (is_of seat) s.tasks.items t.work h.named.tasks t.at)
 
@@ -139,24 +141,25 @@ some_incomplete n (y ∷ ys) h = elim (eqb y.serial n) as (λ b. IsSomeAnd (cond
     or_last true b h = refl
     or_last false b h = h
 
-abbrev pub may_allocate : (words : List ℕ) (names : List Named) (s : Parts) (n : ℕ) → IsWhole (at_rest hash) names words s → IsFilling s.journal.events n → MayAllocate (unit_words s.options) s
+abbrev pub may_allocate : (words : List ℕ) (names : List Named) (s : ServerState) (n : ℕ) → IsWhole (at_rest hash) names words s → IsFilling s.journal.events n → MayTakeOne (unit_words s.options) nothing s
 may_allocate words names s n h filling_ =
     let long = h.sound.rounded.least in
     record {
-      moment = at_rest hash;
+      next = None;
       words = words;
-      names = names;
-      whole = h;
+      missing = [];
+      others = [];
+      starting = record { names = names; whole = h; hand = record { few = omega arith; one = λ t is. absurd (true≢false (sym is)); none = λ t is. refl }; small = tt };
       least = omega (arith, long);
       needs = (omega (arith, long), some_incomplete n (cache s.journal.events) filling_);
       few = omega arith;
-      held = tt;
+      small = tt;
     }
 
 -- ---- what prunes leave
 
 -- the journal goes on by prunes, and what they don't touch stays
-pub record IsAfter (s t : Parts) : Type 0 where
+pub record IsAfter (s t : ServerState) : Type 0 where
   pub options : t.options ≡ s.options
   pub running : t.tasks ≡ s.tasks
   pub listed : tasks_of t ≡ tasks_of s
@@ -172,10 +175,10 @@ any_join p [] ys h k = k
 any_join p (x ∷ xs) ys h k = elim (p x) as (λ b. (b || list_any p xs) ≡ false → (b || list_any p (xs ++ ys)) ≡ false) [ true ↦ λ f. absurd (true≢false f) | false ↦ λ f. any_join p xs ys f k ] h
 
 -- what went with an entry that was pruned
-pub prune_is : (tables : List TableName) (need : ℕ) (s t : Parts) → (p : Prunes tables need s t) → t ≡ with_event (event.Prune p.serial need (largest_free s.tiles)) (left_by p.mid.dir (has_task p.serial s) p.may.entry p.may.held p.left.others s)
+pub prune_is : (tables : List TableName) (need : ℕ) (s t : ServerState) → (p : Prunes tables need s t) → t ≡ with_event (event.Prune p.serial need (largest_free s.tiles)) (left_by p.mid.dir (has_task p.serial s) p.may.entry p.may.held p.left.others s)
 prune_is tables need s t p = p.server ∙ ap (with_event (event.Prune p.serial need (largest_free s.tiles))) p.left.server
 
-pub pruned_after : (tables : List TableName) (need count : ℕ) (s t : Parts) → PrunesMany tables need count s t → IsAfter s t
+pub pruned_after : (tables : List TableName) (need count : ℕ) (s t : ServerState) → PrunesMany tables need count s t → IsAfter s t
 pruned_after tables need zero s t h = subst (IsAfter s) (sym h) (record { options = refl; running = refl; listed = refl; connected = refl; later = []; events = sym (append-nil s.journal.events); unended = λ n. refl; left = λ ts. refl; others = λ k. refl })
 pruned_after tables need (suc k) s t h =
     let mid = h.0 in
@@ -184,19 +187,19 @@ pruned_after tables need (suc k) s t h =
     let e = event.Prune p.serial need (largest_free mid.tiles) in
     let is = prune_is tables need mid t p in
     record {
-      options = ap (λ (x : Parts). x.options) is ∙ a.options;
-      running = ap (λ (x : Parts). x.tasks) is ∙ a.running;
+      options = ap (λ (x : ServerState). x.options) is ∙ a.options;
+      running = ap (λ (x : ServerState). x.tasks) is ∙ a.running;
       listed = p.tasks ∙ a.listed;
-      connected = ap (λ (x : Parts). x.connected) is ∙ a.connected;
+      connected = ap (λ (x : ServerState). x.connected) is ∙ a.connected;
       later = a.later ++ e ∷ [];
-      events = ap (λ (x : Parts). x.journal.events) is ∙ (ap (λ l. l ++ e ∷ []) a.events ∙ append_assoc s.journal.events a.later (e ∷ []));
+      events = ap (λ (x : ServerState). x.journal.events) is ∙ (ap (λ l. l ++ e ∷ []) a.events ∙ append_assoc s.journal.events a.later (e ∷ []));
       unended = λ n. any_join _ a.later (e ∷ []) (a.unended n) refl;
       left = λ ts. any_join (overtakes ts) a.later (e ∷ []) (a.left ts) refl;
       others = λ k. filter-append _ a.later (e ∷ []) ∙ ap (λ l. l ++ []) (a.others k);
     }
 
 -- the entry that is filled stays in the cache
-pub still_filling : (o : Options) (s t : Parts) (n : ℕ) → IsLawful o t.journal.events → IsAfter s t → IsFilling s.journal.events n → IsFilling t.journal.events n
+pub still_filling : (o : Options) (s t : ServerState) (n : ℕ) → IsLawful o t.journal.events → IsAfter s t → IsFilling s.journal.events n → IsFilling t.journal.events n
 still_filling o s t n lawful a h = by (entry_of n (cache s.journal.events)) refl h
   where
     by : (q : Option Cached) → entry_of n (cache s.journal.events) ≡ q → IsSomeAnd q (λ y. y.complete ≡ false) → IsFilling t.journal.events n
@@ -207,7 +210,7 @@ still_filling o s t n lawful a h = by (entry_of n (cache s.journal.events)) refl
         subst (λ j. IsFilling j n) (sym a.events) (subst (λ (q : Option Cached). IsSomeAnd q (λ y. y.complete ≡ false)) (sym there.at) there.partial)
 
 -- and was started where it was
-abbrev pub started_after : (s t : Parts) (n : ℕ) → IsAfter s t → (u : IsStarted s.journal.events n) → (v : IsStarted t.journal.events n) × (v.earlier ≡ u.earlier) × (v.key ≡ u.key)
+abbrev pub started_after : (s t : ServerState) (n : ℕ) → IsAfter s t → (u : IsStarted s.journal.events n) → (v : IsStarted t.journal.events n) × (v.earlier ≡ u.earlier) × (v.key ≡ u.key)
 started_after s t n a u = (
   record {
     who = u.who;
@@ -221,7 +224,7 @@ started_after s t n a u = (
   refl,
 )
 
-pub after_follows : (s t : Parts) (seat : ℕ) (idle : List ℕ) → IsAfter s t → Follows ghosts seat idle s t
+pub after_follows : (s t : ServerState) (seat : ℕ) (idle : List ℕ) → IsAfter s t → Follows ghosts seat idle s t
 after_follows s t seat idle a = record {
   journal = (a.later, a.events);
   others = λ k ne. ap (of_seat ghosts k) a.events ∙ (filter-append _ s.journal.events a.later ∙ (ap (λ l. of_seat ghosts k s.journal.events ++ l) (a.others k) ∙ append-nil (of_seat ghosts k s.journal.events)));
@@ -230,7 +233,7 @@ after_follows s t seat idle a = record {
   tasks = λ k ne. inl (ap (listed_for k) a.listed);
 }
 
-pub overtaken : (words : List ℕ) (names : List Named) (s : Parts) (seat n : ℕ) (bs : List Block) → IsWhole (at_rest hash) names words s → FillTask seat n bs s.chains s.tasks.items → IsStarted s.journal.events n → entry_at n s.dir.entries ≡ None → WasOvertaken s.journal.events n
+pub overtaken : (words : List ℕ) (names : List Named) (s : ServerState) (seat n : ℕ) (bs : List Block) → IsWhole (at_rest hash) names words s → FillTask seat n bs s.chains s.tasks.items → IsStarted s.journal.events n → entry_at n s.dir.entries ≡ None → WasOvertaken s.journal.events n
 overtaken words names s seat n bs h t start none = record {
   options = s.options;
   lawful = h.sound.journal.lawful;

@@ -30,12 +30,12 @@ use Rattle.qc_sound.specs.parts.Directory.{IsStoredAs}
 use Rattle.qc_sound.specs.parts.Memory.{ChainFits}
 use Rattle.qc_sound.specs.parts.Tasks.{TaskIsSound, SeatTaskIsSound}
 use Rattle.qc_sound.proofs.Laws.{completed_ended}
-use Rattle.qc_core.specs.declared.parts.Parts.{Parts}
+use Rattle.qc_core.specs.declared.server_state.ServerState.{ServerState}
 use Rattle.qc_core.specs.contracts.server.ServerKept.TheImpl.{ghosts}
 use Rattle.qc_core.specs.Whole.{Named, IsNamedAs, chain_in, work_in, plain, tasks_of, IsWhole}
-use Rattle.qc_core.specs.Strikes.{is_of, MayRest}
-use Rattle.qc_core.specs.Ends.{Fills, EndsFill}
-use Rattle.qc_core.specs.Overtaken.{WasOvertaken}
+use Rattle.qc_core.specs.TaskEnd.{is_of, MayRest}
+use Rattle.qc_core.specs.FillEnd.{Fills, EndsFill}
+use Rattle.qc_core.specs.OvertakenFill.{WasOvertaken}
 use Rattle.qc_core.proofs.Uses.{find_all}
 use Rattle.qc_core.proofs.Remaining.{chain_found}
 use Rattle.qc_core.proofs.Striking.{found_in, there_in}
@@ -56,7 +56,7 @@ any_find : {A : Type 0} (p : A → Bool) (xs : List A) → list_any p xs ≡ is_
 any_find p [] = refl
 any_find p (x ∷ xs) = elim (p x) as (λ b. (b || list_any p xs) ≡ is_some (cond b (Some x) (find p xs))) [ true ↦ refl | false ↦ any_find p xs ]
 
-pub there_same : (m : Moment) (names : List Named) (words : List ℕ) (s : Parts) (n : ℕ) → IsWhole m names words s → is_some (entry_at n s.dir.entries) ≡ is_some (entry_of n (cache s.journal.events))
+pub there_same : (m : Moment) (names : List Named) (words : List ℕ) (s : ServerState) (n : ℕ) → IsWhole m names words s → is_some (entry_at n s.dir.entries) ≡ is_some (entry_of n (cache s.journal.events))
 there_same m names words s n h = there_in s.chains n s.dir.entries ∙ (zip_any m.hash n (plain names s).entries (cache s.journal.events) h.sound.directory ∙ any_find (is_entry n) (cache s.journal.events))
 
 pub none_of : {A : Type 0} (o : Option A) → is_some o ≡ false → o ≡ None
@@ -69,10 +69,10 @@ some_of (Some x) h = (x, refl)
 
 -- ---- the fill that is listed
 
-pub fills_of : (s : Parts) (seat n : ℕ) (bs : List Block) → listed_for seat (tasks_of s) ≡ own seat (task.Fill n) bs → Fills seat n s
+pub fills_of : (s : ServerState) (seat n : ℕ) (bs : List Block) → listed_for seat (tasks_of s) ≡ own seat (task.Fill n) bs → Fills seat n s
 fills_of s seat n bs h = let t = one_of s.chains seat s.tasks.items (record { number = seat; task = task.Fill n; blocks = bs }) h in record { work = t.work; at = t.at; fill = t.task }
 
-module _ (m : Moment) (names : List Named) (words : List ℕ) (s : Parts) (seat n : ℕ) (h : IsWhole m names words s) (f : Fills seat n s) where
+module _ (m : Moment) (names : List Named) (words : List ℕ) (s : ServerState) (seat n : ℕ) (h : IsWhole m names words s) (f : Fills seat n s) where
   sound_task : TaskIsSound s.journal.events f.work.seat (task.Fill n)
   sound_task = subst (TaskIsSound s.journal.events f.work.seat) f.fill (find_all (SeatTaskIsSound s.journal.events (plain names s).chains) _ (plain names s).tasks (work_in f.work) h.sound.tasks.each (found_in seat s.tasks.items f.work f.at)).task
 
@@ -133,7 +133,7 @@ module _ {V E : Type 0} (K : Ghosts V E) where
       let off : names (K.session e) k ≡ false = ap (λ o. names o k) is in
       filter-append (λ x. names (K.session x) k) es (e ∷ []) ∙ (ap (λ b. of_seat K k es ++ cond b (e ∷ []) []) off ∙ append-nil (of_seat K k es))
 
-pub ends_follows : (e : Event) (seat : ℕ) (words : List ℕ) (s t : Parts) (idle : List ℕ) → decider e ≡ None → EndsFill e seat words s t → Follows ghosts seat idle s t
+pub ends_follows : (e : Event) (seat : ℕ) (words : List ℕ) (s t : ServerState) (idle : List ℕ) → decider e ≡ None → EndsFill e seat words s t → Follows ghosts seat idle s t
 ends_follows e seat words s t idle free r = record {
   journal = (e ∷ [], r.events);
   others = λ k ne. ap (of_seat ghosts k) r.events ∙ of_seat_free ghosts k s.journal.events e (ap (λ o. option_map (λ (w : Who). w.session) o) free);

@@ -13,31 +13,31 @@ use Rattle.qc_sound.specs.parts.Journal.{reserved}
 use Rattle.qc_turn.specs.declared.kept.Kept.{Ghosts}
 use Rattle.qc_turn.specs.declared.view.FoundWord.{FoundWord}
 use Rattle.qc_turn.specs.Seats.{Held, SameHolder}
-use Rattle.qc_core.specs.declared.parts.RunningTask.{RunningTask}
-use Rattle.qc_core.specs.declared.parts.Parts.{Parts}
-use Rattle.qc_core.specs.declared.starts.Ready.{Ready}
-use Rattle.qc_core.specs.Strikes.{is_of, without_task_of, with_user_less, let_go, rested_from, rested_by, rested}
-use Rattle.qc_core.specs.Sweeps.{swept, Finds, IsSwept}
-use Rattle.qc_core.specs.Starts.{MayBegin, HasStartRoom, without_block}
-use Rattle.qc_core.specs.Adds.{IsReady}
+use Rattle.qc_core.specs.declared.server_state.RunningTask.{RunningTask}
+use Rattle.qc_core.specs.declared.server_state.ServerState.{ServerState}
+use Rattle.qc_core.specs.declared.entry_start.Ready.{Ready}
+use Rattle.qc_core.specs.TaskEnd.{is_of, without_task_of, with_user_less, let_go, rested_from, rested_by, rested}
+use Rattle.qc_core.specs.EndedStreams.{swept, Finds, IsSwept}
+use Rattle.qc_core.specs.EntryStart.{MayBegin, HasStartRoom, without_block}
+use Rattle.qc_core.specs.EntryInsertion.{IsReady}
 use Rattle.qc_core.proofs.Sweeping.{finds_on}
 
 -- ---- the tables keep their blocks
 
-let_go_dir : (on there : Bool) (number : ℕ) (s : Parts) → (let_go on there number s).dir ≡ s.dir
+let_go_dir : (on there : Bool) (number : ℕ) (s : ServerState) → (let_go on there number s).dir ≡ s.dir
 let_go_dir true there number s = refl
 let_go_dir false true number s = refl
 let_go_dir false false number s = refl
 
-from_tables : (seat number : ℕ) (o : Option ℕ) (s : Parts) → (rested_from seat number o s).dir.tables ≡ s.dir.tables
+from_tables : (seat number : ℕ) (o : Option ℕ) (s : ServerState) → (rested_from seat number o s).dir.tables ≡ s.dir.tables
 from_tables seat number None s = refl
 from_tables seat number (Some n) s = ap (λ (d : Directory). d.tables) (let_go_dir _ _ number (with_user_less n (without_task_of seat s)))
 
-by_tables : (seat : ℕ) (o : Option RunningTask) (s : Parts) → (rested_by seat o s).dir.tables ≡ s.dir.tables
+by_tables : (seat : ℕ) (o : Option RunningTask) (s : ServerState) → (rested_by seat o s).dir.tables ≡ s.dir.tables
 by_tables seat None s = refl
 by_tables seat (Some w) s = from_tables seat w.chain.number _ s
 
-swept_tables : (found : List FoundWord) (s : Parts) → (swept found s).dir.tables ≡ s.dir.tables
+swept_tables : (found : List FoundWord) (s : ServerState) → (swept found s).dir.tables ≡ s.dir.tables
 swept_tables [] s = refl
 swept_tables (f ∷ fs) s = elim f.set as (λ b. (cond b (swept fs s) (rested f.seat (swept fs s))).dir.tables ≡ s.dir.tables) [
   | true ↦ swept_tables fs s
@@ -46,7 +46,7 @@ swept_tables (f ∷ fs) s = elim f.set as (λ b. (cond b (swept fs s) (rested f.
 
 -- ---- what a start asks
 
-module _ (own : ℕ) (s t : Parts) (found : List FoundWord) (sw : IsSwept own s t found) where
+module _ (own : ℕ) (s t : ServerState) (found : List FoundWord) (sw : IsSwept own s t found) where
   pub may_begin_swept : (key : List ℕ) (tables : List TableName) → MayBegin key tables s → MayBegin key tables t
   may_begin_swept key tables b = record {
     may = subst (λ (p : Options × Recorded). MayStart p.0 p.1.events (start_count p.1.events + 1) key tables) (λ i. (sym sw.options i, sym sw.journal i)) b.may;
@@ -60,7 +60,7 @@ module _ (own : ℕ) (s t : Parts) (found : List FoundWord) (sw : IsSwept own s 
 
   pub ready_swept : (tables : List TableName) (ready : Ready) → IsReady tables s ready → IsReady tables t ready
   ready_swept tables ready r =
-      let blocks = ap (λ (x : Parts). x.dir.tables) sw.value ∙ swept_tables found s in
+      let blocks = ap (λ (x : ServerState). x.dir.tables) sw.value ∙ swept_tables found s in
       r ∙ (λ i. record { serial = start_count (sym sw.journal i).events + 1; hand = record { tables = tables; fresh = [] }; missing = without_block (sym blocks i) tables })
 
   pub ranges_swept : (r q : Ranged) → q ≡ r → s.options.size ≤ 512 * r.room → t.options.size ≤ 512 * q.room

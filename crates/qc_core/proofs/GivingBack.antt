@@ -10,14 +10,14 @@ use Rattle.qc_sound.specs.PlainServer.{PlainServer, EntryChain}
 use Rattle.qc_sound.specs.Moment.{Moment}
 use Rattle.qc_sound.specs.parts.Memory.{blocks_in_use, pinned_blocks}
 use Rattle.qc_sound.proofs.Handed.{times, times_append, times_permuted, permuted, gives_all}
-use Rattle.qc_core.specs.declared.parts.Parts.{Parts}
+use Rattle.qc_core.specs.declared.server_state.ServerState.{ServerState}
 use Rattle.qc_core.specs.Whole.{Named, plain, IsWhole}
 use Rattle.qc_core.proofs.OwnBlocks.{part_out, not_both, use_count}
 use Rattle.qc_core.proofs.Remaining.{tasks_in}
 use Rattle.qc_core.proofs.Uses.{all_members}
 use Rattle.qc_core.proofs.Keeping.{retiled}
 
-module _ (m : Moment) (held bs : List Block) (names : List Named) (words : List ℕ) (s : Parts) (w : IsWhole m names words s) (split : (b : Block) → times b m.held ≡ times b held + times b bs) where
+module _ (m : Moment) (held bs : List Block) (names : List Named) (words : List ℕ) (s : ServerState) (w : IsWhole m names words s) (split : (b : Block) → times b m.held ≡ times b held + times b bs) where
   abbrev p : PlainServer
   p = plain names s
 

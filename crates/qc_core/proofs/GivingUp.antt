@@ -30,13 +30,13 @@ use Rattle.qc_sound.specs.steps.Ending.{used_less, left_by_user, struck_off}
 use Rattle.qc_sound.proofs.Needs.{needs_push}
 use Rattle.qc_sound.proofs.Growing.{Meant, meant}
 use Rattle.qc_sound.proofs.Gone.{gone_step, gone_lists}
-use Rattle.qc_core.specs.declared.parts.Parts.{Parts}
+use Rattle.qc_core.specs.declared.server_state.ServerState.{ServerState}
 use Rattle.qc_core.specs.Whole.{IsNamedAs, table_pair, plain, IsWhole, with_event}
 use Rattle.qc_core.specs.KeptLaws.{tasks_same}
-use Rattle.qc_core.specs.Leaves.{MayLeave, Leaves}
-use Rattle.qc_core.specs.Strikes.{is_of, MayStrike, MayRest, rested}
-use Rattle.qc_core.specs.Cuts.{BlocksAreSound, cut}
-use Rattle.qc_core.specs.Ends.{MayGiveUpFill, EndsFill}
+use Rattle.qc_core.specs.EntryRemoval.{MayLeave, Leaves}
+use Rattle.qc_core.specs.TaskEnd.{is_of, MayStrike, MayRest, rested}
+use Rattle.qc_core.specs.EntriesCut.{BlocksAreSound, cut}
+use Rattle.qc_core.specs.FillEnd.{MayGiveUpFill, EndsFill}
 use Rattle.qc_core.proofs.Uses.{Back, back, find_all, begun_at}
 use Rattle.qc_core.proofs.Remaining.{none_staying}
 use Rattle.qc_core.proofs.Striking.{found_in, seat_found}
@@ -105,7 +105,7 @@ pub room_of : (ys : List Cached) (y : Cached) (n spare : ℕ) → entry_of n ys 
 room_of [] y n spare f k = absurd (none-some y f)
 room_of (x ∷ ys) y n spare f k = omega (arith, k)
 
-module _ (seat n : ℕ) (why : GoneWhy) (s : Parts) (u : MayGiveUpFill seat n why s) where
+module _ (seat n : ℕ) (why : GoneWhy) (s : ServerState) (u : MayGiveUpFill seat n why s) where
   abbrev m : Moment
   m = at_rest hash
 
@@ -130,7 +130,7 @@ module _ (seat n : ℕ) (why : GoneWhy) (s : Parts) (u : MayGiveUpFill seat n wh
   abbrev pub may_leave : MayLeave n s
   may_leave = cut_leaves m u.names s n bs e.entry c.0 e.there c.1 (chain_out m u.names s e.entry.serial e.entry.chain.number c.0 bs named c.1)
 
-  module _ (t : Parts) (freed : List TableBlock) (l : Leaves n e.entry c.0 freed s t) (valid : IsDirectory t.dir) where
+  module _ (t : ServerState) (freed : List TableBlock) (l : Leaves n e.entry c.0 freed s t) (valid : IsDirectory t.dir) where
     abbrev o : CutOne m u.names s n bs e.entry c.0 e.there c.1 freed t l valid
     o = cut_one m u.names s n bs e.entry c.0 e.there c.1 freed t l valid
 
@@ -138,7 +138,7 @@ module _ (seat n : ℕ) (why : GoneWhy) (s : Parts) (u : MayGiveUpFill seat n wh
     left = ap (entry_at n) l.removed.entries ∙ none_at n s.dir.entries
 
     at : find (is_of seat) t.tasks.items ≡ Some u.fills.work
-    at = ap (λ (x : Parts). find (is_of seat) x.tasks.items) o.others ∙ u.fills.at
+    at = ap (λ (x : ServerState). find (is_of seat) x.tasks.items) o.others ∙ u.fills.at
 
     named_t : IsNamedAs o.under n u.fills.work.chain.number
     named_t = subst (λ o1. IfSome o1 (λ k. IsNamedAs o.under k u.fills.work.chain.number)) (ap serial_of u.fills.fill) (find_all (λ w. IfSome (serial_of w.task) (λ k. IsNamedAs o.under k w.chain.number)) (is_of seat) t.tasks.items u.fills.work o.blocks.named.tasks at)
@@ -157,7 +157,7 @@ module _ (seat n : ℕ) (why : GoneWhy) (s : Parts) (u : MayGiveUpFill seat n wh
     may_rest = record { once = ap are_distinct (sym (seats_same t.tasks.items)) ∙ o.blocks.once; task = inr may_strike }
 
     module _ (valid2 : IsDirectory (rested seat t).dir) where
-      abbrev x : Parts
+      abbrev x : ServerState
       x = rested seat t
 
       abbrev st : IsStruck m o.under seat t n x
@@ -170,7 +170,7 @@ module _ (seat n : ℕ) (why : GoneWhy) (s : Parts) (u : MayGiveUpFill seat n wh
       plain_x = st.plain ∙ (ap (struck_off seat n x.tiles) o.plain ∙ given_is n seat t.tiles x.tiles tables p)
 
       pub same_journal : x.journal ≡ s.journal
-      same_journal = ap (λ (y : Parts). y.journal) st.others ∙ ap (λ (y : Parts). y.journal) o.others
+      same_journal = ap (λ (y : ServerState). y.journal) st.others ∙ ap (λ (y : ServerState). y.journal) o.others
 
       pub room : 1 ≤ x.journal.spare
       room = subst (λ j. 1 ≤ j.spare) (sym same_journal) (room_of (cache s.journal.events) here.entry n s.journal.spare here.cached u.whole.sound.journal.room)
@@ -212,7 +212,7 @@ module _ (seat n : ℕ) (why : GoneWhy) (s : Parts) (u : MayGiveUpFill seat n wh
             events = ap (λ j. j.events ++ ev ∷ []) same_journal;
             rests = ap (listed_for seat) same ∙ lists.alone;
             listed = λ k ne. ap (listed_for k) same ∙ (lists.others k ne ∙ sym (ap (listed_for k) (tasks_same u.names s u.whole.named)));
-            options = ap (λ (y : Parts). y.options) st.others ∙ ap (λ (y : Parts). y.options) o.others;
-            database = ap (λ (y : Parts). y.database) st.others ∙ ap (λ (y : Parts). y.database) o.others;
-            connected = ap (λ (y : Parts). y.connected) st.others ∙ ap (λ (y : Parts). y.connected) o.others;
+            options = ap (λ (y : ServerState). y.options) st.others ∙ ap (λ (y : ServerState). y.options) o.others;
+            database = ap (λ (y : ServerState). y.database) st.others ∙ ap (λ (y : ServerState). y.database) o.others;
+            connected = ap (λ (y : ServerState). y.connected) st.others ∙ ap (λ (y : ServerState). y.connected) o.others;
           }

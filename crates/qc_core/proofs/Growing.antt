@@ -45,23 +45,30 @@ use Rattle.qc_sound.proofs.Changed.{at_other, at_same}
 use Rattle.qc_sound.proofs.Growing.{grow_step, grow_lists}
 use Rattle.qc_sound.proofs.Few.{are_few}
 use Rattle.std.specs.Result.{IfErr, IsErrAnd}
-use Rattle.qc_core.specs.declared.grows.Short.{Short}
-use Rattle.qc_core.specs.declared.grows.Short.TheVariants as short
-use Rattle.qc_core.specs.declared.parts.Parts.{Parts}
+use Rattle.qc_core.specs.declared.fill_growth.Short.{Short}
+use Rattle.qc_core.specs.declared.fill_growth.Short.TheVariants as short
+use Rattle.qc_core.specs.declared.server_state.ServerState.{ServerState}
+use Rattle.qc_dir.specs.declared.tables.TableBlock.{TableBlock}
+use Rattle.qc_core.specs.EntryRemoval.{table_blocks}
 use Rattle.qc_core.specs.Whole.{Named, is_named, IsNamedAs, chain_blocks, chain_in, plain, tasks_of, IsNamed, IsWhole, Sound}
 use Rattle.qc_turn.specs.declared.view.FoundWord.{FoundWord}
-use Rattle.qc_core.specs.Sweeps.{IsSwept}
-use Rattle.qc_core.specs.Strikes.{is_of}
+use Rattle.qc_core.specs.EndedStreams.{IsSwept}
+use Rattle.qc_core.specs.TaskEnd.{is_of}
 use Rattle.qc_core.specs.KeptLaws.{tasks_same, blocks_named}
-use Rattle.qc_core.specs.Allocates.{Allocates, holding, IsPruned}
-use Rattle.qc_core.specs.Grows.{MayAppend, appended, longer_by, FillsOn, MayGrowOn, Grows, IsShort, StaysFilling}
+use Rattle.qc_core.specs.Eviction.{PrunesMany, LacksTile}
+use Rattle.qc_core.specs.BlocksReserved.{nothing}
+use Rattle.qc_core.specs.Allocation.{holds, MayTakeOne, PrunesSome, HasNone, TakesKeeping}
+use Rattle.qc_core.specs.FillGrowth.{MayAppend, appended, longer_by, FillsOn, MayGrowOn, Grows, IsShort, StaysFilling}
+use Rattle.qc_core.specs.declared.reserved_blocks.ReservedBlocks.{ReservedBlocks}
+use Rattle.qc_core.proofs.Allocating.{holding}
+use Rattle.qc_core.proofs.Handing.{none_in_hand}
 use Rattle.qc_core.proofs.Uses.{begun_at}
 use Rattle.qc_core.proofs.Seeking.{pair_of}
 use Rattle.qc_core.proofs.OwnBlocks.{use_count}
 use Rattle.qc_core.proofs.Remaining.{IsOther, differ}
 use Rattle.qc_core.proofs.Taking.{Took, took}
 use Rattle.qc_core.proofs.Appending.{append_chains, append_entries, append_names, append_room}
-use Rattle.qc_core.proofs.FillTasks.{FillTask, fill_task, plain_at, fill_named, entry_filling, entry_number, pruned_after, IsAfter, still_filling, started_after}
+use Rattle.qc_core.proofs.FillTasks.{FillTask, fill_task, plain_at, fill_named, entry_filling, entry_number, pruned_after, IsAfter, still_filling, started_after, may_allocate}
 
 -- ---- the words of blocks
 
@@ -109,7 +116,7 @@ stands_in b xs h =
 
 -- ---- what a chain asks of one block more
 
-pub may_append : (names : List Named) (words : List ℕ) (s : Parts) (n number : ℕ) (held : Kept) (b : Block) (wide : ℕ) → IsWhole (holding b (at_rest hash)) names words s → IsNamedAs names n number → Begun number s.chains held
+pub may_append : (names : List Named) (words : List ℕ) (s : ServerState) (n number : ℕ) (held : Kept) (b : Block) (wide : ℕ) → IsWhole (holding b (at_rest hash)) names words s → IsNamedAs names n number → Begun number s.chains held
     → region_words s.options ≤ 8388608 → s.options.size ≤ 512 * wide → MayAppend number b s wide
 may_append names words s n number held b wide h is begun long size =
     let p = plain names s in
@@ -230,7 +237,7 @@ module _ (n : ℕ) (b : Block) (cs : List EntryChain) (there : has_chain n cs �
 
 -- ---- the server with the longer chain
 
-module _ (names : List Named) (words : List ℕ) (s : Parts) (seat n number : ℕ) (held : Kept) (b : Block) (bs : List Block) (w : IsWhole (at_rest hash) names words s) (t : FillTask seat n bs s.chains s.tasks.items) (filling_ : IsFilling s.journal.events n)
+module _ (names : List Named) (words : List ℕ) (s : ServerState) (seat n number : ℕ) (held : Kept) (b : Block) (bs : List Block) (w : IsWhole (at_rest hash) names words s) (t : FillTask seat n bs s.chains s.tasks.items) (filling_ : IsFilling s.journal.events n)
     (named : IsNamedAs names n number) (begun : Begun number s.chains held) (is : taken (unit_words s.options) s.tiles ≡ Some b) where
   abbrev p : PlainServer
   p = plain names s
@@ -241,7 +248,7 @@ module _ (names : List Named) (words : List ℕ) (s : Parts) (seat n number : �
   abbrev ends : List Tile
   ends = after_pin true b.first mids
 
-  abbrev pub longer_server : Parts
+  abbrev pub longer_server : ServerState
   longer_server = appended number b held (record s { tiles = mids })
 
   abbrev size : ℕ
@@ -346,17 +353,69 @@ module _ (names : List Named) (words : List ℕ) (s : Parts) (seat n number : �
       ∙ ((grow_lists (at_rest hash) words p seat n b size ends w.sound (plain_at seat n bs s.chains s.tasks.items t)).alone
       ∙ ap (own seat (task.Fill n)) (at_same n (λ blocks. blocks ++ b ∷ []) p.chains has_own ∙ ap (λ l. l ++ b ∷ []) own_chain))
 
+-- ---- what is allocated for a fill, which keeps nothing of the entries that go for it
+
+pub record IsPruned (need : ℕ) (words : List ℕ) (old new : ServerState) : Type 0 where
+  pub count : ℕ
+  pub prunes : PrunesMany [] need count old new
+  pub names : List Named
+  pub whole : IsWhole (at_rest hash) names words new
+
+pub record Allocates (need : ℕ) (words : List ℕ) (old : ServerState) (block : Block) (new : ServerState) : Type 0 where
+  pub mid : ServerState
+  pub pruned : IsPruned need words old mid
+  pub taken : taken need mid.tiles ≡ Some block
+  pub server : new ≡ record mid { tiles = after_take need mid.tiles }
+  pub whole : IsWhole (holding block (at_rest hash)) pruned.names words new
+
+pub may_take : (words : List ℕ) (names : List Named) (s : ServerState) (n : ℕ) (w : IsWhole (at_rest hash) names words s) (filling_ : IsFilling s.journal.events n) (hand : ReservedBlocks) → hand ≡ nothing → MayTakeOne (unit_words s.options) hand s
+may_take words names s n w filling_ hand is = subst (λ h. MayTakeOne (unit_words s.options) h s) (sym is) (may_allocate words names s n w filling_)
+
+module _ (words : List ℕ) (names : List Named) (s : ServerState) (n : ℕ) (w : IsWhole (at_rest hash) names words s) (filling_ : IsFilling s.journal.events n) (hand after : ReservedBlocks) (empty : hand ≡ nothing) where
+  abbrev need : ℕ
+  need = unit_words s.options
+
+  -- nothing came into the hand
+  fresh_none : (new : ServerState) → PrunesSome need None words [] [] nothing after s new → after.fresh ≡ []
+  fresh_none new p = none_in_hand after new.dir.tables p.tables p.starting.hand
+
+  abbrev was_pruned : (new : ServerState) → PrunesSome need None words [] [] nothing after s new → IsPruned need words s new
+  was_pruned new p = record {
+    count = p.count;
+    prunes = p.prunes;
+    names = p.starting.names;
+    whole = subst (λ (ts : List TableBlock). IsWhole (holds None (table_blocks ts ++ [])) p.starting.names words new) (fresh_none new p) p.starting.whole;
+  }
+
+  pub grown_by : (b : Block) (new : ServerState) → ((u : MayTakeOne need hand s) → TakesKeeping need u.next u.words u.missing u.others hand after s b new) → Allocates need words s b new
+  grown_by b new f =
+      let k = subst (λ h. (u : MayTakeOne need h s) → TakesKeeping need u.next u.words u.missing u.others h after s b new) empty f (may_allocate words names s n w filling_) in
+      let p = was_pruned k.takes.mid k.pruned in
+      let fresh = fresh_none k.takes.mid k.pruned in
+      record {
+        mid = k.takes.mid;
+        pruned = record { count = k.takes.count; prunes = k.takes.prunes; names = p.names; whole = p.whole };
+        taken = k.takes.taken;
+        server = k.takes.server;
+        whole = subst (λ (q : List TableBlock × List Named). IsWhole (holds None (table_blocks q.0 ++ (b ∷ []))) q.1 words new) (λ i. (fresh i, k.names i)) k.starting.whole;
+      }
+
+  pub short_of : (new : ServerState) (e : NoTile) → ((u : MayTakeOne need hand s) → PrunesSome need u.next u.words u.missing u.others hand after s new × HasNone need new e) → IsPruned need words s new × LacksTile need new e
+  short_of new e f =
+      let k = subst (λ h. (u : MayTakeOne need h s) → PrunesSome need u.next u.words u.missing u.others h after s new × HasNone need new e) empty f (may_allocate words names s n w filling_) in
+      (was_pruned new k.0, k.1.lacks)
+
 -- ---- the call
 
-module _ (s : Parts) (n : ℕ) (r : Ranged) (u : MayGrowOn n s r) (e : Entry) (entry_is : entry_at n s.dir.entries ≡ Some e) where
+module _ (s : ServerState) (n : ℕ) (r : Ranged) (u : MayGrowOn n s r) (e : Entry) (entry_is : entry_at n s.dir.entries ≡ Some e) where
   first : FillTask u.seat n r.blocks s.chains s.tasks.items
   first = fill_task u.seat n r.blocks s.chains s.tasks.items u.fills.listed
 
   pub is_filling : IsFilling s.journal.events n
   is_filling = entry_filling (at_rest hash) u.names u.words s u.seat n r.blocks u.whole first e entry_is
 
-  module _ (b : Block) (now : Parts) (a : Allocates (unit_words s.options) (at_rest hash) u.words s b now) where
-    abbrev mid : Parts
+  module _ (b : Block) (now : ServerState) (a : Allocates (unit_words s.options) u.words s b now) where
+    abbrev mid : ServerState
     mid = a.mid
 
     after : IsAfter s mid
@@ -381,21 +440,21 @@ module _ (s : Parts) (n : ℕ) (r : Ranged) (u : MayGrowOn n s r) (e : Entry) (e
 
     pub may_append_now : MayAppend e.chain.number b now r.room
     may_append_now =
-        may_append a.pruned.names u.words now n e.chain.number chain.0 b r.room a.whole mid_named (subst (λ (x : Parts). Begun e.chain.number x.chains chain.0) (sym a.server) chain.1)
+        may_append a.pruned.names u.words now n e.chain.number chain.0 b r.room a.whole mid_named (subst (λ (x : ServerState). Begun e.chain.number x.chains chain.0) (sym a.server) chain.1)
         (subst (λ o. region_words o ≤ 8388608) (sym same_options) u.long) (subst (λ (o : Options). o.size ≤ 512 * r.room) (sym same_options) u.fills.room)
       where
         same_options : now.options ≡ s.options
-        same_options = ap (λ (x : Parts). x.options) a.server ∙ after.options
+        same_options = ap (λ (x : ServerState). x.options) a.server ∙ after.options
 
     held_is : (v : MayAppend e.chain.number b now r.room) → v.held ≡ chain.0
-    held_is v = same_Some v.held chain.0 (sym v.begun ∙ (ap (λ (x : Parts). chain_at e.chain.number x.chains) a.server ∙ chain.1))
+    held_is v = same_Some v.held chain.0 (sym v.begun ∙ (ap (λ (x : ServerState). chain_at e.chain.number x.chains) a.server ∙ chain.1))
 
     pub ranges_are : (v : MayAppend e.chain.number b now r.room) → longer_by b (record { blocks = v.held.blocks; bytes = v.held.bytes; room = r.room }) ≡ longer_by b r
     ranges_are v =
         let same = ap (λ (c : Kept). c.blocks) (held_is v) ∙ chain_is in
         λ i. record { blocks = same i ++ b ∷ []; bytes = 8 * words_of (same i ++ b ∷ []); room = r.room }
 
-    module _ (new : Parts) (done : (v : MayAppend e.chain.number b now r.room) → new ≡ appended e.chain.number b v.held now) where
+    module _ (new : ServerState) (done : (v : MayAppend e.chain.number b now r.room) → new ≡ appended e.chain.number b v.held now) where
       mid_filling : IsFilling mid.journal.events n
       mid_filling = still_filling mid.options s mid n a.pruned.whole.sound.journal.lawful after is_filling
 
@@ -437,7 +496,7 @@ module _ (s : Parts) (n : ℕ) (r : Ranged) (u : MayGrowOn n s r) (e : Entry) (e
       stays_so r' blocks =
           let start = started_after s mid n after u.fills.start in
           let more_ : 8 * words_of chain.0.blocks < length (unwrap_or (answer start.0.key (present start.0.earlier)) []) = subst (λ l. 8 * words_of l < length (unwrap_or (answer u.fills.start.key (present u.fills.start.earlier)) [])) (sym chain_is) u.fills.more in
-          let some : 0 < mid.chains.room = subst (λ (x : Parts). 0 < x.chains.room) a.server may_append_now.room in
+          let some : 0 < mid.chains.room = subst (λ (x : ServerState). 0 < x.chains.room) a.server may_append_now.room in
           record {
             names = a.pruned.names;
             whole = subst (IsWhole (at_rest hash) a.pruned.names u.words) (sym new_is) (longer_whole a.pruned.names u.words mid u.seat n e.chain.number chain.0 b r.blocks a.pruned.whole second mid_filling mid_named chain.1 taken_mid some start.0 more_);
@@ -446,12 +505,12 @@ module _ (s : Parts) (n : ℕ) (r : Ranged) (u : MayGrowOn n s r) (e : Entry) (e
           }
 
 -- the server where there was no block
-pub stays_short : (s new : Parts) (n : ℕ) (r : Ranged) (u : MayGrowOn n s r) (need : ℕ) → IsPruned need (at_rest hash) u.words s new → StaysFilling n s new r u.words u.seat
+pub stays_short : (s new : ServerState) (n : ℕ) (r : Ranged) (u : MayGrowOn n s r) (need : ℕ) → IsPruned need u.words s new → StaysFilling n s new r u.words u.seat
 stays_short s new n r u need p =
     let a = pruned_after [] need p.count s new p.prunes in
     record { names = p.names; whole = p.whole; others = λ k ne. ap (listed_for k) a.listed; alone = ap (listed_for u.seat) a.listed ∙ u.fills.listed }
 
-pub stays_same : (s : Parts) (n : ℕ) (r : Ranged) (u : MayGrowOn n s r) → StaysFilling n s s r u.words u.seat
+pub stays_same : (s : ServerState) (n : ℕ) (r : Ranged) (u : MayGrowOn n s r) → StaysFilling n s s r u.words u.seat
 stays_same s n r u = record { names = u.names; whole = u.whole; others = λ k ne. refl; alone = u.fills.listed }
 
 -- the refusal of an allocation, as the call answers it
@@ -462,30 +521,30 @@ err_short (Err e) t P h k = subst P (sym h) k
 -- ---- for the lock
 
 -- the journal goes on by events of no session, and what no holding changes stays
-record Onward (s t : Parts) : Type 0 where
+record Onward (s t : ServerState) : Type 0 where
   pub options : t.options ≡ s.options
   pub connected : t.connected ≡ s.connected
   pub later : Journal
   pub events : t.journal.events ≡ s.journal.events ++ later
   pub others : (k : ℕ) → of_seat ghosts k later ≡ []
 
-onward_after : (s t : Parts) → IsAfter s t → Onward s t
+onward_after : (s t : ServerState) → IsAfter s t → Onward s t
 onward_after s t a = record { options = a.options; connected = a.connected; later = a.later; events = a.events; others = a.others }
 
-onward_grown : (n : ℕ) (s t : Parts) (b : Block) → Grows n s b t → Onward s t
+onward_grown : (n : ℕ) (s t : ServerState) (b : Block) → Grows n s b t → Onward s t
 onward_grown n s t b g =
     let a = pruned_after [] (unit_words s.options) g.count s g.mid g.prunes in
     subst (Onward s) (sym g.server) (record { options = a.options; connected = a.connected; later = a.later; events = a.events; others = a.others })
 
-onward_short : (n : ℕ) (s t : Parts) (e : Short) → IsShort n s t e → Onward s t
+onward_short : (n : ℕ) (s t : ServerState) (e : Short) → IsShort n s t e → Onward s t
 onward_short n s t (short.Overtaken by) h = subst (Onward s) (sym h.2) (record { options = refl; connected = refl; later = []; events = sym (append-nil s.journal.events); others = λ k. refl })
 onward_short n s t (short.NoRoom need largest) h = onward_after s t (pruned_after [] (unit_words s.options) h.1 s t h.2)
 
-onward_either : (n : ℕ) (s t : Parts) (P : Block → Type 0) (Q : Type 0) (r : Result Block Short) → IfOk r (λ b. Grows n s b t × P b) → IfErr r (λ e. IsShort n s t e × Q) → Onward s t
+onward_either : (n : ℕ) (s t : ServerState) (P : Block → Type 0) (Q : Type 0) (r : Result Block Short) → IfOk r (λ b. Grows n s b t × P b) → IfErr r (λ e. IsShort n s t e × Q) → Onward s t
 onward_either n s t P Q (Ok b) g h = onward_grown n s t b g.0
 onward_either n s t P Q (Err e) g h = onward_short n s t e h.0
 
-pub grow_follows : (n seat : ℕ) (idle : List ℕ) (s t : Parts) (q : Ranged) (words : List ℕ) (P : Block → Type 0) (Q : Type 0) (r : Result Block Short) → IfOk r (λ b. Grows n s b t × P b) → IfErr r (λ e. IsShort n s t e × Q) → StaysFilling n s t q words seat → Follows ghosts seat idle s t
+pub grow_follows : (n seat : ℕ) (idle : List ℕ) (s t : ServerState) (q : Ranged) (words : List ℕ) (P : Block → Type 0) (Q : Type 0) (r : Result Block Short) → IfOk r (λ b. Grows n s b t × P b) → IfErr r (λ e. IsShort n s t e × Q) → StaysFilling n s t q words seat → Follows ghosts seat idle s t
 grow_follows n seat idle s t q words P Q r g h st =
     let o = onward_either n s t P Q r g h in
     record {
@@ -496,7 +555,7 @@ grow_follows n seat idle s t q words P Q r g h st =
       tasks = λ k ne. inl (st.others k ne);
     }
 
-abbrev pub may_grow_on : (words : List ℕ) (s : Parts) (seat n : ℕ) (r : Ranged) → Sound words s → length words ≤ 8388608 → FillsOn seat n s r → MayGrowOn n s r
+abbrev pub may_grow_on : (words : List ℕ) (s : ServerState) (seat n : ℕ) (r : Ranged) → Sound words s → length words ≤ 8388608 → FillsOn seat n s r → MayGrowOn n s r
 may_grow_on words s seat n r sound long fills = record {
   words = words;
   names = sound.0;
@@ -507,7 +566,7 @@ may_grow_on words s seat n r sound long fills = record {
 }
 
 -- the fill, when ended streams of others were struck off
-pub swept_fills : (own_ seat n : ℕ) (s t : Parts) (r q : Ranged) (found : List FoundWord) → seat ≡ own_ → q ≡ r → IsSwept own_ s t found → FillsOn own_ n s r → FillsOn seat n t q
+pub swept_fills : (own_ seat n : ℕ) (s t : ServerState) (r q : Ranged) (found : List FoundWord) → seat ≡ own_ → q ≡ r → IsSwept own_ s t found → FillsOn own_ n s r → FillsOn seat n t q
 swept_fills own_ seat n s t r q found number hand sw f =
     let split = ap (λ j. j.events) sw.journal ∙ f.start.split in
     record {

@@ -17,10 +17,10 @@ use Rattle.qc_dir.proofs.SlotSteps.{each_counted, total-permutation}
 use Rattle.qc_dir.proofs.Totals.{total-append}
 use Rattle.qc_sound.specs.parts.Memory.{are_once}
 use Rattle.qc_sound.proofs.Matched.{fewer_tables}
-use Rattle.qc_core.specs.declared.hands.Hand.{Hand}
-use Rattle.qc_core.specs.Hands.{own_in, blocks_of, names_of, IsInHand}
-use Rattle.qc_core.specs.Leaves.{AreSorted}
-use Rattle.qc_core.specs.Starts.{without_block}
+use Rattle.qc_core.specs.declared.reserved_blocks.ReservedBlocks.{ReservedBlocks}
+use Rattle.qc_core.specs.BlocksReserved.{own_in, blocks_of, names_of, IsInHand}
+use Rattle.qc_core.specs.EntryRemoval.{AreSorted}
+use Rattle.qc_core.specs.EntryStart.{without_block}
 
 -- ---- tables that pass a test, and those that don't
 
@@ -40,7 +40,7 @@ module _ (tables : List TableName) (t : TableName) (kept others : List TableBloc
 
 -- ---- what is freed comes into the hand
 
-pub hand_keeps : (hand : Hand) (missing : List TableName) (old freed rest kept others : List TableBlock) → IsInHand hand missing old → IsPermutation old (freed ++ rest) → IsPermutation freed (kept ++ others) → AreSorted hand.tables kept others
+pub hand_keeps : (hand : ReservedBlocks) (missing : List TableName) (old freed rest kept others : List TableBlock) → IsInHand hand missing old → IsPermutation old (freed ++ rest) → IsPermutation freed (kept ++ others) → AreSorted hand.tables kept others
     → IsInHand (record { tables = hand.tables; fresh = hand.fresh ++ kept }) missing rest
 hand_keeps hand missing old freed rest kept others h left parts sorts = record {
   few = h.few;
@@ -111,14 +111,14 @@ module _ (tables : List TableName) where
   own_less t (b ∷ bs) = elim (own b) as (λ v. blocks_of t (cond v (b ∷ filter own bs) (filter own bs)) ≤ bit (is_block_of t b) + blocks_of t bs) [ true ↦ omega (arith, own_less t bs) | false ↦ omega (arith, own_less t bs) ]
 
 -- the hand holds tables of its own alone
-own_hand : (hand : Hand) (missing : List TableName) (there : List TableBlock) → IsInHand hand missing there → AllByRecursion (λ b. own hand.tables b ≡ true) hand.fresh
+own_hand : (hand : ReservedBlocks) (missing : List TableName) (there : List TableBlock) → IsInHand hand missing there → AllByRecursion (λ b. own hand.tables b ≡ true) hand.fresh
 own_hand hand missing there h = each_counted (λ b. own hand.tables b ≡ true) hand.fresh (λ b f. by b (own hand.tables b) refl (f (λ c. bit (is_block_of b.table c))))
   where
     by : (b : TableBlock) (v : Bool) → own hand.tables b ≡ v → bit (is_block_of b.table b) ≤ blocks_of b.table hand.fresh → own hand.tables b ≡ true
     by b true e k = e
     by b false e k = absurd (omega (arith, k, self_bit b, h.none b.table e))
 
-pub hand_room : (hand : Hand) (missing : List TableName) (there freed rest : List TableBlock) → IsInHand hand missing there → IsPermutation there (freed ++ rest) → length hand.fresh + own_in hand.tables freed ≤ 8
+pub hand_room : (hand : ReservedBlocks) (missing : List TableName) (there freed rest : List TableBlock) → IsInHand hand missing there → IsPermutation there (freed ++ rest) → length hand.fresh + own_in hand.tables freed ≤ 8
 hand_room hand missing there freed rest h left =
     let kept = filter (own hand.tables) freed in
     let all = hand.fresh ++ kept in
@@ -135,7 +135,7 @@ hand_room hand missing there freed rest h left =
         omega (arith, h.none t e, total-append w hand.fresh (filter (own hand.tables) freed), none_of_others (λ u. list_any (same_table u) hand.tables) t (filter (own hand.tables) freed) false true (λ x. true≢false (sym x)) e (all_own hand.tables freed))
 
 -- no more than eight
-pub hand_few : (hand : Hand) (missing : List TableName) (there : List TableBlock) → IsInHand hand missing there → length hand.fresh ≤ 8
+pub hand_few : (hand : ReservedBlocks) (missing : List TableName) (there : List TableBlock) → IsInHand hand missing there → length hand.fresh ≤ 8
 hand_few hand missing there h = omega (arith, hand_room hand missing there [] there h (IsPermutation-refl there))
 
 -- ---- the start
@@ -222,7 +222,7 @@ hand_begins tables there few apart once = record {
 -- ---- the end
 
 -- with none missing, what is in hand are the tables of the entry that have no block
-pub hand_fresh : (hand : Hand) (there : List TableBlock) (e : Entry) → IsInHand hand [] there → e.tables ≡ hand.tables → AreFresh e there hand.fresh
+pub hand_fresh : (hand : ReservedBlocks) (there : List TableBlock) (e : Entry) → IsInHand hand [] there → e.tables ≡ hand.tables → AreFresh e there hand.fresh
 hand_fresh hand there e h same = record {
   once = counts_apart hand.fresh (λ t. once t (list_any (same_table t) hand.tables) refl);
   exactly = λ t. by t (list_any (same_table t) hand.tables) refl ∙ ap (λ l. list_any (same_table t) l && not (list_any (is_block_of t) there)) (sym same);
@@ -243,3 +243,12 @@ hand_fresh hand there e h same = record {
         either false k =
             let none = none_counted (is_block_of t) there k in
             some_any (is_block_of t) hand.fresh (omega (arith, h.one t e, none)) ∙ ap (λ v. not v) (sym k)
+
+-- ---- nothing is kept for no tables
+
+pub none_in_hand : (hand : ReservedBlocks) (there : List TableBlock) → hand.tables ≡ [] → IsInHand hand [] there → hand.fresh ≡ []
+none_in_hand hand there is h = by hand.fresh (λ t. h.none t (ap (list_any (same_table t)) is))
+  where
+    by : (bs : List TableBlock) → ((t : TableName) → blocks_of t bs + 0 ≡ 0) → bs ≡ []
+    by [] k = refl
+    by (b ∷ bs) k = absurd (omega (arith, k b.table, self_bit b))

@@ -1,4 +1,4 @@
--- An entry is pruned for a start, which keeps the blocks of its own tables.
+-- An entry is pruned, and the blocks of the own tables of a start are kept.
 use Rattle.std.proofs.Common.{◌≡◌, ℕ, ◌+◌, ◌-◌, ◌<◌, ◌≤◌, List, [], ◌∷◌, ◌++◌, map, length, refl, sym, ap, subst, ◌∙◌, arith, append_assoc, length-append}
 use Rattle.std.specs.Prelude.{Some, IsPermutation}
 use Rattle.std.specs.List.{AllByRecursion}
@@ -27,27 +27,25 @@ use Rattle.qc_sound.proofs.Grounds.{prunes_oldest}
 use Rattle.qc_sound.proofs.Handed.{times, times_append, times_permuted, permuted}
 use Rattle.qc_sound.proofs.Holding.{hold_step}
 use Rattle.qc_sound.proofs.Needs.{needs_prune}
-use Rattle.qc_core.specs.declared.hands.Hand.{Hand}
-use Rattle.qc_core.specs.declared.parts.Parts.{Parts}
+use Rattle.qc_core.specs.declared.reserved_blocks.ReservedBlocks.{ReservedBlocks}
+use Rattle.qc_core.specs.declared.server_state.ServerState.{ServerState}
 use Rattle.qc_core.specs.Whole.{Named, stored, table_pair, plain, tasks_of, with_event, IsWhole}
-use Rattle.qc_core.specs.Leaves.{MayLeave, Leaves, left_by, own_blocks, free_chain, has_task, table_blocks}
-use Rattle.qc_core.specs.Prunes.{MayPruneOne, PrunesOne}
-use Rattle.qc_core.specs.Cuts.{cut}
-use Rattle.qc_core.specs.Hands.{IsInHand}
-use Rattle.qc_core.specs.Takes.{holds, MayKeep, LeavesKeeping, MayTakeOne, PrunesKeeping}
-use Rattle.qc_core.proofs.Allocating.{held_small, going_less}
+use Rattle.qc_core.specs.EntryRemoval.{MayLeave, Leaves, left_by, own_blocks, free_chain, has_task, table_blocks}
+use Rattle.qc_core.specs.EntriesCut.{cut}
+use Rattle.qc_core.specs.BlocksReserved.{IsInHand}
+use Rattle.qc_core.specs.Allocation.{holds, MayKeep, LeavesKeeping, MayTakeOne, PrunesKeeping}
+use Rattle.qc_core.proofs.Allocating.{held_small, less_reserved}
 use Rattle.qc_core.proofs.Cutting.{whole_blocks, count, tiles_after}
 use Rattle.qc_core.proofs.OwnBlocks.{pair_blocks, use_count}
 use Rattle.qc_core.proofs.Remaining.{words_left}
 use Rattle.qc_core.proofs.Striking.{any_in}
-use Rattle.qc_core.proofs.Pruned.{Oldest, may_leave, oldest_of, pruned_whole, names_left, after_plain}
-use Rattle.qc_core.proofs.Pruning.{pruned_one}
+use Rattle.qc_core.proofs.Pruned.{Oldest, may_leave, oldest_of, pruned_whole, pruned_tasks, names_left, after_plain}
 use Rattle.qc_core.proofs.Handing.{hand_keeps, hand_room, hand_few}
 use Rattle.qc_core.proofs.TheirBlocks.{prune_keeps}
 
 -- ---- other tiles under the same server
 
-pub retiled : (m : Moment) (held : List Block) (names : List Named) (words : List ℕ) (s : Parts) (tiles : List Tile) → IsWhole m names words s → TilesAreSound (record m { held = held }) (with_tiles tiles (plain names s)) → IsWhole (record m { held = held }) names words (record s { tiles = tiles })
+pub retiled : (m : Moment) (held : List Block) (names : List Named) (words : List ℕ) (s : ServerState) (tiles : List Tile) → IsWhole m names words s → TilesAreSound (record m { held = held }) (with_tiles tiles (plain names s)) → IsWhole (record m { held = held }) names words (record s { tiles = tiles })
 retiled m held names words s tiles w sound = record {
   named = record { begun = w.named.begun; numbers = w.named.numbers; entries = w.named.entries; tasks = w.named.tasks };
   sound = hold_step m m.next held words (plain names s) tiles w.sound w.sound.journal.needs sound;
@@ -57,7 +55,7 @@ retiled m held names words s tiles w sound = record {
 }
 
 -- the same blocks are held, in another order
-pub reheld : (m : Moment) (held : List Block) (names : List Named) (words : List ℕ) (s : Parts) → IsWhole m names words s → ((b : Block) → times b held ≡ times b m.held) → IsWhole (record m { held = held }) names words s
+pub reheld : (m : Moment) (held : List Block) (names : List Named) (words : List ℕ) (s : ServerState) → IsWhole m names words s → ((b : Block) → times b held ≡ times b m.held) → IsWhole (record m { held = held }) names words s
 reheld m held names words s w same =
     let p = plain names s in
     let t = w.sound.memory.tiles in
@@ -81,7 +79,7 @@ all_join : {A : Type 0} (P : A → Type 0) (xs ys : List A) → AllByRecursion P
 all_join P [] ys h k = k
 all_join P (x ∷ xs) ys h k = (h.0, all_join P xs ys h.1 k)
 
-module _ (need : ℕ) (hand : Hand) (s : Parts) (u : MayTakeOne need hand s) where
+module _ (need : ℕ) (hand : ReservedBlocks) (s : ServerState) (u : MayTakeOne need hand s) where
   abbrev held : List Block
   held = table_blocks hand.fresh ++ u.others
 
@@ -105,16 +103,13 @@ module _ (need : ℕ) (hand : Hand) (s : Parts) (u : MayTakeOne need hand s) whe
   pub leave_one : (n : ℕ) → oldest_idle s.dir.entries ≡ Some n → MayLeave n s
   leave_one n oldest = may_leave m u.words u.starting.names s n u.starting.whole (oldest_of m u.words u.starting.names s n u.starting.whole oldest).idle
 
-  pub keep_spare : (t : Parts) (after : Hand) (n : ℕ) → oldest_idle s.dir.entries ≡ Some n → ((w : MayLeave n s) → LeavesKeeping n w.entry w.held hand after s t) → 1 ≤ t.journal.spare
+  pub keep_spare : (t : ServerState) (after : ReservedBlocks) (n : ℕ) → oldest_idle s.dir.entries ≡ Some n → ((w : MayLeave n s) → LeavesKeeping n w.entry w.held hand after s t) → 1 ≤ t.journal.spare
   keep_spare t after n oldest leaves =
       let room = (oldest_of m u.words u.starting.names s n u.starting.whole oldest).room in
-      omega (arith, room, ap (λ (x : Parts). x.journal.spare) (leaves (leave_one n oldest)).server)
+      omega (arith, room, ap (λ (x : ServerState). x.journal.spare) (leaves (leave_one n oldest)).server)
 
   module _ (small : largest_free s.tiles < need) where
-    abbrev pub one : MayPruneOne need s
-    one = record { moment = m; words = u.words; names = u.starting.names; whole = u.starting.whole; small = small; needs = u.needs s.journal.events; few = held_few; held = held_low }
-
-    module _ (t v : Parts) (after : Hand) (n largest : ℕ) (oldest : oldest_idle s.dir.entries ≡ Some n) (size : largest ≡ largest_free s.tiles) (leaves : (w : MayLeave n s) → LeavesKeeping n w.entry w.held hand after s t) (valid : IsDirectory t.dir) (pushed : v ≡ with_event (event.Prune n need largest) t) where
+    module _ (t v : ServerState) (after : ReservedBlocks) (n largest : ℕ) (oldest : oldest_idle s.dir.entries ≡ Some n) (size : largest ≡ largest_free s.tiles) (leaves : (w : MayLeave n s) → LeavesKeeping n w.entry w.held hand after s t) (valid : IsDirectory t.dir) (pushed : v ≡ with_event (event.Prune n need largest) t) where
       o : Oldest m u.words u.starting.names s n
       o = oldest_of m u.words u.starting.names s n u.starting.whole oldest
 
@@ -128,7 +123,7 @@ module _ (need : ℕ) (hand : Hand) (s : Parts) (u : MayTakeOne need hand s) whe
       gone = leaves (may_leave m u.words u.starting.names s n u.starting.whole o.idle)
 
       -- as if all freed blocks were given back
-      abbrev all : Parts
+      abbrev all : ServerState
       all = left_by t.dir (has_task n s) e chain gone.freed s
 
       abbrev ev : Event
@@ -137,22 +132,13 @@ module _ (need : ℕ) (hand : Hand) (s : Parts) (u : MayTakeOne need hand s) whe
       all_left : Leaves n e chain gone.freed s all
       all_left = record { removed = gone.removed; server = refl }
 
-      left_any : (w : MayLeave n s) → (freed : List TableBlock) × Leaves n w.entry w.held freed s all
-      left_any w =
-          let entry : e ≡ w.entry = same_Some e w.entry (sym o.idle.there ∙ w.there) in
-          let held : chain ≡ w.held = same_Some chain w.held (sym o.idle.begun ∙ (ap (λ (x : Entry). chain_at x.chain.number s.chains) entry ∙ w.begun)) in
-          (gone.freed, record { removed = gone.removed; server = λ i. left_by t.dir (has_task n s) (entry i) (held i) gone.freed s })
-
-      p : PrunesOne need s (with_event ev all) one
-      p = pruned_one s all (with_event ev all) n need largest one oldest size left_any valid refl
-
       licensed : IsLicensed s.options s.journal.events ev
       licensed =
           let licence = prunes_oldest m u.words (plain u.starting.names s) (stored s.chains e) need u.starting.whole.sound held_few held_low small o.found in
           subst (λ (q : ℕ × ℕ). IsLicensed s.options s.journal.events (event.Prune q.0 need q.1)) (λ i. (o.serial i, sym size i)) licence
 
       needs : NeedsOf s.options m.next (s.journal.events ++ ev ∷ [])
-      needs = needs_prune s.options s.journal.events m.next n need largest u.starting.whole.sound.journal.needs (u.needs s.journal.events)
+      needs = needs_prune s.options s.journal.events m.next n need largest u.starting.whole.sound.journal.needs u.needs
 
       abbrev names : List Named
       names = names_left m u.words u.starting.names s n u.starting.whole o.idle all need largest gone.freed all_left valid
@@ -171,7 +157,7 @@ module _ (need : ℕ) (hand : Hand) (s : Parts) (u : MayTakeOne need hand s) whe
           subst (IsPermutation s.dir.tables) (append_assoc gone.others gone.kept rest) (IsPermutation-trans s.dir.tables (gone.freed ++ rest) ((gone.others ++ gone.kept) ++ rest) gone.removed.tables (IsPermutation-append_left rest gone.freed (gone.others ++ gone.kept) swapped))
 
       tiles_is : t.tiles ≡ after_release (own_blocks (free_chain (has_task n s) chain) e gone.others) s.tiles
-      tiles_is = ap (λ (x : Parts). x.tiles) gone.server
+      tiles_is = ap (λ (x : ServerState). x.tiles) gone.server
 
       named : TilesAreSound m (cut (is_stored n) t.tiles (map table_pair (gone.kept ++ t.dir.tables)) (plain u.starting.names s))
       named =
@@ -182,7 +168,7 @@ module _ (need : ℕ) (hand : Hand) (s : Parts) (u : MayTakeOne need hand s) whe
       held_now = table_blocks after.fresh ++ u.others
 
       fresh_is : table_blocks after.fresh ≡ table_blocks hand.fresh ++ table_blocks gone.kept
-      fresh_is = ap (λ (h : Hand). table_blocks h.fresh) gone.hand ∙ map-append (λ (t : TableBlock). t.block) hand.fresh gone.kept
+      fresh_is = ap (λ (h : ReservedBlocks). table_blocks h.fresh) gone.hand ∙ map-append (λ (t : TableBlock). t.block) hand.fresh gone.kept
 
       pairs_join : (b : Block) → times b (map (λ b. b.1) (map table_pair (gone.kept ++ t.dir.tables))) ≡ times b (table_blocks gone.kept) + times b (map (λ b. b.1) (map table_pair t.dir.tables))
       pairs_join b =
@@ -232,8 +218,8 @@ module _ (need : ℕ) (hand : Hand) (s : Parts) (u : MayTakeOne need hand s) whe
 
       pub prunes_keeping : PrunesKeeping need u.next u.words u.missing u.others hand after s v
       prunes_keeping =
-          let less = going_less need s (with_event ev all) one p in
-          let dirs : v.dir.tables ≡ t.dir.tables = ap (λ (x : Parts). x.dir.tables) v_is in
+          let less = less_reserved s.options s.journal.events n need largest all_whole.sound.journal.lawful in
+          let dirs : v.dir.tables ≡ t.dir.tables = ap (λ (x : ServerState). x.dir.tables) v_is in
           record {
             prunes = record {
               small = small;
@@ -243,19 +229,19 @@ module _ (need : ℕ) (hand : Hand) (s : Parts) (u : MayTakeOne need hand s) whe
               mid = t;
               left = record { kept = gone.kept; others = gone.others; freed = gone.freed; removed = gone.removed; parts = gone.parts; sorts = gone.sorts; server = gone.server };
               server = pushed ∙ (λ i. with_event (event.Prune n need (size i)) t);
-              tasks = ap tasks_of v_is ∙ p.tasks;
+              tasks = ap tasks_of v_is ∙ pruned_tasks m u.words u.starting.names s n u.starting.whole o.idle all need largest gone.freed all_left valid licensed needs;
             };
             starting = record {
               names = names;
               whole = subst (IsWhole (holds u.next held_now) names u.words) (sym v_is) real_whole;
-              hand = subst (λ (p : Hand × List TableBlock). IsInHand p.0 u.missing p.1) (λ i. (sym gone.hand i, sym dirs i)) (hand_keeps hand u.missing s.dir.tables gone.freed t.dir.tables gone.kept gone.others u.starting.hand gone.removed.tables gone.parts gone.sorts);
-              small = subst (λ (h : Hand). AllByRecursion (λ b. b.block.words ≤ 127) h.fresh) (sym gone.hand) (all_join (λ (b : TableBlock). b.block.words ≤ 127) hand.fresh gone.kept u.starting.small kept_small);
+              hand = subst (λ (p : ReservedBlocks × List TableBlock). IsInHand p.0 u.missing p.1) (λ i. (sym gone.hand i, sym dirs i)) (hand_keeps hand u.missing s.dir.tables gone.freed t.dir.tables gone.kept gone.others u.starting.hand gone.removed.tables gone.parts gone.sorts);
+              small = subst (λ (h : ReservedBlocks). AllByRecursion (λ b. b.block.words ≤ 127) h.fresh) (sym gone.hand) (all_join (λ (b : TableBlock). b.block.words ≤ 127) hand.fresh gone.kept u.starting.small kept_small);
             };
-            tables = ap (λ (h : Hand). h.tables) gone.hand;
-            fewer = let now : reserved (cache v.journal.events) ≡ reserved (cache (with_event ev all).journal.events) = ap (λ (x : Parts). reserved (cache x.journal.events)) v_is in omega (arith, less, now);
+            tables = ap (λ (h : ReservedBlocks). h.tables) gone.hand;
+            fewer = let now : reserved (cache v.journal.events) ≡ reserved (cache (with_event ev all).journal.events) = ap (λ (x : ServerState). reserved (cache x.journal.events)) v_is in omega (arith, less, now);
             room = λ k low.
-                let spare : v.journal.spare ≡ s.journal.spare - 1 = ap (λ (x : Parts). x.journal.spare) v_is in
-                let fewer : reserved (cache v.journal.events) ≡ reserved (cache (with_event ev all).journal.events) = ap (λ (x : Parts). reserved (cache x.journal.events)) v_is in
+                let spare : v.journal.spare ≡ s.journal.spare - 1 = ap (λ (x : ServerState). x.journal.spare) v_is in
+                let fewer : reserved (cache v.journal.events) ≡ reserved (cache (with_event ev all).journal.events) = ap (λ (x : ServerState). reserved (cache x.journal.events)) v_is in
                 omega (arith, low, less, spare, fewer);
             keeps = prune_keeps hand after s v gone.kept gone.others t.dir.tables gone.hand dirs split;
           }

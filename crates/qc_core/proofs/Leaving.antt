@@ -16,8 +16,8 @@ use Rattle.qc_dir.specs.declared.tables.TableBlock.{TableBlock}
 use Rattle.qc_dir.specs.Directory.{Directory, entry_at, RemovesEntry}
 use Rattle.qc_dir.specs.Blocks.{places_of}
 use Rattle.qc_sound.proofs.Handed.{gave_tiling}
-use Rattle.qc_core.specs.declared.parts.Parts.{Parts}
-use Rattle.qc_core.specs.Leaves.{blocks_in, table_blocks, own_blocks, has_task, free_chain, chain_left, MayLeave, left_by, Leaves, IsReturning}
+use Rattle.qc_core.specs.declared.server_state.ServerState.{ServerState}
+use Rattle.qc_core.specs.EntryRemoval.{blocks_in, table_blocks, own_blocks, has_task, free_chain, chain_left, MayLeave, left_by, Leaves, IsReturning}
 
 pub release_append : (xs ys : List Block) (ts : List Tile) → after_release (xs ++ ys) ts ≡ after_release ys (after_release xs ts)
 release_append [] ys ts = refl
@@ -74,7 +74,7 @@ places_blocks ts = some_blocks ts (replicate (8 - length ts) None) ∙ (ap (λ l
 
 -- ---- an entry taken out
 
-module _ (n : ℕ) (s : Parts) (u : MayLeave n s) (e : Entry) (there : entry_at n s.dir.entries ≡ Some e) (freed : List TableBlock) (dir : Directory) (removed : RemovesEntry n freed s.dir dir) where
+module _ (n : ℕ) (s : ServerState) (u : MayLeave n s) (e : Entry) (there : entry_at n s.dir.entries ≡ Some e) (freed : List TableBlock) (dir : Directory) (removed : RemovesEntry n freed s.dir dir) where
   abbrev pub same_entry : u.entry ≡ e
   same_entry = same_Some u.entry e (sym u.there ∙ there)
 
@@ -93,13 +93,13 @@ module _ (n : ℕ) (s : Parts) (u : MayLeave n s) (e : Entry) (there : entry_at 
   pub tables_out : AreHandedOut (after_give_back e.text.first (after_release free s.tiles)) (table_blocks freed)
   tables_out = rest_handed_out (tile_words s.tiles) (after_release free s.tiles) e.text (table_blocks freed) (gave_tiling (tile_words s.tiles) s.tiles free u.tiling) text_out
 
-  pub leaves_so : (x : Parts) (ts us : List Tile) → x ≡ chain_left (has_task n s) e.chain.number u.held (record s { dir = dir }) → ts ≡ after_give_back e.text.first x.tiles → us ≡ after_release (table_blocks freed) ts → Leaves n u.entry u.held freed s (record x { tiles = us })
+  pub leaves_so : (x : ServerState) (ts us : List Tile) → x ≡ chain_left (has_task n s) e.chain.number u.held (record s { dir = dir }) → ts ≡ after_give_back e.text.first x.tiles → us ≡ after_release (table_blocks freed) ts → Leaves n u.entry u.held freed s (record x { tiles = us })
   leaves_so x ts us a c d =
       let mid = after_release free s.tiles in
       let tiles : us ≡ after_release (own_blocks free u.entry freed) s.tiles =
-      d ∙ (ap (after_release (table_blocks freed)) (c ∙ ap (λ (y : Parts). after_give_back e.text.first y.tiles) a) ∙ (ap (λ (y : Entry). after_release (table_blocks freed) (after_give_back y.text.first mid)) (sym same_entry) ∙ sym (release_append free (u.entry.text ∷ table_blocks freed) s.tiles))) in
+      d ∙ (ap (after_release (table_blocks freed)) (c ∙ ap (λ (y : ServerState). after_give_back e.text.first y.tiles) a) ∙ (ap (λ (y : Entry). after_release (table_blocks freed) (after_give_back y.text.first mid)) (sym same_entry) ∙ sym (release_append free (u.entry.text ∷ table_blocks freed) s.tiles))) in
       let number : x ≡ chain_left (has_task n s) u.entry.chain.number u.held (record s { dir = dir }) = a ∙ ap (λ (y : Entry). chain_left (has_task n s) y.chain.number u.held (record s { dir = dir })) (sym same_entry) in
-      record { removed = subst (λ d. RemovesEntry n freed s.dir d) (sym (ap (λ (y : Parts). y.dir) a)) removed; server = (λ i. record (number i) { tiles = tiles i }) ∙ (λ i. left_by (sym (ap (λ (y : Parts). y.dir) a) i) (has_task n s) u.entry u.held freed s) }
+      record { removed = subst (λ d. RemovesEntry n freed s.dir d) (sym (ap (λ (y : ServerState). y.dir) a)) removed; server = (λ i. record (number i) { tiles = tiles i }) ∙ (λ i. left_by (sym (ap (λ (y : ServerState). y.dir) a) i) (has_task n s) u.entry u.held freed s) }
 
 pub place_got : (ps : List (Option TableBlock)) (k : ℕ) (p : Option TableBlock) → k < length ps → p ≡ get_or ps k p → slice_get ps k ≡ Some p
 place_got [] k p h e = absurd (omega arith)

@@ -8,22 +8,22 @@ use Rattle.qc_chain.specs.Chains.{Chain as Kept}
 use Rattle.qc_sound.specs.Moment.{Moment}
 use Rattle.qc_sound.specs.parts.Memory.{blocks_in_use}
 use Rattle.qc_sound.proofs.Handed.{times, times_append, times_permuted}
-use Rattle.qc_core.specs.declared.parts.Parts.{Parts}
+use Rattle.qc_core.specs.declared.server_state.ServerState.{ServerState}
 use Rattle.qc_core.specs.Whole.{Named, IsNamedAs, chain_blocks, chain_in, plain}
-use Rattle.qc_core.specs.Strikes.{MayLetGo}
-use Rattle.qc_core.specs.Cuts.{BlocksAreSound}
+use Rattle.qc_core.specs.TaskEnd.{MayLetGo}
+use Rattle.qc_core.specs.EntriesCut.{BlocksAreSound}
 use Rattle.qc_core.proofs.Uses.{begun_at, few_blocks}
 use Rattle.qc_core.proofs.OwnBlocks.{part_out, chain_count, use_count}
 use Rattle.qc_core.proofs.Remaining.{chain_found}
 
 -- the blocks of a chain are handed out, each once
-pub chain_out : (m : Moment) (names : List Named) (s : Parts) (n number : ℕ) (held : Kept) → BlocksAreSound m names s → IsNamedAs names n number → Begun number s.chains held → AreHandedOut s.tiles held.blocks
+pub chain_out : (m : Moment) (names : List Named) (s : ServerState) (n number : ℕ) (held : Kept) → BlocksAreSound m names s → IsNamedAs names n number → Begun number s.chains held → AreHandedOut s.tiles held.blocks
 chain_out m names s n number held h is begun =
     let p = plain names s in
     part_out (region_words s.options) s.tiles held.blocks h.tiles.tiling
     (λ b. omega (arith, times_permuted b (handed_out s.tiles) (m.held ++ blocks_in_use p) h.tiles.in_use, times_append b m.held (blocks_in_use p), use_count b p, chain_count b n p.chains (chain_in s.chains (record { serial = n; number = number })) h.apart (chain_found s.chains n _ names is), ap (λ o. times b (chain_blocks o)) begun))
 
-pub may_let_go : (m : Moment) (names : List Named) (s : Parts) (n number : ℕ) → BlocksAreSound m names s → IsNamedAs names n number → MayLetGo number s
+pub may_let_go : (m : Moment) (names : List Named) (s : ServerState) (n number : ℕ) → BlocksAreSound m names s → IsNamedAs names n number → MayLetGo number s
 may_let_go m names s n number h is =
     let c = begun_at names s n number h.named is in
     let few = few_blocks m names s n number c.0 h.tiles is c.1 in

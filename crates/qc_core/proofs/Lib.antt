@@ -1,4 +1,3 @@
-pub mod Counting
 pub mod Seating
 pub mod Pinning
 pub mod Standing
@@ -14,7 +13,6 @@ pub mod Remaining
 pub mod ChainRooms
 pub mod Letting
 pub mod Pruned
-pub mod Pruning
 pub mod Taking
 pub mod Allocating
 pub mod Beginning
@@ -55,4 +53,5 @@ pub mod Storing
 pub mod Adding
 pub mod Starting
 pub mod Freshening
+pub mod Streaming
 mod examples

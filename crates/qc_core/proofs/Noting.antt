@@ -22,8 +22,8 @@ use Rattle.qc_sound.proofs.Pushes.{quiet_step}
 use Rattle.qc_sound.proofs.Needs.{needs_push}
 use Rattle.qc_sound.proofs.Grounds.{has_no_fill}
 use Rattle.qc_key.specs.Hash.{hash}
-use Rattle.qc_core.specs.declared.parts.RunningTask.{RunningTask}
-use Rattle.qc_core.specs.declared.parts.Parts.{Parts}
+use Rattle.qc_core.specs.declared.server_state.RunningTask.{RunningTask}
+use Rattle.qc_core.specs.declared.server_state.ServerState.{ServerState}
 use Rattle.qc_core.specs.contracts.server.ServerKept.TheImpl.{ghosts}
 use Rattle.qc_core.specs.Whole.{Named, plain, listed_in, work_in, tasks_of, IsWhole, Sound, with_event}
 use Rattle.qc_core.specs.Calls.{IsNoted, ChangesNothing, HasSpare}
@@ -54,12 +54,12 @@ none_by : (who : Who) (e : Event) (ws : List SeatTask) → decider e ≡ Some wh
 none_by who e [] d h = tt
 none_by who e (w ∷ ws) d h = (rw d (ne_eqb who.session (session_of w.seat) (λ z. h.0 (sym z))), none_by who e ws d h.1)
 
-pub record Alone (who : Who) (e : Event) (names : List Named) (s : Parts) : Type 0 where
+pub record Alone (who : Who) (e : Event) (names : List Named) (s : ServerState) : Type 0 where
   pub else : AllByRecursion (λ w. session_of w.seat ≢ who.session) (map work_in s.tasks.items)
   pub none : OfNone e (map work_in s.tasks.items)
   pub decides : MayDecide s.journal.events who
 
-pub alone : (words : List ℕ) (names : List Named) (m : Moment) (s : Parts) (who : Who) (e : Event) (seat : ℕ) → IsWhole m names words s → 0 < seat → decider e ≡ Some who → who.session ≡ seat - 1
+pub alone : (words : List ℕ) (names : List Named) (m : Moment) (s : ServerState) (who : Who) (e : Event) (seat : ℕ) → IsWhole m names words s → 0 < seat → decider e ≡ Some who → who.session ≡ seat - 1
     → who.number ≡ event_count s.journal.events who.session + 1 → listed_for seat (tasks_of s) ≡ [] → Alone who e names s
 alone words names m s who e seat h ps d is number free =
     let others = sessions_else who seat (map work_in s.tasks.items) s.journal.events _ ps is (none_listed s.chains seat s.tasks.items free) h.sound.tasks.each in
@@ -67,7 +67,7 @@ alone words names m s who e seat h ps d is number free =
 
 -- ---- one more event
 
-quiet_how : (s : Parts) (who : Who) (h : How) → ChangesNothing s h → IsQuiet (event.Run who h)
+quiet_how : (s : ServerState) (who : Who) (h : How) → ChangesNothing s h → IsQuiet (event.Run who h)
 quiet_how s who how.Other q = record { same_cache = λ es. refl; no_operations = refl; no_end = λ n. refl; needs = tt }
 quiet_how s who (how.Conflict t key by) q = record { same_cache = λ es. refl; no_operations = refl; no_end = λ n. refl; needs = tt }
 quiet_how s who (how.Status totals) q = record { same_cache = λ es. refl; no_operations = refl; no_end = λ n. refl; needs = tt }
@@ -75,7 +75,7 @@ quiet_how s who (how.Hit n) q = absurd q
 quiet_how s who (how.Start n key tables) q = absurd q
 quiet_how s who (how.Plain why) q = absurd q
 
-may_note : (s : Parts) (who : Who) (h : How) → ChangesNothing s h → MayDecide s.journal.events who → IsLicensed s.options s.journal.events (event.Run who h)
+may_note : (s : ServerState) (who : Who) (h : How) → ChangesNothing s h → MayDecide s.journal.events who → IsLicensed s.options s.journal.events (event.Run who h)
 may_note s who how.Other q d = (d, tt)
 may_note s who (how.Conflict t key by) q d = (d, q)
 may_note s who (how.Status totals) q d = (d, tt)
@@ -83,7 +83,7 @@ may_note s who (how.Hit n) q d = absurd q
 may_note s who (how.Start n key tables) q d = absurd q
 may_note s who (how.Plain why) q d = absurd q
 
-pub note_sound : (words : List ℕ) (s : Parts) (who : Who) (h : How) (seat : ℕ) → Sound words s → 0 < seat → who.session ≡ seat - 1 → who.number ≡ event_count s.journal.events who.session + 1
+pub note_sound : (words : List ℕ) (s : ServerState) (who : Who) (h : How) (seat : ℕ) → Sound words s → 0 < seat → who.session ≡ seat - 1 → who.number ≡ event_count s.journal.events who.session + 1
     → listed_for seat (tasks_of s) ≡ [] → ChangesNothing s h → HasSpare s → Sound words (with_event (event.Run who h) s)
 note_sound words s who h seat sound ps is number free q room =
     let w = sound.1 in
@@ -101,7 +101,7 @@ note_sound words s who h seat sound ps is number free q room =
     )
 
 -- an event of the seat's session is none of another seat's
-pub event_follows : (s : Parts) (e : Event) (who : Who) (seat : ℕ) (quiet : List ℕ) → decider e ≡ Some who → 0 < seat → who.session ≡ seat - 1 → Follows ghosts seat quiet s (with_event e s)
+pub event_follows : (s : ServerState) (e : Event) (who : Who) (seat : ℕ) (quiet : List ℕ) → decider e ≡ Some who → 0 < seat → who.session ≡ seat - 1 → Follows ghosts seat quiet s (with_event e s)
 event_follows s e who seat quiet d ps is = record {
   journal = (e ∷ [], refl);
   others = λ k ne. of_seat_else ghosts k s.journal.events e who.session (ap (option_map (λ (w : Who). w.session)) d) (λ z. ne (omega (arith, z, ps, is)));
@@ -111,7 +111,7 @@ event_follows s e who seat quiet d ps is = record {
 }
 
 -- what may be noted changes nothing
-pub noted_nothing : (s : Parts) (h : How) → IsNoted s h → ChangesNothing s h
+pub noted_nothing : (s : ServerState) (h : How) → IsNoted s h → ChangesNothing s h
 noted_nothing s how.Other q = q
 noted_nothing s (how.Conflict t key by) q = q
 noted_nothing s (how.Status totals) q = tt

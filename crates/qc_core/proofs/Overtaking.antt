@@ -20,7 +20,7 @@ use Rattle.qc_laws.proofs.history.Serials.{neither, none_new}
 use Rattle.qc_laws.proofs.history.Stays.{answers_stay, is_serial}
 use Rattle.qc_laws.proofs.history.Starts.{starts_once}
 use Rattle.qc_sound.specs.Ended.{ends_fill, is_ended}
-use Rattle.qc_core.specs.Overtaken.{overtakes, is_start_of, IsStartedAt, WasOvertaken}
+use Rattle.qc_core.specs.OvertakenFill.{overtakes, is_start_of, IsStartedAt, WasOvertaken}
 
 -- ---- finding
 

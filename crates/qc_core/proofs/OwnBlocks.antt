@@ -29,7 +29,7 @@ use Rattle.qc_sound.specs.steps.Leaving.{staying}
 use Rattle.qc_sound.proofs.Moved.{moved_permutes}
 use Rattle.qc_sound.proofs.Handed.{times, same_block, times_append, times_permuted, times_cut, self_one}
 use Rattle.qc_core.specs.Whole.{table_pair}
-use Rattle.qc_core.specs.Leaves.{table_blocks, own_blocks}
+use Rattle.qc_core.specs.EntryRemoval.{table_blocks, own_blocks}
 
 -- ---- how often blocks stand in a tiling
 

@@ -14,7 +14,7 @@ use Rattle.qc_chain.proofs.Listed.{drop_got}
 use Rattle.qc_sound.specs.parts.Memory.{pinned_blocks}
 use Rattle.qc_sound.specs.Handed.{after_pins}
 use Rattle.qc_sound.proofs.Handed.{pin_hands}
-use Rattle.qc_core.specs.Pins.{after_unpins, IsUnpinnedSo, IsPinning, IsUnpinning}
+use Rattle.qc_core.specs.ChainPins.{after_unpins, IsUnpinnedSo, IsPinning, IsUnpinning}
 
 -- a pin less
 unpin_pinned : (n : ℕ) (ts : List Tile) → pinned_blocks (after_pin false n ts) ≡ filter (λ b. not (b.first == n)) (pinned_blocks ts)

@@ -23,9 +23,9 @@ use Rattle.qc_sound.specs.PlainServer.{is_stored}
 use Rattle.qc_sound.specs.steps.Leaving.{left, GivesBack}
 use Rattle.qc_sound.proofs.Leaves.{prune_step}
 use Rattle.qc_model.specs.Cache.{cache}
-use Rattle.qc_core.specs.declared.parts.Parts.{Parts}
+use Rattle.qc_core.specs.declared.server_state.ServerState.{ServerState}
 use Rattle.qc_core.specs.Whole.{Named, IsNamedAs, stored, table_pair, plain, IsWhole, with_event}
-use Rattle.qc_core.specs.Leaves.{MayLeave, Leaves}
+use Rattle.qc_core.specs.EntryRemoval.{MayLeave, Leaves}
 use Rattle.qc_core.proofs.Cutting.{whole_blocks, cut_leaves, cut_one, CutOne}
 use Rattle.qc_core.proofs.Letting.{chain_out}
 use Rattle.qc_sound.specs.parts.Memory.{TilesAreSound, TablesAreSound}
@@ -49,7 +49,7 @@ use Rattle.qc_core.proofs.OwnBlocks.{no_work}
 -- ---- the whole
 
 -- what is known of an entry without listed_tasks
-pub record Idle (m : Moment) (words : List ℕ) (names : List Named) (s : Parts) (n : ℕ) : Type 0 where
+pub record Idle (m : Moment) (words : List ℕ) (names : List Named) (s : ServerState) (n : ℕ) : Type 0 where
   pub entry : Entry
   pub held : Kept
   pub there : entry_at n s.dir.entries ≡ Some entry
@@ -59,11 +59,11 @@ pub record Idle (m : Moment) (words : List ℕ) (names : List Named) (s : Parts)
 
 -- ---- one more event, and one entry less
 
-module _ (m : Moment) (words : List ℕ) (names : List Named) (s : Parts) (n : ℕ) (h : IsWhole m names words s) (u : Idle m words names s n) where
+module _ (m : Moment) (words : List ℕ) (names : List Named) (s : ServerState) (n : ℕ) (h : IsWhole m names words s) (u : Idle m words names s n) where
   abbrev pub may_leave : MayLeave n s
   may_leave = cut_leaves m names s n (whole_blocks m names words s h) u.entry u.held u.there u.begun (chain_out m names s n u.entry.chain.number u.held (whole_blocks m names words s h) u.named u.begun)
 
-  module _ (t : Parts) (need largest : ℕ) (freed : List TableBlock) (l : Leaves n u.entry u.held freed s t) (valid : IsDirectory t.dir) where
+  module _ (t : ServerState) (need largest : ℕ) (freed : List TableBlock) (l : Leaves n u.entry u.held freed s t) (valid : IsDirectory t.dir) where
     abbrev ev : Event
     ev = event.Prune n need largest
 
@@ -135,13 +135,13 @@ stored_idle cs (x ∷ es) e h = elim (is_idle x) as (λ b. cond b (Some x) (find
 ] h
 
 -- what is known of it
-pub record Oldest (m : Moment) (words : List ℕ) (names : List Named) (s : Parts) (n : ℕ) : Type 0 where
+pub record Oldest (m : Moment) (words : List ℕ) (names : List Named) (s : ServerState) (n : ℕ) : Type 0 where
   pub idle : Idle m words names s n
   pub found : find plain_idle (plain names s).entries ≡ Some (stored s.chains idle.entry)
   pub serial : idle.entry.serial ≡ n
   pub room : 0 < s.journal.spare
 
-pub oldest_of : (m : Moment) (words : List ℕ) (names : List Named) (s : Parts) (n : ℕ) → IsWhole m names words s → oldest_idle s.dir.entries ≡ Some n → Oldest m words names s n
+pub oldest_of : (m : Moment) (words : List ℕ) (names : List Named) (s : ServerState) (n : ℕ) → IsWhole m names words s → oldest_idle s.dir.entries ≡ Some n → Oldest m words names s n
 oldest_of m words names s n h is = by (find is_idle s.dir.entries) refl is
   where
     by : (o : Option Entry) → find is_idle s.dir.entries ≡ o → option_map (λ (e : Entry). e.serial) o ≡ Some n → Oldest m words names s n

@@ -24,9 +24,9 @@ use Rattle.qc_sound.specs.parts.Memory.{names_table, is_on_table, are_once}
 use Rattle.qc_sound.specs.PlainServer.{serial_of, is_task_on, is_wanted}
 use Rattle.qc_sound.specs.PlainServer.{is_stored}
 use Rattle.qc_sound.specs.steps.Leaving.{staying}
-use Rattle.qc_core.specs.declared.parts.RunningTask.{RunningTask}
+use Rattle.qc_core.specs.declared.server_state.RunningTask.{RunningTask}
 use Rattle.qc_core.specs.Whole.{Named, is_named, IsNamedAs, chain_blocks, chain_bytes, chain_in, stored, table_pair, work_in}
-use Rattle.qc_core.specs.Leaves.{released}
+use Rattle.qc_core.specs.EntryRemoval.{released}
 use Rattle.qc_core.proofs.Uses.{find_all}
 
 -- ---- the other chains

@@ -15,7 +15,7 @@ use Rattle.qc_sound.specs.PlainServer.{StoredEntry}
 use Rattle.qc_sound.specs.Moment.{Moment, at_rest}
 use Rattle.qc_sound.specs.parts.Journal.{incomplete_count, reserved}
 use Rattle.qc_sound.specs.parts.Directory.{IsStoredAs}
-use Rattle.qc_core.specs.declared.parts.Parts.{Parts}
+use Rattle.qc_core.specs.declared.server_state.ServerState.{ServerState}
 use Rattle.qc_core.specs.contracts.server.ServerKept.TheImpl.{ghosts}
 use Rattle.qc_core.specs.Whole.{Named, stored, IsWhole, Sound}
 use Rattle.qc_core.specs.Calls.{HasSpare, HasMoreRoom}
@@ -47,21 +47,21 @@ fewer [] = omega arith
 fewer (e ∷ es) = elim e.complete as (λ b. length (cond (not b) (e ∷ filter (λ e. not e.complete) es) (filter (λ e. not e.complete) es)) ≤ length (e ∷ es)) [ true ↦ omega (arith, fewer es) | false ↦ omega (arith, fewer es) ]
 
 -- the entries are as many as those of the cache
-pub entries_are : (m : Moment) (names : List Named) (words : List ℕ) (s : Parts) → IsWhole m names words s → length s.dir.entries ≡ length (cache s.journal.events)
+pub entries_are : (m : Moment) (names : List Named) (words : List ℕ) (s : ServerState) → IsWhole m names words s → length s.dir.entries ≡ length (cache s.journal.events)
 entries_are m names words s h = sym (length-map s.dir.entries (stored s.chains)) ∙ as_long m (map (stored s.chains) s.dir.entries) (cache s.journal.events) h.sound.directory
 
-pub reserved_is : (m : Moment) (names : List Named) (words : List ℕ) (s : Parts) → IsWhole m names words s → reserved (cache s.journal.events) ≡ length s.dir.entries + incomplete s.dir.entries
+pub reserved_is : (m : Moment) (names : List Named) (words : List ℕ) (s : ServerState) → IsWhole m names words s → reserved (cache s.journal.events) ≡ length s.dir.entries + incomplete s.dir.entries
 reserved_is m names words s h =
     omega (arith, entries_are m names words s h, stored_many s.chains s.dir.entries, as_many m (map (stored s.chains) s.dir.entries) (cache s.journal.events) h.sound.directory)
 
-pub few_entries : (m : Moment) (names : List Named) (words : List ℕ) (s : Parts) → IsWhole m names words s → length words ≤ 8388608 → (length s.dir.entries ≤ 65536) × (incomplete s.dir.entries ≤ 65536)
+pub few_entries : (m : Moment) (names : List Named) (words : List ℕ) (s : ServerState) → IsWhole m names words s → length words ≤ 8388608 → (length s.dir.entries ≤ 65536) × (incomplete s.dir.entries ≤ 65536)
 few_entries m names words s h long =
     let few : length s.dir.entries ≤ 65536 = omega (arith, h.room.entries, h.sound.region, long) in
     (few, omega (arith, few, fewer s.dir.entries))
 
 -- ---- more room
 
-pub more_sound : (words : List ℕ) (s : Parts) (k : ℕ) → Sound words s → s.journal.spare ≤ k → Sound words (record s { journal = record { events = s.journal.events; spare = k } })
+pub more_sound : (words : List ℕ) (s : ServerState) (k : ℕ) → Sound words s → s.journal.spare ≤ k → Sound words (record s { journal = record { events = s.journal.events; spare = k } })
 more_sound words s k sound more =
     let w = sound.1 in
     let h = w.sound in (
@@ -88,15 +88,15 @@ more_sound words s k sound more =
       },
     )
 
-pub more_is : (s t : Parts) → HasMoreRoom s t → t ≡ record s { journal = record { events = s.journal.events; spare = t.journal.spare } }
+pub more_is : (s t : ServerState) → HasMoreRoom s t → t ≡ record s { journal = record { events = s.journal.events; spare = t.journal.spare } }
 more_is s t h = h.same ∙ (λ i. record s { journal = record { events = h.events i; spare = t.journal.spare } })
 
-pub more_follows : (s : Parts) (k n : ℕ) (idle : List ℕ) → Follows ghosts n idle s (record s { journal = record { events = s.journal.events; spare = k } })
+pub more_follows : (s : ServerState) (k n : ℕ) (idle : List ℕ) → Follows ghosts n idle s (record s { journal = record { events = s.journal.events; spare = k } })
 more_follows s k n idle = record { journal = ([], sym (append-nil s.journal.events)); others = λ k ne. refl; fixed = refl; connected = λ k ne. refl; tasks = λ k ne. inl refl }
 
 -- what there is room for
-pub room_so : (words : List ℕ) (s v t : Parts) → Sound words s → v ≡ s → HasMoreRoom v t → length v.dir.entries + incomplete v.dir.entries + 1 ≤ t.journal.spare → HasSpare t
+pub room_so : (words : List ℕ) (s v t : ServerState) → Sound words s → v ≡ s → HasMoreRoom v t → length v.dir.entries + incomplete v.dir.entries + 1 ≤ t.journal.spare → HasSpare t
 room_so words s v t sound same more room =
     let is = reserved_is (at_rest hash) sound.0 words s sound.1 in
-    let events : t.journal.events ≡ s.journal.events = more.events ∙ ap (λ (x : Parts). x.journal.events) same in
-    omega (arith, room, is, ap (λ j. reserved (cache j)) events, ap (λ (x : Parts). length x.dir.entries + incomplete x.dir.entries) same)
+    let events : t.journal.events ≡ s.journal.events = more.events ∙ ap (λ (x : ServerState). x.journal.events) same in
+    omega (arith, room, is, ap (λ j. reserved (cache j)) events, ap (λ (x : ServerState). length x.dir.entries + incomplete x.dir.entries) same)

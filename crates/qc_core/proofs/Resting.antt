@@ -21,11 +21,11 @@ use Rattle.qc_turn.specs.Releases.{Follows}
 use Rattle.qc_sound.specs.PlainServer.{SeatTask, serial_of, is_stored}
 use Rattle.qc_sound.specs.Moment.{Moment, at_rest}
 use Rattle.qc_sound.specs.parts.Tasks.{is_stream_of}
-use Rattle.qc_core.specs.declared.parts.RunningTask.{RunningTask}
-use Rattle.qc_core.specs.declared.parts.Parts.{Parts}
+use Rattle.qc_core.specs.declared.server_state.RunningTask.{RunningTask}
+use Rattle.qc_core.specs.declared.server_state.ServerState.{ServerState}
 use Rattle.qc_core.specs.contracts.server.ServerKept.TheImpl.{ghosts}
 use Rattle.qc_core.specs.Whole.{Named, IsNamedAs, stored, work_in, listed_in, plain, tasks_of, IsWhole, Sound}
-use Rattle.qc_core.specs.Strikes.{is_of, MayStrike, MayRest, rested_by, rested}
+use Rattle.qc_core.specs.TaskEnd.{is_of, MayStrike, MayRest, rested_by, rested}
 use Rattle.qc_core.proofs.Uses.{find_all, serial_at, stored_at}
 use Rattle.qc_core.proofs.Letting.{may_let_go}
 use Rattle.qc_core.proofs.Cutting.{whole_blocks}
@@ -76,7 +76,7 @@ some_stream n seat (x ∷ ws) w h is =
 
 -- ---- what may be struck off
 
-module _ (m : Moment) (names : List Named) (words : List ℕ) (s : Parts) (seat : ℕ) (h : IsWhole m names words s) where
+module _ (m : Moment) (names : List Named) (words : List ℕ) (s : ServerState) (seat : ℕ) (h : IsWhole m names words s) where
   has_user : (n : ℕ) (w : RunningTask) → find (is_of seat) s.tasks.items ≡ Some w → w.task ≡ task.Stream n → IfSome (entry_at n s.dir.entries) (λ e. 0 < e.users)
   has_user n w at is = by (entry_at n s.dir.entries) refl
     where
@@ -111,7 +111,7 @@ module _ (m : Moment) (names : List Named) (words : List ℕ) (s : Parts) (seat 
 
 -- ---- for the lock
 
-pub rested_follows : (m : Moment) (words : List ℕ) (seat : ℕ) (s t : Parts) (idle : List ℕ) → IsRested m words seat s t → Follows ghosts seat idle s t
+pub rested_follows : (m : Moment) (words : List ℕ) (seat : ℕ) (s t : ServerState) (idle : List ℕ) → IsRested m words seat s t → Follows ghosts seat idle s t
 rested_follows m words seat s t idle r = record {
   journal = ([], ap (λ j. j.events) r.journal ∙ sym (append-nil s.journal.events));
   others = λ k ne. ap (λ (j : Recorded). of_seat ghosts k j.events) r.journal;
@@ -146,7 +146,7 @@ some_and None P h = absurd h
 some_and (Some x) P h = (x, refl, h)
 
 -- the server when the own stream was struck off, at rest
-pub rested_sound : (words : List ℕ) (s : Parts) (seat : ℕ) → Sound words s → MayRest seat s → IsDirectory (rested seat s).dir → (t : IsRested (at_rest hash) words seat s (rested seat s)) × Sound words (rested seat s)
+pub rested_sound : (words : List ℕ) (s : ServerState) (seat : ℕ) → Sound words s → MayRest seat s → IsDirectory (rested seat s).dir → (t : IsRested (at_rest hash) words seat s (rested seat s)) × Sound words (rested seat s)
 rested_sound words s seat sound r valid =
     let t = rested_whole (at_rest hash) sound.0 words s seat sound.1 r valid in
     (t, (t.under, t.whole))

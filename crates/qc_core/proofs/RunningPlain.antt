@@ -14,14 +14,14 @@ use Rattle.qc_sound.specs.Moment.{at_rest}
 use Rattle.qc_sound.specs.steps.Events.{IsQuiet, NeedsOwn}
 use Rattle.qc_sound.proofs.Needs.{needs_push}
 use Rattle.qc_sound.proofs.Pushes.{quiet_step}
-use Rattle.qc_core.specs.declared.parts.Parts.{Parts}
+use Rattle.qc_core.specs.declared.server_state.ServerState.{ServerState}
 use Rattle.qc_core.specs.Whole.{plain, tasks_of, with_event, Sound}
 use Rattle.qc_core.specs.Calls.{HasSpare}
-use Rattle.qc_core.specs.Plains.{MayRunPlain}
+use Rattle.qc_core.specs.PlainRun.{MayRunPlain}
 use Rattle.qc_core.proofs.Noting.{alone}
 
 -- any reason that is licensed, also that of a start
-pub plain_sound : (words : List ℕ) (s : Parts) (who : Who) (why : Reason) (seat : ℕ) → Sound words s → 0 < seat → who.session ≡ seat - 1 → who.number ≡ event_count s.journal.events who.session + 1
+pub plain_sound : (words : List ℕ) (s : ServerState) (who : Who) (why : Reason) (seat : ℕ) → Sound words s → 0 < seat → who.session ≡ seat - 1 → who.number ≡ event_count s.journal.events who.session + 1
     → listed_for seat (tasks_of s) ≡ [] → MayHaveReason s.options s.journal.events who why → NeedsOwn (event.Run who (how.Plain why)) → HasSpare s → Sound words (with_event (event.Run who (how.Plain why)) s)
 plain_sound words s who why seat sound ps is number free may needs room =
     let w = sound.1 in
@@ -38,7 +38,7 @@ plain_sound words s who why seat sound ps is number free may needs room =
       },
     )
 
-pub licensed : (s : Parts) (who : Who) (why : Reason) → MayRunPlain s who why → MayHaveReason s.options s.journal.events who why
+pub licensed : (s : ServerState) (who : Who) (why : Reason) → MayRunPlain s who why → MayHaveReason s.options s.journal.events who why
 licensed s who (reason.Error code) h = h
 licensed s who reason.Off h = h
 licensed s who reason.NotAsked h = h
@@ -48,7 +48,7 @@ licensed s who (reason.NotVisible t changed snapshot) h = h
 licensed s who (reason.Rival n) h = h
 licensed s who (reason.NoRoom need largest) h = absurd h
 
-pub no_need : (s : Parts) (who : Who) (why : Reason) → MayRunPlain s who why → NeedsOwn (event.Run who (how.Plain why))
+pub no_need : (s : ServerState) (who : Who) (why : Reason) → MayRunPlain s who why → NeedsOwn (event.Run who (how.Plain why))
 no_need s who (reason.Error code) h = tt
 no_need s who reason.Off h = tt
 no_need s who reason.NotAsked h = tt

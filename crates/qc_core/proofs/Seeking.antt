@@ -36,17 +36,17 @@ use Rattle.qc_sound.specs.PlainServer.{is_stored}
 use Rattle.qc_sound.proofs.Lists.{zip_both}
 use Rattle.qc_sound.proofs.Moved.{found_pair}
 use Rattle.qc_sound.proofs.Frees.{text_free}
-use Rattle.qc_core.specs.declared.parts.Parts.{Parts}
+use Rattle.qc_core.specs.declared.server_state.ServerState.{ServerState}
 use Rattle.qc_core.specs.contracts.server.ServerKept.TheImpl.{ghosts}
 use Rattle.qc_core.specs.Whole.{Named, stored, plain, IsWhole, Sound}
 use Rattle.qc_core.specs.KeptLaws.{tasks_same}
-use Rattle.qc_core.specs.Spelled.{is_text, read, MayRead}
+use Rattle.qc_core.specs.KeySpelling.{is_text, read, MayRead}
 use Rattle.qc_core.proofs.Uses.{back, stored_at}
 use Rattle.qc_core.proofs.Spelling.{text_is, is_text_of, text_fits}
 
 -- ---- an entry of the directory and that of the cache
 
-pub record Paired (m : Moment) (words : List ℕ) (names : List Named) (s : Parts) (n : ℕ) : Type 0 where
+pub record Paired (m : Moment) (words : List ℕ) (names : List Named) (s : ServerState) (n : ℕ) : Type 0 where
   pub entry : Entry
   pub cached : Cached
   pub there : entry_at n s.dir.entries ≡ Some entry
@@ -54,7 +54,7 @@ pub record Paired (m : Moment) (words : List ℕ) (names : List Named) (s : Part
   pub is : IsStoredAs m.hash (stored s.chains entry) cached
   pub spelled : IsSpelled words (plain names s).chains s.journal.events (stored s.chains entry) cached
 
-abbrev pub pair_of : (m : Moment) (words : List ℕ) (names : List Named) (s : Parts) (n : ℕ) (y : Cached) → IsWhole m names words s → entry_of n (cache s.journal.events) ≡ Some y → (q : Paired m words names s n) × (q.cached ≡ y)
+abbrev pub pair_of : (m : Moment) (words : List ℕ) (names : List Named) (s : ServerState) (n : ℕ) (y : Cached) → IsWhole m names words s → entry_of n (cache s.journal.events) ≡ Some y → (q : Paired m words names s n) × (q.cached ≡ y)
 pair_of m words names s n y h of =
     let p = plain names s in
     let t = found_pair m (IsSpelled words p.chains p.journal) n p.entries (cache p.journal) y (zip_both (IsStoredAs m.hash) (IsSpelled words p.chains p.journal) p.entries (cache p.journal) h.sound.directory h.sound.contents) of in
@@ -72,7 +72,7 @@ other_pair m R n (e ∷ es) (y ∷ ys) x h f =
       | false ↦ λ p g. let t = other_pair m R n es ys x h.1 g in (t.0, ap (λ b. cond b (Some y) (entry_of n ys)) (ap (λ k. eqb k n) (sym h.0.0.serial) ∙ p) ∙ t.1, t.2, t.3)
     ] refl f
 
-abbrev pub pair_at : (m : Moment) (words : List ℕ) (names : List Named) (s : Parts) (n : ℕ) (e : Entry) → IsWhole m names words s → entry_at n s.dir.entries ≡ Some e → (q : Paired m words names s n) × (q.entry ≡ e)
+abbrev pub pair_at : (m : Moment) (words : List ℕ) (names : List Named) (s : ServerState) (n : ℕ) (e : Entry) → IsWhole m names words s → entry_at n s.dir.entries ≡ Some e → (q : Paired m words names s n) × (q.entry ≡ e)
 pair_at m words names s n e h there =
     let p = plain names s in
     let t = other_pair m (IsSpelled words p.chains p.journal) n p.entries (cache p.journal) (stored s.chains e) (zip_both (IsStoredAs m.hash) (IsSpelled words p.chains p.journal) p.entries (cache p.journal) h.sound.directory h.sound.contents) (stored_at s.chains n s.dir.entries e there) in
@@ -85,7 +85,7 @@ fills_before : (k : ℕ) (quiet : List ℕ) (m : ℕ) (old new : List ListedTask
 fills_before k quiet m old new (inl same) h = subst (λ l. Misses k (fill_places l)) same h
 fills_before k quiet m old new (inr t) h = subst (λ l. Misses k (fill_places l)) (sym t.1.2) tt
 
-pub may_read : (h : Held Parts Event ghosts) (n : ℕ) (e : Entry) → MayRelease h → entry_at n h.value.dir.entries ≡ Some e → MayRead h e.text e.text_bytes
+pub may_read : (h : Held ServerState Event ghosts) (n : ℕ) (e : Entry) → MayRelease h → entry_at n h.value.dir.entries ≡ Some e → MayRead h e.text e.text_bytes
 may_read h n e stands there =
     let w = stands.sound.1 in
     let names = stands.sound.0 in
@@ -102,7 +102,7 @@ may_read h n e stands there =
 
 -- ---- serials are small
 
-pub serial_small : (words : List ℕ) (s : Parts) (n : ℕ) (e : Entry) → Sound words s → entry_at n s.dir.entries ≡ Some e → n ≤ length s.journal.events
+pub serial_small : (words : List ℕ) (s : ServerState) (n : ℕ) (e : Entry) → Sound words s → entry_at n s.dir.entries ≡ Some e → n ≤ length s.journal.events
 serial_small words s n e h there =
     let q = (pair_at (at_rest hash) words h.0 s n e h.1 there).0 in
     let lawful = h.1.sound.journal.lawful in
@@ -122,11 +122,11 @@ bytes_are (x ∷ xs) [] h = absurd (true≢false (sym h))
 bytes_are (x ∷ xs) (y ∷ ys) h = let t = both_true (eqb x y) (bytes_eq xs ys) h in λ i. eqb-true x y t.0 i ∷ bytes_are xs ys t.1 i
 
 -- no entry with a serial below has the key
-pub record IsSought (s : Parts) (key : List ℕ) (from : ℕ) : Type 0 where
+pub record IsSought (s : ServerState) (key : List ℕ) (from : ℕ) : Type 0 where
   pub none : (n : ℕ) (y : Cached) → n < from → entry_of n (cache s.journal.events) ≡ Some y → y.key ≡ key → ⊥
 
 -- the candidate doesn't have it either
-pub sought_more : (words : List ℕ) (s : Parts) (key : List ℕ) (from n : ℕ) → Sound words s → IsSought s key from
+pub sought_more : (words : List ℕ) (s : ServerState) (key : List ℕ) (from n : ℕ) → Sound words s → IsSought s key from
     → ((k : ℕ) → from ≤ k → IsSomeAnd (entry_at k s.dir.entries) (λ e. e.hash ≡ hash key) → n ≤ k) → ((y : Cached) → entry_of n (cache s.journal.events) ≡ Some y → y.key ≡ key → ⊥) → IsSought s key (n + 1)
 sought_more words s key from n h sought least other = record {
   none = λ k y below of same. elim (nat_lt k from) as (λ b. nat_lt k from ≡ b → ⊥) [
@@ -165,7 +165,7 @@ found_key key n (z ∷ ys) y apart of same =
         or_last true b h = refl
         or_last false b h = h
 
-pub sought_found : (words : List ℕ) (s : Parts) (key : List ℕ) (n : ℕ) (y : Cached) → Sound words s → entry_of n (cache s.journal.events) ≡ Some y → y.key ≡ key → Some n ≡ option_map (λ y. y.serial) (find (has_key key) (cache s.journal.events))
+pub sought_found : (words : List ℕ) (s : ServerState) (key : List ℕ) (n : ℕ) (y : Cached) → Sound words s → entry_of n (cache s.journal.events) ≡ Some y → y.key ≡ key → Some n ≡ option_map (λ y. y.serial) (find (has_key key) (cache s.journal.events))
 sought_found words s key n y h of same =
     sym (ap (option_map (λ (z : Cached). z.serial)) (found_key key n (cache s.journal.events) y (keys_apart s.options s.journal.events h.1.sound.journal.lawful) of same)
     ∙ ap Some (eqb-true y.serial n (found_all (λ _. Unit {0}) (is_entry n) (cache s.journal.events) y (all_unit (cache s.journal.events)) of).1))
@@ -198,7 +198,7 @@ own_serial p (x ∷ ys) y d f =
       | false ↦ λ g. any_serial n ys y g
     ] f
 
-pub sought_none : (words : List ℕ) (s : Parts) (key : List ℕ) (from : ℕ) → Sound words s → IsSought s key from → ((k : ℕ) → from ≤ k → IsSomeAnd (entry_at k s.dir.entries) (λ e. e.hash ≡ hash key) → ⊥)
+pub sought_none : (words : List ℕ) (s : ServerState) (key : List ℕ) (from : ℕ) → Sound words s → IsSought s key from → ((k : ℕ) → from ≤ k → IsSomeAnd (entry_at k s.dir.entries) (λ e. e.hash ≡ hash key) → ⊥)
     → None ≡ option_map (λ y. y.serial) (find (has_key key) (cache s.journal.events))
 sought_none words s key from h sought none = by (find (has_key key) (cache s.journal.events)) refl
   where
@@ -215,14 +215,14 @@ sought_none words s key from h sought none = by (find (has_key key) (cache s.jou
 
 -- ---- a text against a key
 
-pub text_yes : (words : List ℕ) (s : Parts) (n : ℕ) (e : Entry) (key : List ℕ) → Sound words s → entry_at n s.dir.entries ≡ Some e → e.text_bytes ≡ length key → is_text (read words e.text.first (words_of_bytes (length key))) key ≡ true
+pub text_yes : (words : List ℕ) (s : ServerState) (n : ℕ) (e : Entry) (key : List ℕ) → Sound words s → entry_at n s.dir.entries ≡ Some e → e.text_bytes ≡ length key → is_text (read words e.text.first (words_of_bytes (length key))) key ≡ true
     → (y : Cached) × (entry_of n (cache s.journal.events) ≡ Some y) × (y.key ≡ key)
 text_yes words s n e key h there long is =
     let q = (pair_at (at_rest hash) words h.0 s n e h.1 there).0 in
     let few = text_fits words e.text e.text_bytes q.cached.key q.spelled.key (sym q.is.text_bytes) in
     (q.cached, q.of, sym q.spelled.key ∙ (ap (text_of words (e.text ∷ [])) long ∙ text_is words e.text key (subst (λ k. words_of_bytes k ≤ e.text.words) long few) is))
 
-pub text_no : (words : List ℕ) (s : Parts) (n : ℕ) (e : Entry) (key : List ℕ) → Sound words s → entry_at n s.dir.entries ≡ Some e → e.text_bytes ≡ length key → is_text (read words e.text.first (words_of_bytes (length key))) key ≡ false
+pub text_no : (words : List ℕ) (s : ServerState) (n : ℕ) (e : Entry) (key : List ℕ) → Sound words s → entry_at n s.dir.entries ≡ Some e → e.text_bytes ≡ length key → is_text (read words e.text.first (words_of_bytes (length key))) key ≡ false
     → (y : Cached) → entry_of n (cache s.journal.events) ≡ Some y → y.key ≡ key → ⊥
 text_no words s n e key h there long is y of same =
     let q = (pair_at (at_rest hash) words h.0 s n e h.1 there).0 in
@@ -230,13 +230,13 @@ text_no words s n e key h there long is y of same =
     let one : q.cached ≡ y = same_Some q.cached y (sym q.of ∙ of) in
     true≢false (sym (is_text_of words e.text key (subst (λ k. words_of_bytes k ≤ e.text.words) long few) (ap (text_of words (e.text ∷ [])) (sym long) ∙ (q.spelled.key ∙ (ap (λ (z : Cached). z.key) one ∙ same)))) ∙ is)
 
-pub length_no : (words : List ℕ) (s : Parts) (n : ℕ) (e : Entry) (key : List ℕ) → Sound words s → entry_at n s.dir.entries ≡ Some e → (e.text_bytes ≡ length key → ⊥) → (y : Cached) → entry_of n (cache s.journal.events) ≡ Some y → y.key ≡ key → ⊥
+pub length_no : (words : List ℕ) (s : ServerState) (n : ℕ) (e : Entry) (key : List ℕ) → Sound words s → entry_at n s.dir.entries ≡ Some e → (e.text_bytes ≡ length key → ⊥) → (y : Cached) → entry_of n (cache s.journal.events) ≡ Some y → y.key ≡ key → ⊥
 length_no words s n e key h there other y of same =
     let q = (pair_at (at_rest hash) words h.0 s n e h.1 there).0 in
     let one : q.cached ≡ y = same_Some q.cached y (sym q.of ∙ of) in
     other (q.is.text_bytes ∙ ap (λ l. length l) (ap (λ (z : Cached). z.key) one ∙ same))
 
-pub candidate_small : (words : List ℕ) (s : Parts) (n h : ℕ) → Sound words s → IsSomeAnd (entry_at n s.dir.entries) (λ e. e.hash ≡ h) → n ≤ length s.journal.events
+pub candidate_small : (words : List ℕ) (s : ServerState) (n h : ℕ) → Sound words s → IsSomeAnd (entry_at n s.dir.entries) (λ e. e.hash ≡ h) → n ≤ length s.journal.events
 candidate_small words s n h sound there = by (entry_at n s.dir.entries) refl there
   where
     by : (o : Option Entry) → entry_at n s.dir.entries ≡ o → IsSomeAnd o (λ e. e.hash ≡ h) → n ≤ length s.journal.events
@@ -297,7 +297,7 @@ module _ (key : List ℕ) (c v : Cached → Bool) where
       on false b h = h
 
 -- the entry whose serial was found
-pub record Found (s : Parts) (key : List ℕ) (n : ℕ) : Type 0 where
+pub record Found (s : ServerState) (key : List ℕ) (n : ℕ) : Type 0 where
   pub cached : Cached
   pub entry : Entry
   pub found : find (has_key key) (cache s.journal.events) ≡ Some cached
@@ -307,7 +307,7 @@ pub record Found (s : Parts) (key : List ℕ) (n : ℕ) : Type 0 where
   pub tables : entry.tables ≡ cached.tables
   pub serial : cached.serial ≡ n
 
-pub found_of : (words : List ℕ) (s : Parts) (key : List ℕ) (n : ℕ) → Sound words s → Some n ≡ option_map (λ y. y.serial) (find (has_key key) (cache s.journal.events)) → Found s key n
+pub found_of : (words : List ℕ) (s : ServerState) (key : List ℕ) (n : ℕ) → Sound words s → Some n ≡ option_map (λ y. y.serial) (find (has_key key) (cache s.journal.events)) → Found s key n
 found_of words s key n h is = by (find (has_key key) (cache s.journal.events)) refl is
   where
     by : (o : Option Cached) → find (has_key key) (cache s.journal.events) ≡ o → Some n ≡ option_map (λ (y : Cached). y.serial) o → Found s key n
@@ -319,7 +319,7 @@ found_of words s key n h is = by (find (has_key key) (cache s.journal.events)) r
         let q = (pair_of (at_rest hash) words h.0 s n y h.1 of).0 in
         record { cached = y; entry = q.entry; found = e; of = of; there = q.there; complete = q.is.complete; tables = q.is.tables; serial = serial }
 
-pub found_none : (s : Parts) (state : State) (key : List ℕ) → None ≡ option_map (λ y. y.serial) (find (has_key key) (cache s.journal.events)) → None ≡ option_map (λ y. y.serial) (answering state s.journal.events key)
+pub found_none : (s : ServerState) (state : State) (key : List ℕ) → None ≡ option_map (λ y. y.serial) (find (has_key key) (cache s.journal.events)) → None ≡ option_map (λ y. y.serial) (answering state s.journal.events key)
 found_none s state key is = by (find (has_key key) (cache s.journal.events)) refl is
   where
     by : (o : Option Cached) → find (has_key key) (cache s.journal.events) ≡ o → None ≡ option_map (λ (y : Cached). y.serial) o → None ≡ option_map (λ (y : Cached). y.serial) (answering state s.journal.events key)
@@ -327,19 +327,19 @@ found_none s state key is = by (find (has_key key) (cache s.journal.events)) ref
     by (Some y) e k = absurd (none-some y.serial k)
 
 -- whether it may be sent
-pub sendable : (s : Parts) (state : State) (key : List ℕ) (n : ℕ) (b : Bool) (f : Found s key n) → b ≡ (f.entry.complete && list_all (λ t. not (wrote state t) && not (is_stale state s.journal.events t)) f.entry.tables) → b ≡ (f.cached.complete && is_visible state s.journal.events f.cached)
+pub sendable : (s : ServerState) (state : State) (key : List ℕ) (n : ℕ) (b : Bool) (f : Found s key n) → b ≡ (f.entry.complete && list_all (λ t. not (wrote state t) && not (is_stale state s.journal.events t)) f.entry.tables) → b ≡ (f.cached.complete && is_visible state s.journal.events f.cached)
 sendable s state key n b f is = is ∙ (λ i. f.complete i && list_all (λ t. not (wrote state t) && not (is_stale state s.journal.events t)) (f.tables i))
 
-pub answer_no : (words : List ℕ) (s : Parts) (state : State) (key : List ℕ) (n : ℕ) → Sound words s → (f : Found s key n) → (f.cached.complete && is_visible state s.journal.events f.cached) ≡ false → None ≡ option_map (λ y. y.serial) (answering state s.journal.events key)
+pub answer_no : (words : List ℕ) (s : ServerState) (state : State) (key : List ℕ) (n : ℕ) → Sound words s → (f : Found s key n) → (f.cached.complete && is_visible state s.journal.events f.cached) ≡ false → None ≡ option_map (λ y. y.serial) (answering state s.journal.events key)
 answer_no words s state key n h f test =
     sym (ap (option_map (λ (y : Cached). y.serial)) (narrow_no key (λ y. y.complete) (is_visible state s.journal.events) (cache s.journal.events) f.cached (keys_apart s.options s.journal.events h.1.sound.journal.lawful) f.found test))
 
-pub answer_yes : (s : Parts) (state : State) (key : List ℕ) (n : ℕ) → (f : Found s key n) → (f.cached.complete && is_visible state s.journal.events f.cached) ≡ true → (Some n ≡ option_map (λ y. y.serial) (answering state s.journal.events key)) × IsComplete s.journal.events n
+pub answer_yes : (s : ServerState) (state : State) (key : List ℕ) (n : ℕ) → (f : Found s key n) → (f.cached.complete && is_visible state s.journal.events f.cached) ≡ true → (Some n ≡ option_map (λ y. y.serial) (answering state s.journal.events key)) × IsComplete s.journal.events n
 answer_yes s state key n f test = (
   sym (ap (option_map (λ (y : Cached). y.serial)) (narrow_yes key (λ y. y.complete) (is_visible state s.journal.events) (cache s.journal.events) f.cached f.found test) ∙ ap Some f.serial),
   subst (λ (o : Option Cached). IsSomeAnd o (λ y. y.complete ≡ true)) (sym f.of) (both_true f.cached.complete (is_visible state s.journal.events f.cached) test).0,
 )
 
 -- the entry of the cache for one of the directory
-pub pair_there : (m : Moment) (words : List ℕ) (names : List Named) (s : Parts) (n : ℕ) (e : Entry) → IsWhole m names words s → entry_at n s.dir.entries ≡ Some e → (y : Cached) × (entry_of n (cache s.journal.events) ≡ Some y) × IsStoredAs m.hash (stored s.chains e) y
+pub pair_there : (m : Moment) (words : List ℕ) (names : List Named) (s : ServerState) (n : ℕ) (e : Entry) → IsWhole m names words s → entry_at n s.dir.entries ≡ Some e → (y : Cached) × (entry_of n (cache s.journal.events) ≡ Some y) × IsStoredAs m.hash (stored s.chains e) y
 pair_there m words names s n e h there = let q = (pair_at m words names s n e h there).0 in (q.cached, q.of, q.is)

@@ -22,10 +22,10 @@ use Rattle.qc_sound.specs.steps.Moving as meant
 use Rattle.qc_sound.proofs.Moving.{move_step}
 use Rattle.qc_sound.proofs.MovedTiles.{moves_tiles}
 use Rattle.qc_sound.proofs.Places.{moves_spell}
-use Rattle.qc_core.specs.declared.parts.Parts.{Parts}
+use Rattle.qc_core.specs.declared.server_state.ServerState.{ServerState}
 use Rattle.qc_core.specs.Whole.{Named, IsNamedAs, chain_blocks, chain_bytes, chain_in, stored, table_pair, plain, tasks_of, ChainsHaveRoom, IsNamed, IsWhole}
 use Rattle.qc_core.specs.KeptLaws.{tasks_same}
-use Rattle.qc_core.specs.Compacts.{shifted_by}
+use Rattle.qc_core.specs.Compaction.{shifted_by}
 
 -- ---- chains
 
@@ -100,11 +100,11 @@ shift_named change names (e ∷ es) h = (h.0, shift_named change names es h.1)
 
 -- ---- the server
 
-pub record IsShifted (names : List Named) (over : List ℕ) (s : Parts) (change : Move) : Type 0 where
+pub record IsShifted (names : List Named) (over : List ℕ) (s : ServerState) (change : Move) : Type 0 where
   pub whole : IsWhole (at_rest hash) names over (shifted_by change s)
   pub listed : tasks_of (shifted_by change s) ≡ tasks_of s
 
-pub shifted_whole : (names : List Named) (words over : List ℕ) (s : Parts) (change : Move) → IsWhole (at_rest hash) names words s → movable s.tiles ≡ Some change → IsDirectory (shifted_by change s).dir → length over ≡ length words → MovesWords change words over → IsShifted names over s change
+pub shifted_whole : (names : List Named) (words over : List ℕ) (s : ServerState) (change : Move) → IsWhole (at_rest hash) names words s → movable s.tiles ≡ Some change → IsDirectory (shifted_by change s).dir → length over ≡ length words → MovesWords change words over → IsShifted names over s change
 shifted_whole names words over s change w is valid long carried =
     let p = plain names s in
     let t = shifted_by change s in

@@ -15,9 +15,9 @@ use Rattle.qc_chain.proofs.Releases.{in_first, still_in_hand}
 use Rattle.qc_dir.specs.declared.tables.TableBlock.{TableBlock}
 use Rattle.qc_dir.specs.Keys.{bit}
 use Rattle.qc_dir.proofs.Totals.{total-append}
-use Rattle.qc_core.specs.declared.hands.Hand.{Hand}
-use Rattle.qc_core.specs.Leaves.{table_blocks, AreSorted}
-use Rattle.qc_core.specs.Hands.{own_in, Sorts}
+use Rattle.qc_core.specs.declared.reserved_blocks.ReservedBlocks.{ReservedBlocks}
+use Rattle.qc_core.specs.EntryRemoval.{table_blocks, AreSorted}
+use Rattle.qc_core.specs.BlocksReserved.{own_in, Sorts}
 use Rattle.qc_core.proofs.Leaving.{release_append, out_front}
 
 -- ---- the last block of some
@@ -49,7 +49,7 @@ all_push P (x ∷ xs) b h k = (h.0, all_push P xs b h.1 k)
 -- ---- the loop
 
 -- so many of the blocks are still to be sorted
-pub record IsSorting (before : Hand) (freed : List TableBlock) (ts : List Tile) (mine : Hand) (left : List TableBlock) (now : List Tile) : Type 0 where
+pub record IsSorting (before : ReservedBlocks) (freed : List TableBlock) (ts : List Tile) (mine : ReservedBlocks) (left : List TableBlock) (now : List Tile) : Type 0 where
   pub kept : List TableBlock
   pub others : List TableBlock
   pub parts : IsPermutation freed (left ++ (kept ++ others))
@@ -60,7 +60,7 @@ pub record IsSorting (before : Hand) (freed : List TableBlock) (ts : List Tile) 
   pub out : AreHandedOut now (table_blocks left)
   pub few : length mine.fresh + own_in before.tables left ≤ 8
 
-pub sorting_start : (hand : Hand) (freed : List TableBlock) (tiles : List Tile) → length hand.fresh + own_in hand.tables freed ≤ 8 → IsTiling (region_words tiles) tiles → AreHandedOut tiles (table_blocks freed) → IsSorting hand freed tiles hand freed tiles
+pub sorting_start : (hand : ReservedBlocks) (freed : List TableBlock) (tiles : List Tile) → length hand.fresh + own_in hand.tables freed ≤ 8 → IsTiling (region_words tiles) tiles → AreHandedOut tiles (table_blocks freed) → IsSorting hand freed tiles hand freed tiles
 sorting_start hand freed tiles few tiling out = record {
   kept = [];
   others = [];
@@ -73,9 +73,9 @@ sorting_start hand freed tiles few tiling out = record {
   few = few;
 }
 
-module _ (before : Hand) (freed : List TableBlock) (tiles : List Tile) (hand : Hand) (left : List TableBlock) (b : TableBlock) (now : List Tile) (h : IsSorting before freed tiles hand (left ++ b ∷ []) now) where
+module _ (before : ReservedBlocks) (freed : List TableBlock) (tiles : List Tile) (hand : ReservedBlocks) (left : List TableBlock) (b : TableBlock) (now : List Tile) (h : IsSorting before freed tiles hand (left ++ b ∷ []) now) where
   same_tables : hand.tables ≡ before.tables
-  same_tables = ap (λ (x : Hand). x.tables) h.hand
+  same_tables = ap (λ (x : ReservedBlocks). x.tables) h.hand
 
   own_last : own_in before.tables (left ++ b ∷ []) ≡ own_in before.tables left + bit (list_any (same_table b.table) before.tables)
   own_last = let sum = total-append (λ (b : TableBlock). bit (list_any (same_table b.table) before.tables)) left (b ∷ []) in omega (arith, sum)
@@ -90,19 +90,19 @@ module _ (before : Hand) (freed : List TableBlock) (tiles : List Tile) (hand : H
   keep_room is = omega (arith, h.few, own_last, ap bit (ap (list_any (same_table b.table)) (sym same_tables) ∙ is))
 
   -- it comes into the hand
-  pub sorting_keeps : list_any (same_table b.table) hand.tables ≡ true → (new : Hand) → new ≡ record hand { fresh = hand.fresh ++ b ∷ [] } → IsSorting before freed tiles new left now
+  pub sorting_keeps : list_any (same_table b.table) hand.tables ≡ true → (new : ReservedBlocks) → new ≡ record hand { fresh = hand.fresh ++ b ∷ [] } → IsSorting before freed tiles new left now
   sorting_keeps is new made =
       let own : list_any (same_table b.table) before.tables ≡ true = ap (list_any (same_table b.table)) (sym same_tables) ∙ is in
       let rest = h.kept ++ h.others in
       let moved : IsPermutation ((b ∷ []) ++ (h.kept ++ h.others)) ((h.kept ++ b ∷ []) ++ h.others) =
       subst (λ l. IsPermutation l ((h.kept ++ b ∷ []) ++ h.others)) (append_assoc (b ∷ []) h.kept h.others) (IsPermutation-append_left h.others ((b ∷ []) ++ h.kept) (h.kept ++ b ∷ []) (IsPermutation-append_comm (b ∷ []) h.kept)) in
-      let fresh : new.fresh ≡ hand.fresh ++ b ∷ [] = ap (λ (x : Hand). x.fresh) made in
+      let fresh : new.fresh ≡ hand.fresh ++ b ∷ [] = ap (λ (x : ReservedBlocks). x.fresh) made in
       record {
         kept = h.kept ++ b ∷ [];
         others = h.others;
         parts = IsPermutation-trans freed (left ++ ((b ∷ []) ++ rest)) (left ++ ((h.kept ++ b ∷ []) ++ h.others)) (subst (IsPermutation freed) (append_assoc left (b ∷ []) rest) h.parts) (IsPermutation-append_right left ((b ∷ []) ++ rest) ((h.kept ++ b ∷ []) ++ h.others) moved);
         sorts = record { own = all_push (λ b. list_any (same_table b.table) before.tables ≡ true) h.kept b h.sorts.own own; foreign = h.sorts.foreign };
-        hand = made ∙ (λ i. record { tables = same_tables i; fresh = (ap (λ (x : Hand). x.fresh ++ b ∷ []) h.hand ∙ append_assoc before.fresh h.kept (b ∷ [])) i });
+        hand = made ∙ (λ i. record { tables = same_tables i; fresh = (ap (λ (x : ReservedBlocks). x.fresh ++ b ∷ []) h.hand ∙ append_assoc before.fresh h.kept (b ∷ [])) i });
         tiles = h.tiles;
         tiling = h.tiling;
         out = out_front now (table_blocks left) (b.block ∷ []) front;
@@ -127,5 +127,5 @@ module _ (before : Hand) (freed : List TableBlock) (tiles : List Tile) (hand : H
         few = omega (arith, h.few, own_last);
       })
 
-pub sorted_all : (before : Hand) (freed : List TableBlock) (tiles : List Tile) (hand : Hand) (now : List Tile) → IsSorting before freed tiles hand [] now → Sorts freed before hand tiles now
+pub sorted_all : (before : ReservedBlocks) (freed : List TableBlock) (tiles : List Tile) (hand : ReservedBlocks) (now : List Tile) → IsSorting before freed tiles hand [] now → Sorts freed before hand tiles now
 sorted_all before freed tiles hand now h = record { kept = h.kept; others = h.others; parts = h.parts; sorts = h.sorts; hand = h.hand; tiles = h.tiles }

@@ -14,7 +14,7 @@ use Rattle.qc_turn.specs.Tasks.{OutsideOtherFills}
 use Rattle.qc_turn.specs.Seats.{Held, holder, words, taken, IsHeld, SameHolder}
 use Rattle.qc_turn.proofs.Holders.{same_on, same_value, taken_is, number_is}
 use Rattle.qc_sound.specs.parts.Contents.{text_of}
-use Rattle.qc_core.specs.Spelled.{spells, is_text, read, IsSame, MayRead}
+use Rattle.qc_core.specs.KeySpelling.{spells, is_text, read, IsSame, MayRead}
 
 -- ---- one word
 

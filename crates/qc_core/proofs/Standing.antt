@@ -6,7 +6,7 @@ use Rattle.qc_turn.specs.Releases.{Follows}
 use Rattle.qc_turn.specs.Views.{idle_of}
 use Rattle.qc_turn.specs.Seats.{Held, holder, words, taken, IsHeld, SameHolder, MayRelease, with_value, with_ranges}
 use Rattle.qc_turn.proofs.Holders.{same_value, held_value, follows_on, taken_is, number_is}
-use Rattle.qc_core.specs.Spelled.{IsSame}
+use Rattle.qc_core.specs.KeySpelling.{IsSame}
 use Rattle.qc_core.proofs.Spelling.{is_same}
 
 module _ {V E : Type 0} {K : Ghosts V E} where

@@ -47,20 +47,20 @@ use Rattle.qc_sound.proofs.Laws.{chains_in, tasks_in, only, places_only}
 use Rattle.qc_sound.proofs.Lists.{IsOnly}
 use Rattle.qc_sound.proofs.Needs.{needs_begin, needs_turn, needs_close}
 use Rattle.qc_sound.proofs.Pushes.{quiet_step}
-use Rattle.qc_core.specs.declared.hands.Hand.{Hand}
-use Rattle.qc_core.specs.declared.takes.Taken.{Taken}
-use Rattle.qc_core.specs.declared.parts.Parts.{Parts}
+use Rattle.qc_core.specs.declared.reserved_blocks.ReservedBlocks.{ReservedBlocks}
+use Rattle.qc_core.specs.declared.start_blocks.Taken.{Taken}
+use Rattle.qc_core.specs.declared.server_state.ServerState.{ServerState}
 use Rattle.qc_core.specs.contracts.server.ServerKept.TheImpl.{ghosts}
 use Rattle.qc_core.specs.Whole.{plain, tasks_of, with_event, IsWhole, Sound}
 use Rattle.qc_core.specs.KeptLaws.{tasks_same}
 use Rattle.qc_core.specs.Calls.{IsNext, HasMoreRoom}
-use Rattle.qc_core.specs.Connects.{is_connected}
-use Rattle.qc_core.specs.Leaves.{table_blocks}
-use Rattle.qc_core.specs.Allocates.{Prunes, PrunesMany}
-use Rattle.qc_core.specs.Starts.{TakesOne, Takes, IsShortOf, MayBegin, HasStartRoom, AddsFill, needs_for, without_block}
-use Rattle.qc_core.specs.Takes.{holds, starts, next_of, IsStarting, MayTake, TakesAll, Stops}
-use Rattle.qc_core.specs.Texts.{MayStore, HasStored}
-use Rattle.qc_core.specs.Adds.{MayAdd, IsAdded, HoldsBlocks, HoldsText, HoldsNothing}
+use Rattle.qc_core.specs.Connection.{is_connected}
+use Rattle.qc_core.specs.EntryRemoval.{table_blocks}
+use Rattle.qc_core.specs.Eviction.{Prunes, PrunesMany}
+use Rattle.qc_core.specs.EntryStart.{TakesOne, Takes, IsShortOf, MayBegin, HasStartRoom, AddsFill, needs_for, without_block}
+use Rattle.qc_core.specs.Allocation.{holds, starts, next_of, IsStarting, MayTake, TakesAll, Stops}
+use Rattle.qc_core.specs.KeyText.{MayStore, HasStored}
+use Rattle.qc_core.specs.EntryInsertion.{MayAdd, IsAdded, HoldsBlocks, HoldsText, HoldsNothing}
 use Rattle.qc_core.proofs.Adding.{block_within, text_held, may_add, names, added_whole, added_others, added_alone, adds_so}
 use Rattle.qc_core.proofs.Compacting.{free_words}
 use Rattle.qc_core.proofs.FillTasks.{prune_is}
@@ -72,7 +72,7 @@ use Rattle.qc_core.proofs.TaskRoom.{connected_seat, task_room}
 -- ---- what prunes leave
 
 -- The journal goes on by events of no session; the start is licensed still, and the seats have what they had.
-pub record Onto (s t : Parts) : Type 0 where
+pub record Onto (s t : ServerState) : Type 0 where
   pub options : t.options ≡ s.options
   pub listed : tasks_of t ≡ tasks_of s
   pub running : t.tasks ≡ s.tasks
@@ -84,10 +84,10 @@ pub record Onto (s t : Parts) : Type 0 where
   pub counts : (n : ℕ) → event_count t.journal.events n ≡ event_count s.journal.events n
   pub may : (serial : ℕ) (key : List ℕ) (tables : List TableName) → MayStart s.options s.journal.events serial key tables → MayStart t.options t.journal.events serial key tables
 
-onto_same : (s : Parts) → Onto s s
+onto_same : (s : ServerState) → Onto s s
 onto_same s = record { options = refl; listed = refl; running = refl; connected = refl; database = refl; later = []; events = sym (append-nil s.journal.events); others = λ k. refl; counts = λ n. refl; may = λ serial key tables h. h }
 
-onto_join : (s m t : Parts) → Onto s m → Onto m t → Onto s t
+onto_join : (s m t : ServerState) → Onto s m → Onto m t → Onto s t
 onto_join s m t a b = record {
   options = b.options ∙ a.options;
   listed = b.listed ∙ a.listed;
@@ -110,18 +110,18 @@ none_kept p n (y ∷ ys) h =
       | false ↦ none_kept p n ys parts.1
     ]
 
-onto_prune : (kept : List TableName) (need : ℕ) (s t : Parts) → Prunes kept need s t → Onto s t
+onto_prune : (kept : List TableName) (need : ℕ) (s t : ServerState) → Prunes kept need s t → Onto s t
 onto_prune kept need s t p =
     let e = event.Prune p.serial need (largest_free s.tiles) in
     let is = prune_is kept need s t p in
-    let options : t.options ≡ s.options = ap (λ (x : Parts). x.options) is in
-    let events : t.journal.events ≡ s.journal.events ++ e ∷ [] = ap (λ (x : Parts). x.journal.events) is in
+    let options : t.options ≡ s.options = ap (λ (x : ServerState). x.options) is in
+    let events : t.journal.events ≡ s.journal.events ++ e ∷ [] = ap (λ (x : ServerState). x.journal.events) is in
     record {
       options = options;
       listed = p.tasks;
-      running = ap (λ (x : Parts). x.tasks) is;
-      connected = ap (λ (x : Parts). x.connected) is;
-      database = ap (λ (x : Parts). x.database) is;
+      running = ap (λ (x : ServerState). x.tasks) is;
+      connected = ap (λ (x : ServerState). x.connected) is;
+      database = ap (λ (x : ServerState). x.database) is;
       later = e ∷ [];
       events = events;
       others = λ k. refl;
@@ -141,26 +141,26 @@ onto_prune kept need s t p =
         let none : ◌≡◌ {A = ℕ} (cond (p e) 1 0) 0 = ap (λ b. cond b 1 0) h in
         omega (arith, sum, none)
 
-onto_prunes : (kept : List TableName) (need count : ℕ) (s t : Parts) → PrunesMany kept need count s t → Onto s t
+onto_prunes : (kept : List TableName) (need count : ℕ) (s t : ServerState) → PrunesMany kept need count s t → Onto s t
 onto_prunes kept need zero s t h = subst (Onto s) (sym h) (onto_same s)
 onto_prunes kept need (suc k) s t h = onto_join s h.0 t (onto_prunes kept need k s h.0 h.1) (onto_prune kept need h.0 t h.2)
 
-onto_tiles : (s t : Parts) (tiles : List Tile) → t ≡ record s { tiles = tiles } → Onto s t
+onto_tiles : (s t : ServerState) (tiles : List Tile) → t ≡ record s { tiles = tiles } → Onto s t
 onto_tiles s t tiles h = subst (Onto s) (sym h) (record { options = refl; listed = refl; running = refl; connected = refl; database = refl; later = []; events = sym (append-nil s.journal.events); others = λ k. refl; counts = λ n. refl; may = λ serial key tables h. h })
 
-pub onto_takes : (kept : List TableName) (needs : List ℕ) (s t : Parts) (bs : List Block) → Takes kept needs s bs t → Onto s t
+pub onto_takes : (kept : List TableName) (needs : List ℕ) (s t : ServerState) (bs : List Block) → Takes kept needs s bs t → Onto s t
 onto_takes kept [] s t [] h = subst (Onto s) (sym h) (onto_same s)
 onto_takes kept [] s t (b ∷ bs) h = absurd h
 onto_takes kept (n ∷ needs) s t [] h = absurd h
 onto_takes kept (n ∷ needs) s t (b ∷ bs) h = onto_join s h.0 t (one n s h.0 b h.1) (onto_takes kept needs h.0 t bs h.2)
   where
-    one : (n : ℕ) (s t : Parts) (b : Block) → TakesOne kept n s b t → Onto s t
+    one : (n : ℕ) (s t : ServerState) (b : Block) → TakesOne kept n s b t → Onto s t
     one n s t b o = onto_join s o.mid t (onto_prunes kept n o.count s o.mid o.prunes) (onto_tiles o.mid t _ o.server)
 
-pub onto_short : (kept : List TableName) (needs : List ℕ) (s t : Parts) (e : NoTile) → IsShortOf kept needs s t e → Onto s t
+pub onto_short : (kept : List TableName) (needs : List ℕ) (s t : ServerState) (e : NoTile) → IsShortOf kept needs s t e → Onto s t
 onto_short kept needs s t e h = onto_join s h.mid t (onto_takes kept h.done s h.mid h.blocks h.takes) (onto_join h.mid h.last t (onto_prunes kept h.need h.count h.mid h.last h.prunes) (onto_tiles h.last t _ h.server))
 
-pub onto_follows : (s t : Parts) (seat : ℕ) (idle : List ℕ) → Onto s t → Follows ghosts seat idle s t
+pub onto_follows : (s t : ServerState) (seat : ℕ) (idle : List ℕ) → Onto s t → Follows ghosts seat idle s t
 onto_follows s t seat idle o = record {
   journal = (o.later, o.events);
   others = λ k ne. ap (of_seat ghosts k) o.events ∙ (filter-append _ s.journal.events o.later ∙ (ap (λ l. of_seat ghosts k s.journal.events ++ l) (o.others k) ∙ append-nil (of_seat ghosts k s.journal.events)));
@@ -172,14 +172,14 @@ onto_follows s t seat idle o = record {
 -- ---- a holding whose value isn't at rest
 
 -- what is held still when the value isn't sound at rest
-pub record Keeps (h : Held Parts Event ghosts) : Type 0 where
+pub record Keeps (h : Held ServerState Event ghosts) : Type 0 where
   pub held : IsHeld h
   pub follows : Follows ghosts (holder h).number (idle_of (holder h).found) (taken h) h.value
 
-pub keeps_released : (h : Held Parts Event ghosts) → MayRelease h → Keeps h
+pub keeps_released : (h : Held ServerState Event ghosts) → MayRelease h → Keeps h
 keeps_released h st = record { held = st.held; follows = st.follows }
 
-pub keeps_value : (h : Held Parts Event ghosts) (x : Parts) → Keeps h → Follows ghosts (holder h).number (idle_of (holder h).found) h.value x → Keeps (with_value h x)
+pub keeps_value : (h : Held ServerState Event ghosts) (x : ServerState) → Keeps h → Follows ghosts (holder h).number (idle_of (holder h).found) h.value x → Keeps (with_value h x)
 keeps_value h x k f =
     let same = same_value h x k.held in
     record {
@@ -187,7 +187,7 @@ keeps_value h x k f =
       follows = subst (λ b. Follows ghosts (holder h).number (idle_of (holder h).found) b x) (sym (taken_is h (with_value h x) same)) (follows_on ghosts (holder h).number (idle_of (holder h).found) (taken h) h.value x k.follows f);
     }
 
-pub comes_to_rest : (h : Held Parts Event ghosts) (r : Ranged) (x : Parts) → Keeps h → Sound (words h) x → Follows ghosts (holder h).number (idle_of (holder h).found) h.value x → MayRelease (with_value (with_ranges h r) x) × SameHolder h (with_value (with_ranges h r) x)
+pub comes_to_rest : (h : Held ServerState Event ghosts) (r : Ranged) (x : ServerState) → Keeps h → Sound (words h) x → Follows ghosts (holder h).number (idle_of (holder h).found) h.value x → MayRelease (with_value (with_ranges h r) x) × SameHolder h (with_value (with_ranges h r) x)
 comes_to_rest h r x k sound f =
     let g = with_ranges h r in
     let kept : Keeps g = record { held = record { table = k.held.table; out = k.held.out; holding = k.held.holding; width = k.held.width }; follows = k.follows } in
@@ -195,7 +195,7 @@ comes_to_rest h r x k sound f =
     let same = same_value g x kept.held in
     (record { held = now.held; sound = sound; follows = now.follows }, record { seat = same.seat; turn = same.turn; holder = same.holder })
 
-pub next_value : (h : Held Parts Event ghosts) (x : Parts) (who : Who) → Onto h.value x → IsNext h who → IsNext (with_value h x) who
+pub next_value : (h : Held ServerState Event ghosts) (x : ServerState) (who : Who) → Onto h.value x → IsNext h who → IsNext (with_value h x) who
 next_value h x who o n = record {
   session = n.session;
   number = n.number ∙ ap (λ k. k + 1) (sym (o.counts who.session));
@@ -205,7 +205,7 @@ next_value h x who o n = record {
 
 -- ---- the start begins
 
-abbrev pub may_take : (words : List ℕ) (s : Parts) (who : Who) (number : ℕ) (key : List ℕ) (tables : List TableName) → Sound words s → MayBegin key tables s → MayTake (without_block s.dir.tables tables) (length key) (record { tables = tables; fresh = [] }) s
+abbrev pub may_take : (words : List ℕ) (s : ServerState) (who : Who) (number : ℕ) (key : List ℕ) (tables : List TableName) → Sound words s → MayBegin key tables s → MayTake (without_block s.dir.tables tables) (length key) (record { tables = tables; fresh = [] }) s
 may_take words s who number key tables sound may =
     let w = sound.1 in
     let p = plain sound.0 s in
@@ -233,8 +233,8 @@ may_take words s who number key tables sound may =
 
 -- ---- the key's block
 
-module _ (who : Who) (serial : ℕ) (key : List ℕ) (tables : List TableName) (hand : Hand) (t : Taken) (h : Held Parts Event ghosts) (b : HoldsBlocks who serial key tables hand t h) where
-  abbrev s : Parts
+module _ (who : Who) (serial : ℕ) (key : List ℕ) (tables : List TableName) (hand : ReservedBlocks) (t : Taken) (h : Held ServerState Event ghosts) (b : HoldsBlocks who serial key tables hand t h) where
+  abbrev s : ServerState
   s = h.value
 
   abbrev st : IsStarting (starts who serial key tables) (words h) [] (t.text ∷ t.first ∷ []) hand s
@@ -283,7 +283,7 @@ module _ (who : Who) (serial : ℕ) (key : List ℕ) (tables : List TableName) (
       }
 
   -- the key is stored
-  module _ (k : Held Parts Event ghosts) (c : HasStored h k t.text key) where
+  module _ (k : Held ServerState Event ghosts) (c : HasStored h k t.text key) where
     stored_whole : IsWhole (holds (starts who serial key tables) held) st.names (words k) s
     stored_whole =
         let w = st.whole in
@@ -299,32 +299,32 @@ module _ (who : Who) (serial : ℕ) (key : List ℕ) (tables : List TableName) (
     holds_text = record {
       blocks = record {
         held = c.held;
-        follows = subst (λ (q : ℕ × List ℕ × Parts × Parts). Follows ghosts q.0 q.1 q.2 q.3)
+        follows = subst (λ (q : ℕ × List ℕ × ServerState × ServerState). Follows ghosts q.0 q.1 q.2 q.3)
             (λ i. (sym (number_is h k c.same) i, sym (ap (λ v. idle_of v.found) c.same.holder) i, sym (taken_is h k c.same) i, sym c.value i)) b.follows;
         same = b.same;
         starting = subst (IsStarting (starts who serial key tables) (words k) [] (t.text ∷ t.first ∷ []) hand) (sym c.value) (record { names = st.names; whole = stored_whole; hand = st.hand; small = st.small });
         next = record {
           session = b.next.session ∙ ap (λ n. n - 1) (sym (number_is h k c.same));
-          number = b.next.number ∙ ap (λ (x : Parts). event_count x.journal.events who.session + 1) (sym c.value);
+          number = b.next.number ∙ ap (λ (x : ServerState). event_count x.journal.events who.session + 1) (sym c.value);
           connected = (λ i. is_connected (number_is h k c.same i) (c.value i)) ∙ b.next.connected;
           free = (λ i. listed_for (number_is h k c.same i) (tasks_of (c.value i))) ∙ b.next.free;
         };
         room = subst HasStartRoom (sym c.value) b.room;
-        may = subst (λ (x : Parts). MayStart x.options x.journal.events serial key tables) (sym c.value) b.may;
+        may = subst (λ (x : ServerState). MayStart x.options x.journal.events serial key tables) (sym c.value) b.may;
         short = b.short;
-        full = subst (λ (x : Parts). unit_words x.options ≤ t.first.words) (sym c.value) b.full;
-        small = subst (λ (x : Parts). t.first.words ≤ unit_words x.options + 63) (sym c.value) b.small;
+        full = subst (λ (x : ServerState). unit_words x.options ≤ t.first.words) (sym c.value) b.full;
+        small = subst (λ (x : ServerState). t.first.words ≤ unit_words x.options + 63) (sym c.value) b.small;
         few = b.few;
         fits = b.fits;
-        ranges = subst (λ (q : Parts × Ranged). q.0.options.size ≤ 512 * q.1.room) (λ i. (sym c.value i, sym c.ranges i)) b.ranges;
+        ranges = subst (λ (q : ServerState × Ranged). q.0.options.size ≤ 512 * q.1.room) (λ i. (sym c.value i, sym c.ranges i)) b.ranges;
       };
       text = c.text;
     }
 
 -- ---- what take_blocks leaves
 
-module _ (who : Who) (serial : ℕ) (key : List ℕ) (tables : List TableName) (h : Held Parts Event ghosts) (st : MayRelease h) (next : IsNext h who) (may : MayBegin key tables h.value) (room : HasStartRoom h.value) (above : serial ≡ start_count h.value.journal.events + 1) where
-  abbrev empty : Hand
+module _ (who : Who) (serial : ℕ) (key : List ℕ) (tables : List TableName) (h : Held ServerState Event ghosts) (st : MayRelease h) (next : IsNext h who) (may : MayBegin key tables h.value) (room : HasStartRoom h.value) (above : serial ≡ start_count h.value.journal.events + 1) where
+  abbrev empty : ReservedBlocks
   empty = record { tables = tables; fresh = [] }
 
   abbrev pub taking : MayTake (without_block h.value.dir.tables tables) (length key) empty h.value
@@ -333,7 +333,7 @@ module _ (who : Who) (serial : ℕ) (key : List ℕ) (tables : List TableName) (
   may_at : MayStart h.value.options h.value.journal.events serial key tables
   may_at = subst (λ n. MayStart h.value.options h.value.journal.events n key tables) (sym above) may.may
 
-  pub holds_blocks : (hand : Hand) (t : Taken) (x : Parts) → h.value.options.size ≤ 512 * h.ranges.room → TakesAll (next_of (without_block h.value.dir.tables tables) (length key) empty h.value taking) (words h) (without_block h.value.dir.tables tables) (length key) empty hand h.value t x
+  pub holds_blocks : (hand : ReservedBlocks) (t : Taken) (x : ServerState) → h.value.options.size ≤ 512 * h.ranges.room → TakesAll (next_of (without_block h.value.dir.tables tables) (length key) empty h.value taking) (words h) (without_block h.value.dir.tables tables) (length key) empty hand h.value t x
       → HoldsBlocks who serial key tables hand t (with_value h x)
   holds_blocks hand t x size a =
       let o = onto_takes tables (needs_for h.value.options (without_block h.value.dir.tables tables) (length key)) h.value x (a.blocks ++ t.first ∷ t.text ∷ []) a.takes in
@@ -355,7 +355,7 @@ module _ (who : Who) (serial : ℕ) (key : List ℕ) (tables : List TableName) (
         ranges = subst (λ (q : Options). q.size ≤ 512 * h.ranges.room) (sym o.options) size;
       }
 
-  pub holds_nothing : (needs : List ℕ) (x : Parts) (e : NoTile) → Stops tables (next_of (without_block h.value.dir.tables tables) (length key) empty h.value taking) (words h) needs [] h.value x e → HoldsNothing who e (with_value h x)
+  pub holds_nothing : (needs : List ℕ) (x : ServerState) (e : NoTile) → Stops tables (next_of (without_block h.value.dir.tables tables) (length key) empty h.value taking) (words h) needs [] h.value x e → HoldsNothing who e (with_value h x)
   holds_nothing needs x e a =
       let o = onto_short tables needs h.value x e a.short in
       let k = keeps_value h x (keeps_released h st) (onto_follows h.value x (holder h).number (idle_of (holder h).found) o) in
@@ -376,7 +376,7 @@ module _ (who : Who) (serial : ℕ) (key : List ℕ) (tables : List TableName) (
 
 -- ---- without room
 
-module _ (who : Who) (e : NoTile) (h : Held Parts Event ghosts) (n : HoldsNothing who e h) where
+module _ (who : Who) (e : NoTile) (h : Held ServerState Event ghosts) (n : HoldsNothing who e h) where
   abbrev pub plain_event : Event
   plain_event = event.Run who (how.Plain (reason.NoRoom e.need e.largest))
 
@@ -404,7 +404,7 @@ module _ (who : Who) (e : NoTile) (h : Held Parts Event ghosts) (n : HoldsNothin
 
 -- ---- the entry is put in
 
-module _ (who : Who) (serial : ℕ) (key : List ℕ) (tables : List TableName) (hand : Hand) (t : Taken) (h : Held Parts Event ghosts) (x : HoldsText who serial key tables hand t h) where
+module _ (who : Who) (serial : ℕ) (key : List ℕ) (tables : List TableName) (hand : ReservedBlocks) (t : Taken) (h : Held ServerState Event ghosts) (x : HoldsText who serial key tables hand t h) where
   abbrev b : HoldsBlocks who serial key tables hand t h
   b = x.blocks
 
@@ -417,7 +417,7 @@ module _ (who : Who) (serial : ℕ) (key : List ℕ) (tables : List TableName) (
   pub may_put : MayAdd serial hand t h.value h.ranges.room
   may_put = may_add who serial key tables hand t (words h) h.value b.starting b.may.next h.ranges.room b.ranges (omega (arith, b.starting.whole.sound.region, b.held.width, h.turn.now.small)) some
 
-  module _ (new v : Parts) (r : Ranged) (a : IsAdded (holder h).number serial key hand t h.value new) (is : v ≡ with_event (event.Run who (how.Start serial key tables)) new) where
+  module _ (new v : ServerState) (r : Ranged) (a : IsAdded (holder h).number serial key hand t h.value new) (is : v ≡ with_event (event.Run who (how.Start serial key tables)) new) where
     v_is : v ≡ with_event (event.Run who (how.Start serial key hand.tables)) new
     v_is = is ∙ ap (λ ts. with_event (event.Run who (how.Start serial key ts)) new) (sym b.same)
 
@@ -425,7 +425,7 @@ module _ (who : Who) (serial : ℕ) (key : List ℕ) (tables : List TableName) (
     put_adds = adds_so who serial key tables hand t (words h) h.value b.starting b.may.next (holder h).number new a x.text b.room b.may b.same seated b.next.session b.next.number b.next.free b.full b.small b.fits some v v_is
 
     pub put_events : v.journal.events ≡ h.value.journal.events ++ event.Run who (how.Start serial key tables) ∷ []
-    put_events = ap (λ (z : Parts). z.journal.events) is ∙ ap (λ (z : Parts). z.journal.events ++ event.Run who (how.Start serial key tables) ∷ []) a.server
+    put_events = ap (λ (z : ServerState). z.journal.events) is ∙ ap (λ (z : ServerState). z.journal.events ++ event.Run who (how.Start serial key tables) ∷ []) a.server
 
     pub put_listed : listed_for (holder h).number (tasks_of v) ≡ own (holder h).number (task.Fill serial) (t.first ∷ [])
     put_listed = added_alone who serial key tables hand t (words h) h.value b.starting b.may.next (holder h).number new a x.text b.room b.may b.same seated b.next.session b.next.number b.next.free b.full b.small b.fits some v v_is
@@ -434,8 +434,8 @@ module _ (who : Who) (serial : ℕ) (key : List ℕ) (tables : List TableName) (
     put_follows = record {
       journal = (event.Run who (how.Start serial key tables) ∷ [], put_events);
       others = λ k ne. ap (of_seat ghosts k) put_events ∙ of_seat_else ghosts k h.value.journal.events (event.Run who (how.Start serial key tables)) who.session refl (λ z. ne (omega (arith, z, seated.low, b.next.session)));
-      fixed = ap (λ (o : Options). o.size ∷ o.limit ∷ o.unit ∷ o.kind ∷ []) (ap (λ (z : Parts). z.options) put_adds.server);
-      connected = λ k ne. ap (λ (z : Parts). list_any (λ m. m == k) z.connected.items) put_adds.server;
+      fixed = ap (λ (o : Options). o.size ∷ o.limit ∷ o.unit ∷ o.kind ∷ []) (ap (λ (z : ServerState). z.options) put_adds.server);
+      connected = λ k ne. ap (λ (z : ServerState). list_any (λ m. m == k) z.connected.items) put_adds.server;
       tasks = λ k ne. inl (added_others who serial key tables hand t (words h) h.value b.starting b.may.next (holder h).number new a x.text b.room b.may b.same seated b.next.session b.next.number b.next.free b.full b.small b.fits some v v_is k ne);
     }
 
@@ -446,8 +446,8 @@ module _ (who : Who) (serial : ℕ) (key : List ℕ) (tables : List TableName) (
 
 -- ---- room in the journal
 
-pub start_room_so : (words : List ℕ) (s v t : Parts) → Sound words s → v ≡ s → HasMoreRoom v t → length v.dir.entries + incomplete v.dir.entries + 3 ≤ t.journal.spare → HasStartRoom t
+pub start_room_so : (words : List ℕ) (s v t : ServerState) → Sound words s → v ≡ s → HasMoreRoom v t → length v.dir.entries + incomplete v.dir.entries + 3 ≤ t.journal.spare → HasStartRoom t
 start_room_so words s v t sound same more room =
     let is = reserved_is (at_rest hash) sound.0 words s sound.1 in
-    let events : t.journal.events ≡ s.journal.events = more.events ∙ ap (λ (x : Parts). x.journal.events) same in
-    omega (arith, room, is, ap (λ j. reserved (cache j)) events, ap (λ (x : Parts). length x.dir.entries + incomplete x.dir.entries) same)
+    let events : t.journal.events ≡ s.journal.events = more.events ∙ ap (λ (x : ServerState). x.journal.events) same in
+    omega (arith, room, is, ap (λ j. reserved (cache j)) events, ap (λ (x : ServerState). length x.dir.entries + incomplete x.dir.entries) same)

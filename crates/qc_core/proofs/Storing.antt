@@ -11,8 +11,8 @@ use Rattle.qc_turn.specs.Releases.{IsFreeOfOthers}
 use Rattle.qc_turn.specs.Views.{idle_of}
 use Rattle.qc_turn.specs.Seats.{Held, holder, words, taken, IsHeld, SameHolder}
 use Rattle.qc_turn.proofs.Holders.{taken_is, number_is, same_on}
-use Rattle.qc_core.specs.Spelled.{spells, is_text, read}
-use Rattle.qc_core.specs.Texts.{MayStore, HasStored}
+use Rattle.qc_core.specs.KeySpelling.{spells, is_text, read}
+use Rattle.qc_core.specs.KeyText.{MayStore, HasStored}
 use Rattle.qc_core.proofs.Spelling.{is_same, piece_is, read_step, text_is}
 
 -- ---- one word

@@ -27,12 +27,12 @@ use Rattle.qc_sound.proofs.Handed.{times, times_append, times_permuted, permuted
 use Rattle.qc_sound.proofs.Filters.{pins_stay, tasks_wanted}
 use Rattle.qc_sound.proofs.Moved.{moved_permutes}
 use Rattle.qc_laws.proofs.history.Events.{all_on}
-use Rattle.qc_core.specs.declared.parts.RunningTask.{RunningTask}
-use Rattle.qc_core.specs.declared.parts.Parts.{Parts}
+use Rattle.qc_core.specs.declared.server_state.RunningTask.{RunningTask}
+use Rattle.qc_core.specs.declared.server_state.ServerState.{ServerState}
 use Rattle.qc_core.specs.Whole.{Named, IsNamedAs, chain_blocks, chain_in, stored, work_in, plain}
-use Rattle.qc_core.specs.Pins.{after_unpins, IsUnpinnedSo}
-use Rattle.qc_core.specs.Strikes.{is_of, others, is_on, MayLetGo, MayStrike}
-use Rattle.qc_core.specs.Cuts.{BlocksAreSound}
+use Rattle.qc_core.specs.ChainPins.{after_unpins, IsUnpinnedSo}
+use Rattle.qc_core.specs.TaskEnd.{is_of, others, is_on, MayLetGo, MayStrike}
+use Rattle.qc_core.specs.EntriesCut.{BlocksAreSound}
 use Rattle.qc_core.specs.KeptLaws.{blocks_named}
 use Rattle.qc_core.proofs.Pinning.{unpinned_all}
 use Rattle.qc_core.proofs.Seating.{distinct_parts, none_other}
@@ -185,14 +185,14 @@ each_passes q n (c ∷ cs) a h = (elim (eqb n c.serial) as (λ v. eqb n c.serial
 -- ---- the blocks
 
 -- a task of a seat, and its chain
-pub record EndingTask (seat : ℕ) (s : Parts) : Type 0 where
+pub record EndingTask (seat : ℕ) (s : ServerState) : Type 0 where
   pub work : RunningTask
   pub serial : ℕ
   pub at : find (is_of seat) s.tasks.items ≡ Some work
   pub on : serial_of work.task ≡ Some serial
   pub chain : MayLetGo work.chain.number s
 
-abbrev pub ending : (seat : ℕ) (s : Parts) → MayStrike seat s → EndingTask seat s
+abbrev pub ending : (seat : ℕ) (s : ServerState) → MayStrike seat s → EndingTask seat s
 ending seat s u = record {
   work = u.work;
   serial = u.serial;
@@ -201,7 +201,7 @@ ending seat s u = record {
   chain = u.chain;
 }
 
-module _ (m : Moment) (names : List Named) (s : Parts) (seat : ℕ) (h : BlocksAreSound m names s) (u : EndingTask seat s) where
+module _ (m : Moment) (names : List Named) (s : ServerState) (seat : ℕ) (h : BlocksAreSound m names s) (u : EndingTask seat s) where
   abbrev n : ℕ
   n = u.serial
 

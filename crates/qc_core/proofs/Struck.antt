@@ -17,18 +17,18 @@ use Rattle.qc_sound.specs.parts.Memory.{TilesAreSound, TablesAreSound, names_tab
 use Rattle.qc_sound.specs.PlainServer.{StoredEntry, EntryChain, SeatTask}
 use Rattle.qc_sound.proofs.Filters.{distinct_filter, or_right}
 use Rattle.qc_turn.specs.declared.task.Task.TheVariants as task
-use Rattle.qc_core.specs.Cuts.{BlocksAreSound}
+use Rattle.qc_core.specs.EntriesCut.{BlocksAreSound}
 use Rattle.qc_core.proofs.Cutting.{whole_blocks, filter_passes}
 use Rattle.qc_sound.specs.steps.Leaving.{without_seat}
 use Rattle.qc_sound.specs.steps.Ending.{used_less, left_by_user, struck_off, MayEnd}
 use Rattle.qc_sound.proofs.Ending.{strike_step, strike_lists, none_each}
 use Rattle.qc_laws.proofs.history.Serials.{neither}
-use Rattle.qc_core.specs.declared.parts.RunningTask.{RunningTask}
-use Rattle.qc_core.specs.declared.parts.Parts.{Parts}
+use Rattle.qc_core.specs.declared.server_state.RunningTask.{RunningTask}
+use Rattle.qc_core.specs.declared.server_state.ServerState.{ServerState}
 use Rattle.qc_core.specs.Whole.{Named, chain_blocks, is_named, IsNamedAs, stored, chain_in, work_in, plain, tasks_of, IsNamed, SeatsAreSound, ChainsHaveRoom, RoomIsSound, IsWhole}
-use Rattle.qc_core.specs.Pins.{after_unpins}
-use Rattle.qc_core.specs.Leaves.{released}
-use Rattle.qc_core.specs.Strikes.{others, is_on, without_task_of, with_user_less, let_go, MayStrike, rested_from, rested_by, rested}
+use Rattle.qc_core.specs.ChainPins.{after_unpins}
+use Rattle.qc_core.specs.EntryRemoval.{released}
+use Rattle.qc_core.specs.TaskEnd.{others, is_on, without_task_of, with_user_less, let_go, MayStrike, rested_from, rested_by, rested}
 use Rattle.qc_core.specs.KeptLaws.{tasks_same}
 use Rattle.qc_core.proofs.Seating.{all_less, found_less}
 use Rattle.qc_core.proofs.Uses.{find_all}
@@ -39,40 +39,40 @@ use Rattle.qc_core.proofs.Striking.{ending, others_in, found_in, seat_found, any
 
 -- ---- what is done with the chain, where it is known
 
-abbrev pub go_on : (on there : Bool) → ℕ → Kept → Parts → Parts
+abbrev pub go_on : (on there : Bool) → ℕ → Kept → ServerState → ServerState
 go_on true there number held s = s
 go_on false true number held s = record s { tiles = after_unpins held.blocks s.tiles }
 go_on false false number held s = record s { chains = released number held s.chains; tiles = after_release held.blocks (after_unpins held.blocks s.tiles) }
 
-pub go_is : (on there : Bool) (number : ℕ) (held : Kept) (s : Parts) → Begun number s.chains held → let_go on there number s ≡ go_on on there number held s
+pub go_is : (on there : Bool) (number : ℕ) (held : Kept) (s : ServerState) → Begun number s.chains held → let_go on there number s ≡ go_on on there number held s
 go_is true there number held s begun = refl
 go_is false true number held s begun = ap (λ o. record s { tiles = after_unpins (chain_blocks o) s.tiles }) begun
 go_is false false number held s begun = ap (λ o. record s { chains = record { chains = slice_set s.chains.chains number None; room = s.chains.room + length (chain_blocks o) }; tiles = after_release (chain_blocks o) (after_unpins (chain_blocks o) s.tiles) }) begun
 
-ends_on : (seat : ℕ) (s : Parts) (u : MayStrike seat s) → serial_of u.work.task ≡ Some u.serial
+ends_on : (seat : ℕ) (s : ServerState) (u : MayStrike seat s) → serial_of u.work.task ≡ Some u.serial
 ends_on seat s u = ⊎_elim (λ (e : u.work.task ≡ task.Stream u.serial). ap serial_of e) (λ (e : (u.work.task ≡ task.Fill u.serial) × (entry_at u.serial s.dir.entries ≡ None)). ap serial_of e.0) u.ends
 
-pub struck_is : (seat : ℕ) (s : Parts) (u : MayStrike seat s) → rested seat s ≡ go_on (list_any (is_on u.serial) (others seat s.tasks.items)) (is_some (entry_at u.serial s.dir.entries)) u.work.chain.number u.chain.held (with_user_less u.serial (without_task_of seat s))
+pub struck_is : (seat : ℕ) (s : ServerState) (u : MayStrike seat s) → rested seat s ≡ go_on (list_any (is_on u.serial) (others seat s.tasks.items)) (is_some (entry_at u.serial s.dir.entries)) u.work.chain.number u.chain.held (with_user_less u.serial (without_task_of seat s))
 struck_is seat s u =
     ap (λ o. rested_by seat o s) u.at
     ∙ (ap (λ o. rested_from seat u.work.chain.number o s) (ends_on seat s u)
     ∙ go_is (list_any (is_on u.serial) (others seat s.tasks.items)) (is_some (entry_at u.serial s.dir.entries)) u.work.chain.number u.chain.held (with_user_less u.serial (without_task_of seat s)) u.chain.begun)
 
 -- the directory is that without the user, whatever is done with the chain
-go_dir : (on there : Bool) (number : ℕ) (held : Kept) (s : Parts) → (go_on on there number held s).dir ≡ s.dir
+go_dir : (on there : Bool) (number : ℕ) (held : Kept) (s : ServerState) → (go_on on there number held s).dir ≡ s.dir
 go_dir true there number held s = refl
 go_dir false true number held s = refl
 go_dir false false number held s = refl
 
-pub struck_dir : (seat : ℕ) (s : Parts) (u : MayStrike seat s) → (rested seat s).dir ≡ with_entries (after_leave u.serial s.dir.entries) s.dir
+pub struck_dir : (seat : ℕ) (s : ServerState) (u : MayStrike seat s) → (rested seat s).dir ≡ with_entries (after_leave u.serial s.dir.entries) s.dir
 struck_dir seat s u =
-    ap (λ (x : Parts). x.dir) (struck_is seat s u) ∙ go_dir (list_any (is_on u.serial) (others seat s.tasks.items)) (is_some (entry_at u.serial s.dir.entries)) u.work.chain.number u.chain.held (with_user_less u.serial (without_task_of seat s))
+    ap (λ (x : ServerState). x.dir) (struck_is seat s u) ∙ go_dir (list_any (is_on u.serial) (others seat s.tasks.items)) (is_some (entry_at u.serial s.dir.entries)) u.work.chain.number u.chain.held (with_user_less u.serial (without_task_of seat s))
 
 pub seats_same : (ws : List RunningTask) → map (λ w. w.seat) (map work_in ws) ≡ map (λ w. w.seat) ws
 seats_same [] = refl
 seats_same (w ∷ ws) = ap (λ l. w.seat ∷ l) (seats_same ws)
 
-pub once_each : (m : Moment) (names : List Named) (words : List ℕ) (s : Parts) → IsWhole m names words s → are_distinct (map (λ w. w.seat) s.tasks.items) ≡ true
+pub once_each : (m : Moment) (names : List Named) (words : List ℕ) (s : ServerState) → IsWhole m names words s → are_distinct (map (λ w. w.seat) s.tasks.items) ≡ true
 once_each m names words s h = ap are_distinct (sym (seats_same s.tasks.items)) ∙ h.sound.tasks.one_each
 
 left_serials : (n : ℕ) (es : List Entry) → map (λ e. e.serial) (after_leave n es) ≡ map (λ e. e.serial) es
@@ -91,20 +91,20 @@ names_left t n (e ∷ es) = elim (is_stored n e) as (λ b. (names_table t (cond 
 
 -- ---- the server when a task was struck off
 
-pub record IsStruck (m : Moment) (before : List Named) (seat : ℕ) (s : Parts) (n : ℕ) (t : Parts) : Type 0 where
+pub record IsStruck (m : Moment) (before : List Named) (seat : ℕ) (s : ServerState) (n : ℕ) (t : ServerState) : Type 0 where
   pub under : List Named
   pub blocks : BlocksAreSound m under t
   pub plain : plain under t ≡ struck_off seat n t.tiles (plain before s)
   pub others : t ≡ record s { dir = t.dir; chains = t.chains; tiles = t.tiles; tasks = t.tasks }
 
-module _ (m : Moment) (names : List Named) (s : Parts) (seat : ℕ) (h : BlocksAreSound m names s) (u : MayStrike seat s) (valid : IsDirectory (with_entries (after_leave u.serial s.dir.entries) s.dir)) where
+module _ (m : Moment) (names : List Named) (s : ServerState) (seat : ℕ) (h : BlocksAreSound m names s) (u : MayStrike seat s) (valid : IsDirectory (with_entries (after_leave u.serial s.dir.entries) s.dir)) where
   abbrev n : ℕ
   n = u.serial
 
   abbrev p : PlainServer
   p = plain names s
 
-  abbrev first : Parts
+  abbrev first : ServerState
   first = with_user_less n (without_task_of seat s)
 
   on_is : list_any (is_on n) (others seat s.tasks.items) ≡ list_any (is_task_on n) (without_seat seat p.tasks)
@@ -129,7 +129,7 @@ module _ (m : Moment) (names : List Named) (s : Parts) (seat : ℕ) (h : BlocksA
   q k = is_wanted (left_by_user n p.entries) (without_seat seat p.tasks) k
 
   -- whichever way the chain went
-  blocks_so : (under : List Named) (ts : List Tile) (t : Parts) → plain under t ≡ struck_off seat n ts p → IsNamed under t → TilesAreSound m (struck_off seat n ts p) → t ≡ record first { chains = t.chains; tiles = ts } → ChainsHaveRoom under t.chains (region_words s.options) → BlocksAreSound m under t
+  blocks_so : (under : List Named) (ts : List Tile) (t : ServerState) → plain under t ≡ struck_off seat n ts p → IsNamed under t → TilesAreSound m (struck_off seat n ts p) → t ≡ record first { chains = t.chains; tiles = ts } → ChainsHaveRoom under t.chains (region_words s.options) → BlocksAreSound m under t
   blocks_so under ts t is named tiles same chains = record {
     named = named;
     tiles = subst (TilesAreSound m) (sym is) tiles;
@@ -137,8 +137,8 @@ module _ (m : Moment) (names : List Named) (s : Parts) (seat : ℕ) (h : BlocksA
     apart = subst (λ (z : PlainServer). are_distinct (map (λ c. c.serial) z.chains) ≡ true) (sym is) (distinct_filter (λ (c : EntryChain). c.serial) (λ c. q c.serial) p.chains h.apart);
     wanted = subst (λ (z : PlainServer). AllByRecursion (λ c. is_wanted z.entries z.tasks c.serial ≡ true) z.chains) (sym is) (filter_passes q p.chains);
     once = subst (λ (z : PlainServer). are_distinct (map (λ w. w.seat) z.tasks) ≡ true) (sym is) (distinct_filter (λ (w : SeatTask). w.seat) (λ w. not (w.seat == seat)) p.tasks h.once);
-    serials = subst (λ (x : Parts). are_distinct (map (λ e. e.serial) x.dir.entries) ≡ true) (sym same) (ap are_distinct (left_serials n s.dir.entries) ∙ h.serials);
-    directory = subst (λ (x : Parts). IsDirectory x.dir) (sym same) valid;
+    serials = subst (λ (x : ServerState). are_distinct (map (λ e. e.serial) x.dir.entries) ≡ true) (sym same) (ap are_distinct (left_serials n s.dir.entries) ∙ h.serials);
+    directory = subst (λ (x : ServerState). IsDirectory x.dir) (sym same) valid;
     seats = subst SeatsAreSound (sym same) (record { once = h.seats.once; room = h.seats.room; task_room = omega (arith, h.seats.task_room, fewer) });
     room = subst (RoomIsSound under) (sym same) (record { entries = omega (arith, h.room.entries, left_length n s.dir.entries); tables = h.room.tables; chains = chains; unpinner = h.room.unpinner });
   }
@@ -178,7 +178,7 @@ module _ (m : Moment) (names : List Named) (s : Parts) (seat : ℕ) (h : BlocksA
     abbrev cs : Chained
     cs = released number u.chain.held s.chains
 
-    abbrev goes : Parts
+    abbrev goes : ServerState
     goes = record first { chains = cs; tiles = ts }
 
     numbers : AllByRecursion (IsOther n number) names
@@ -245,7 +245,7 @@ module _ (m : Moment) (names : List Named) (s : Parts) (seat : ℕ) (h : BlocksA
       (struck_so (list_any (is_on n) (others seat s.tasks.items)) (is_some (entry_at n s.dir.entries)) (sym on_is) (sym there_is))
 
 -- what the server is when the seat rests
-pub record IsRested (m : Moment) (words : List ℕ) (seat : ℕ) (s t : Parts) : Type 0 where
+pub record IsRested (m : Moment) (words : List ℕ) (seat : ℕ) (s t : ServerState) : Type 0 where
   pub under : List Named
   pub whole : IsWhole m under words t
   pub rests : listed_for seat (tasks_of t) ≡ []
@@ -255,7 +255,7 @@ pub record IsRested (m : Moment) (words : List ℕ) (seat : ℕ) (s t : Parts) :
   pub connected : t.connected ≡ s.connected
 
 -- as the plain server has it
-may_end : (names : List Named) (s : Parts) (seat : ℕ) (u : MayStrike seat s) → MayEnd seat u.serial (plain names s)
+may_end : (names : List Named) (s : ServerState) (seat : ℕ) (u : MayStrike seat s) → MayEnd seat u.serial (plain names s)
 may_end names s seat u =
     let found = found_in seat s.tasks.items u.work u.at in
     let same = seat_found seat s.tasks.items u.work u.at in
@@ -264,7 +264,7 @@ may_end names s seat u =
     (λ (e : (u.work.task ≡ task.Fill u.serial) × (entry_at u.serial s.dir.entries ≡ None)). inr (found ∙ (λ i. Some (record { seat = same i; task = e.0 i })), sym (there_in s.chains u.serial s.dir.entries) ∙ ap is_some e.1))
     u.ends
 
-pub struck_whole : (m : Moment) (names : List Named) (words : List ℕ) (s : Parts) (seat : ℕ) → IsWhole m names words s → (u : MayStrike seat s) → IsDirectory (with_entries (after_leave u.serial s.dir.entries) s.dir) → IsRested m words seat s (rested seat s)
+pub struck_whole : (m : Moment) (names : List Named) (words : List ℕ) (s : ServerState) (seat : ℕ) → IsWhole m names words s → (u : MayStrike seat s) → IsDirectory (with_entries (after_leave u.serial s.dir.entries) s.dir) → IsRested m words seat s (rested seat s)
 struck_whole m names words s seat h u valid =
     let bs = whole_blocks m names words s h in
     let n = u.serial in
@@ -285,7 +285,7 @@ struck_whole m names words s seat h u valid =
       whole = whole;
       rests = ap (listed_for seat) (tasks_same r.under t b.named ∙ ap listed_tasks r.plain) ∙ lists.alone;
       listed = λ k ne. ap (listed_for k) (tasks_same r.under t b.named ∙ ap listed_tasks r.plain) ∙ (lists.others k ne ∙ sym (ap (listed_for k) (tasks_same names s h.named)));
-      journal = ap (λ (x : Parts). x.journal) r.others;
-      options = ap (λ (x : Parts). x.options) r.others;
-      connected = ap (λ (x : Parts). x.connected) r.others;
+      journal = ap (λ (x : ServerState). x.journal) r.others;
+      options = ap (λ (x : ServerState). x.options) r.others;
+      connected = ap (λ (x : ServerState). x.connected) r.others;
     }

@@ -29,18 +29,18 @@ use Rattle.qc_sound.specs.Moment.{Moment, at_rest}
 use Rattle.qc_sound.specs.parts.Tasks.{IsSeat, SeatTaskIsSound}
 use Rattle.qc_model.specs.Journal.{Journal}
 use Rattle.qc_model.specs.declared.events.Event.{Event}
-use Rattle.qc_core.specs.declared.parts.RunningTask.{RunningTask}
-use Rattle.qc_core.specs.declared.parts.Parts.{Parts}
+use Rattle.qc_core.specs.declared.server_state.RunningTask.{RunningTask}
+use Rattle.qc_core.specs.declared.server_state.ServerState.{ServerState}
 use Rattle.qc_core.specs.contracts.server.ServerKept.TheImpl.{ghosts}
 use Rattle.qc_core.specs.Whole.{Named, chain_blocks, work_in, listed_in, plain, tasks_of, task_blocks, IsWhole}
-use Rattle.qc_core.specs.Strikes.{is_of, others, without_task_of, with_user_less, MayStrike, MayRest, rested}
+use Rattle.qc_core.specs.TaskEnd.{is_of, others, without_task_of, with_user_less, MayStrike, MayRest, rested}
 use Rattle.qc_model.specs.declared.events.Who.{Who}
 use Rattle.qc_model.specs.Journal.{event_count}
 use Rattle.qc_model.specs.Cache.{cache}
 use Rattle.qc_sound.specs.parts.Journal.{reserved}
-use Rattle.qc_core.specs.Reserved.{Reserved}
+use Rattle.qc_core.specs.ListRoom.{Reserved}
 use Rattle.qc_core.specs.Calls.{IsNext, HasSpare}
-use Rattle.qc_core.specs.Sweeps.{has_stream, stream_seat, streams, swept, ReadsStreams, ReadsOne, ReadsAt, ReadsBehind, Finds, IsSwept}
+use Rattle.qc_core.specs.EndedStreams.{has_stream, stream_seat, streams, swept, ReadsStreams, ReadsOne, ReadsAt, ReadsBehind, Finds, IsSwept}
 use Rattle.qc_core.proofs.Seating.{distinct_parts, is_among}
 use Rattle.qc_core.proofs.Standing.{value_stands}
 use Rattle.qc_core.proofs.Struck.{IsRested, go_on, struck_is, once_each}
@@ -136,14 +136,14 @@ module _ {V E : Type 0} {K : Ghosts V E} where
 
 -- ---- what is swept
 
-swept_append : (g f : List FoundWord) (s : Parts) → swept (g ++ f) s ≡ swept g (swept f s)
+swept_append : (g f : List FoundWord) (s : ServerState) → swept (g ++ f) s ≡ swept g (swept f s)
 swept_append [] f s = refl
 swept_append (x ∷ g) f s = λ i. cond x.set (swept_append g f s i) (rested x.seat (swept_append g f s i))
 
-pub swept_none : (own : ℕ) (s : Parts) → IsSwept own s s []
+pub swept_none : (own : ℕ) (s : ServerState) → IsSwept own s s []
 swept_none own s = record { value = refl; journal = refl; options = refl; connected = refl; listed = refl; stays = λ n h. refl }
 
-pub swept_on : (own : ℕ) (a b c : Parts) (f g : List FoundWord) → IsSwept own a b f → IsSwept own b c g → IsSwept own a c (g ++ f)
+pub swept_on : (own : ℕ) (a b c : ServerState) (f g : List FoundWord) → IsSwept own a b f → IsSwept own b c g → IsSwept own a c (g ++ f)
 swept_on own a b c f g p q = record {
   value = q.value ∙ (ap (swept g) p.value ∙ sym (swept_append g f a));
   journal = q.journal ∙ p.journal;
@@ -154,7 +154,7 @@ swept_on own a b c f g p q = record {
 }
 
 -- one whose seat goes on
-pub swept_goes_on : (own seat : ℕ) (s : Parts) → IsSwept own s s (found_word seat true ∷ [])
+pub swept_goes_on : (own seat : ℕ) (s : ServerState) → IsSwept own s s (found_word seat true ∷ [])
 swept_goes_on own seat s = record { value = refl; journal = refl; options = refl; connected = refl; listed = refl; stays = λ n h. refl }
 
 -- ---- one that has ended
@@ -166,15 +166,15 @@ find_others seat n (w ∷ ws) ne = elim (eqb w.seat seat) as (λ b. eqb w.seat s
   | false ↦ λ e. ap (λ o. cond (eqb w.seat n) (Some w) o) (find_others seat n ws ne)
 ] refl
 
-go_tasks : (on there : Bool) (number : ℕ) (held : Kept) (s : Parts) → (go_on on there number held s).tasks ≡ s.tasks
+go_tasks : (on there : Bool) (number : ℕ) (held : Kept) (s : ServerState) → (go_on on there number held s).tasks ≡ s.tasks
 go_tasks true there number held s = refl
 go_tasks false true number held s = refl
 go_tasks false false number held s = refl
 
-find_rested : (seat n : ℕ) (s : Parts) → MayStrike seat s → eqb seat n ≡ false → find (is_of n) (rested seat s).tasks.items ≡ find (is_of n) s.tasks.items
-find_rested seat n s u ne = ap (λ (x : Parts). find (is_of n) x.tasks.items) (struck_is seat s u) ∙ (ap (λ t. find (is_of n) t.items) (go_tasks _ _ u.work.chain.number u.chain.held (with_user_less u.serial (without_task_of seat s))) ∙ find_others seat n s.tasks.items ne)
+find_rested : (seat n : ℕ) (s : ServerState) → MayStrike seat s → eqb seat n ≡ false → find (is_of n) (rested seat s).tasks.items ≡ find (is_of n) s.tasks.items
+find_rested seat n s u ne = ap (λ (x : ServerState). find (is_of n) x.tasks.items) (struck_is seat s u) ∙ (ap (λ t. find (is_of n) t.items) (go_tasks _ _ u.work.chain.number u.chain.held (with_user_less u.serial (without_task_of seat s))) ∙ find_others seat n s.tasks.items ne)
 
-pub swept_ended : (m : Moment) (words : List ℕ) (own seat : ℕ) (s : Parts) → MayStrike seat s → seat ≢ own → IsRested m words seat s (rested seat s) → IsSwept own s (rested seat s) (found_word seat false ∷ [])
+pub swept_ended : (m : Moment) (words : List ℕ) (own seat : ℕ) (s : ServerState) → MayStrike seat s → seat ≢ own → IsRested m words seat s (rested seat s) → IsSwept own s (rested seat s) (found_word seat false ∷ [])
 swept_ended m words own seat s u ne r = record {
   value = refl;
   journal = r.journal;
@@ -205,12 +205,12 @@ seat_there seat (x ∷ ws) w h = elim (eqb x.seat seat) as (λ b. eqb x.seat sea
 ] refl h
 
 -- what is listed for the seat is that stream
-pub ended_listed : (m : Moment) (names : List Named) (words : List ℕ) (s : Parts) (seat n : ℕ) → IsWhole m names words s → (t : HasTask seat s.tasks.items (task.Stream n)) → IsEnded seat (listed_for seat (tasks_of s))
+pub ended_listed : (m : Moment) (names : List Named) (words : List ℕ) (s : ServerState) (seat n : ℕ) → IsWhole m names words s → (t : HasTask seat s.tasks.items (task.Stream n)) → IsEnded seat (listed_for seat (tasks_of s))
 ended_listed m names words s seat n h t =
     let bs = chain_blocks (chain_at t.work.chain.number s.chains) in
     (n, bs, one_listed s.chains seat s.tasks.items t.work (once_each m names words s h) t.at ∙ (λ i. record { number = seat_there seat s.tasks.items t.work t.at i; task = t.task i; blocks = task_blocks (t.task i) bs } ∷ []))
 
-pub ended_follows : (m : Moment) (words : List ℕ) (n seat : ℕ) (s t : Parts) (idle : List ℕ) → FoundIdle idle seat → IsEnded seat (listed_for seat (tasks_of s)) → IsRested m words seat s t → Follows ghosts n idle s t
+pub ended_follows : (m : Moment) (words : List ℕ) (n seat : ℕ) (s t : ServerState) (idle : List ℕ) → FoundIdle idle seat → IsEnded seat (listed_for seat (tasks_of s)) → IsRested m words seat s t → Follows ghosts n idle s t
 ended_follows m words n seat s t idle found ended r = record {
   journal = ([], ap (λ (j : Recorded). j.events) r.journal ∙ sym (append-nil s.journal.events));
   others = λ k ne. ap (λ (j : Recorded). of_seat ghosts k j.events) r.journal;
@@ -231,27 +231,27 @@ stream_in (Some w) h = let t = by w.task h in (w, t.0, refl, t.1)
     by (task.Stream n) k = (n, refl)
     by (task.Fill n) k = absurd (true≢false (sym k))
 
-pub has_stream_task : (s : Parts) (seat : ℕ) → streams seat s ≡ true → (n : ℕ) × HasTask seat s.tasks.items (task.Stream n)
+pub has_stream_task : (s : ServerState) (seat : ℕ) → streams seat s ≡ true → (n : ℕ) × HasTask seat s.tasks.items (task.Stream n)
 has_stream_task s seat is = let t = stream_in (find (is_of seat) s.tasks.items) is in (t.1, record { work = t.0; at = t.2; task = t.3 })
 
-pub may_sweep : (m : Moment) (names : List Named) (words : List ℕ) (s : Parts) (seat : ℕ) → IsWhole m names words s → streams seat s ≡ true → MayStrike seat s
+pub may_sweep : (m : Moment) (names : List Named) (words : List ℕ) (s : ServerState) (seat : ℕ) → IsWhole m names words s → streams seat s ≡ true → MayStrike seat s
 may_sweep m names words s seat h is = let t = has_stream_task s seat is in may_strike m names words s seat h t.0 t.1
 
-pub may_rest_swept : (m : Moment) (names : List Named) (words : List ℕ) (s : Parts) (seat : ℕ) → IsWhole m names words s → streams seat s ≡ true → MayRest seat s
+pub may_rest_swept : (m : Moment) (names : List Named) (words : List ℕ) (s : ServerState) (seat : ℕ) → IsWhole m names words s → streams seat s ≡ true → MayRest seat s
 may_rest_swept m names words s seat h is = record { once = once_each m names words s h; task = inr (may_sweep m names words s seat h is) }
 
 -- ---- one seat
 
-pub record Swept (h k : Held Parts Event ghosts) (seat : ℕ) : Type 0 where
+pub record Swept (h k : Held ServerState Event ghosts) (seat : ℕ) : Type 0 where
   pub stands : MayRelease k
   pub swept : (found : List FoundWord) × Finds h k found × IsSwept (holder h).number h.value k.value found × ReadsOne (holder h).number seat h.value found
 
-pub not_read : (h : Held Parts Event ghosts) (x : Parts) (seat : ℕ) → MayRelease h → x ≡ h.value → (seat ≢ (holder h).number → streams seat h.value ≡ true → ⊥) → Swept h (with_value h x) seat
+pub not_read : (h : Held ServerState Event ghosts) (x : ServerState) (seat : ℕ) → MayRelease h → x ≡ h.value → (seat ≢ (holder h).number → streams seat h.value ≡ true → ⊥) → Swept h (with_value h x) seat
 not_read h x seat st same none =
     subst (λ y. Swept h (with_value h y) seat) (sym same)
     (record { stands = st; swept = ([], finds_nothing h h.value st.held, swept_none (holder h).number h.value, record { each = tt; all = λ ne is. absurd (none ne is) }) })
 
-pub goes_on : (h k : Held Parts Event ghosts) (seat : ℕ) → MayRelease h → seat ≢ (holder h).number → streams seat h.value ≡ true → Reads h k seat true → Swept h k seat
+pub goes_on : (h k : Held ServerState Event ghosts) (seat : ℕ) → MayRelease h → seat ≢ (holder h).number → streams seat h.value ≡ true → Reads h k seat true → Swept h k seat
 goes_on h k seat st ne is r =
     record {
       stands = reads_stands h k seat true st r;
@@ -263,7 +263,7 @@ goes_on h k seat st ne is r =
       );
     }
 
-pub has_ended : (h k : Held Parts Event ghosts) (seat : ℕ) (x : Parts) → MayRelease h → seat ≢ (holder h).number → streams seat h.value ≡ true → Reads h k seat false → x ≡ rested seat k.value → IsDirectory x.dir → Swept h (with_value k x) seat
+pub has_ended : (h k : Held ServerState Event ghosts) (seat : ℕ) (x : ServerState) → MayRelease h → seat ≢ (holder h).number → streams seat h.value ≡ true → Reads h k seat false → x ≡ rested seat k.value → IsDirectory x.dir → Swept h (with_value k x) seat
 has_ended h k seat x st ne is r rests valid =
     let s = h.value in
     let stands = reads_stands h k seat false st r in
@@ -271,7 +271,7 @@ has_ended h k seat x st ne is r rests valid =
     let sound = stands.sound in
     let u = may_sweep (at_rest hash) sound.0 (words k) k.value seat sound.1 is_k in
     let may = may_rest_swept (at_rest hash) sound.0 (words k) k.value seat sound.1 is_k in
-    let rs = rested_sound (words k) k.value seat sound may (subst (λ (y : Parts). IsDirectory y.dir) rests valid) in
+    let rs = rested_sound (words k) k.value seat sound may (subst (λ (y : ServerState). IsDirectory y.dir) rests valid) in
     let own = has_stream_task k.value seat is_k in
     let ended = ended_listed (at_rest hash) sound.0 (words k) k.value seat own.0 sound.1 own.1 in
     let idle : FoundIdle (idle_of (holder k).found) seat = subst (λ l. FoundIdle l seat) (sym (ap (λ v. idle_of v.found) r.found)) (λ m. m.0 refl) in
@@ -282,7 +282,7 @@ has_ended h k seat x st ne is r rests valid =
       swept = (
         found_word seat false ∷ [],
         finds_value h k (found_word seat false ∷ []) x (reads_finds h k seat false st.held r),
-        subst (λ (p : Parts × Parts). IsSwept (holder h).number p.0 p.1 (found_word seat false ∷ [])) (λ i. (r.value i, sym rests i)) done,
+        subst (λ (p : ServerState × ServerState). IsSwept (holder h).number p.0 p.1 (found_word seat false ∷ [])) (λ i. (r.value i, sym rests i)) done,
         record { each = ((refl, ne, is), tt); all = λ _ _. ap (λ b. b || false) (eq-eqb seat seat refl) },
       );
     }
@@ -301,8 +301,8 @@ take_others n (suc i) (x ∷ xs) w d h e =
     let ne : x.seat ≢ n = λ z. true≢false (sym (is_among seat_of n i xs w h e) ∙ subst (λ k. list_any (λ m. m == k) (map seat_of xs) ≡ false) z parts.0) in
     ap (λ b. take (suc i) (cond (not b) (x ∷ others n xs) (others n xs))) (ne_eqb x.seat n ne) ∙ ap (λ l. x ∷ l) (take_others n i xs w parts.1 h e)
 
-front_rested : (n i : ℕ) (s : Parts) (w : RunningTask) → MayStrike n s → are_distinct (map seat_of s.tasks.items) ≡ true → slice_get s.tasks.items i ≡ Some w → w.seat ≡ n → take i (rested n s).tasks.items ≡ take i s.tasks.items
-front_rested n i s w u d h e = ap (λ (x : Parts). take i x.tasks.items) (struck_is n s u) ∙ (ap (λ t. take i t.items) (go_tasks _ _ u.work.chain.number u.chain.held (with_user_less u.serial (without_task_of n s))) ∙ take_others n i s.tasks.items w d h e)
+front_rested : (n i : ℕ) (s : ServerState) (w : RunningTask) → MayStrike n s → are_distinct (map seat_of s.tasks.items) ≡ true → slice_get s.tasks.items i ≡ Some w → w.seat ≡ n → take i (rested n s).tasks.items ≡ take i s.tasks.items
+front_rested n i s w u d h e = ap (λ (x : ServerState). take i x.tasks.items) (struck_is n s u) ∙ (ap (λ t. take i t.items) (go_tasks _ _ u.work.chain.number u.chain.held (with_user_less u.serial (without_task_of n s))) ∙ take_others n i s.tasks.items w d h e)
 
 some_at : (i : ℕ) (ws : List RunningTask) → i < length ws → (w : RunningTask) × (slice_get ws i ≡ Some w)
 some_at i [] lt = absurd (omega (arith, lt))
@@ -322,17 +322,17 @@ no_stream w h = elim (is_stream w.task) as (λ b. cond b (Some w.seat) None ≡ 
   | false ↦ λ f. refl
 ] h
 
-pub once_in : (h : Held Parts Event ghosts) → MayRelease h → are_distinct (map seat_of h.value.tasks.items) ≡ true
+pub once_in : (h : Held ServerState Event ghosts) → MayRelease h → are_distinct (map seat_of h.value.tasks.items) ≡ true
 once_in h st = let sound = st.sound in once_each (at_rest hash) sound.0 (words h) h.value sound.1
 
 -- a stream stands there
-pub record HasStreamAt (index seat : ℕ) (s : Parts) : Type 0 where
+pub record HasStreamAt (index seat : ℕ) (s : ServerState) : Type 0 where
   pub work : RunningTask
   pub at : slice_get s.tasks.items index ≡ Some work
   pub named : work.seat ≡ seat
   pub is : streams seat s ≡ true
 
-pub stream_there : (h : Held Parts Event ghosts) (index seat : ℕ) → MayRelease h → stream_seat (slice_get h.value.tasks.items index) ≡ Some seat → HasStreamAt index seat h.value
+pub stream_there : (h : Held ServerState Event ghosts) (index seat : ℕ) → MayRelease h → stream_seat (slice_get h.value.tasks.items index) ≡ Some seat → HasStreamAt index seat h.value
 stream_there h index seat st is =
     let t = stream_of (slice_get h.value.tasks.items index) seat is in
     record { work = t.0; at = t.1; named = t.3; is = ap has_stream (at_found seat_of seat index h.value.tasks.items t.0 (once_in h st) t.1 t.3) ∙ t.2 }
@@ -344,24 +344,24 @@ seat_in j cs n (x ∷ ws) w all h = elim (eqb x.seat n) as (λ b. eqb x.seat n �
   | false ↦ λ e f. seat_in j cs n ws w all.1 f
 ] refl h
 
-pub few_there : (h : Held Parts Event ghosts) (seat : ℕ) → MayRelease h → streams seat h.value ≡ true → (0 < seat) × (seat ≤ word_seats)
+pub few_there : (h : Held ServerState Event ghosts) (seat : ℕ) → MayRelease h → streams seat h.value ≡ true → (0 < seat) × (seat ≤ word_seats)
 few_there h seat st is =
     let sound = st.sound in
     let w = stream_in (find (is_of seat) h.value.tasks.items) is in
     let seated = seat_in h.value.journal.events (plain sound.0 h.value).chains seat h.value.tasks.items w.0 sound.1.sound.tasks.each w.2 in
     (omega (arith, seated.low), omega (arith, seated.high))
 
-pub record SweptAt (h k : Held Parts Event ghosts) (index : ℕ) : Type 0 where
+pub record SweptAt (h k : Held ServerState Event ghosts) (index : ℕ) : Type 0 where
   pub stands : MayRelease k
   pub swept : (found : List FoundWord) × Finds h k found × IsSwept (holder h).number h.value k.value found × ReadsAt (holder h).number index h.value k.value found
 
-swept_there : (h k : Held Parts Event ghosts) (index : ℕ) (w : RunningTask) → slice_get h.value.tasks.items index ≡ Some w → Swept h k w.seat → take index k.value.tasks.items ≡ take index h.value.tasks.items → SweptAt h k index
+swept_there : (h k : Held ServerState Event ghosts) (index : ℕ) (w : RunningTask) → slice_get h.value.tasks.items index ≡ Some w → Swept h k w.seat → take index k.value.tasks.items ≡ take index h.value.tasks.items → SweptAt h k index
 swept_there h k index w at s front = record { stands = s.stands; swept = (s.swept.0, s.swept.1, s.swept.2, record { work = w; at = at; reads = s.swept.3; front = front }) }
 
-front_same : (index : ℕ) (x y : Parts) → x ≡ y → take index x.tasks.items ≡ take index y.tasks.items
-front_same index x y same = ap (λ (z : Parts). take index z.tasks.items) same
+front_same : (index : ℕ) (x y : ServerState) → x ≡ y → take index x.tasks.items ≡ take index y.tasks.items
+front_same index x y same = ap (λ (z : ServerState). take index z.tasks.items) same
 
-pub none_at : (h : Held Parts Event ghosts) (x : Parts) (index : ℕ) → MayRelease h → x ≡ h.value → index < length h.value.tasks.items → stream_seat (slice_get h.value.tasks.items index) ≡ None → SweptAt h (with_value h x) index
+pub none_at : (h : Held ServerState Event ghosts) (x : ServerState) (index : ℕ) → MayRelease h → x ≡ h.value → index < length h.value.tasks.items → stream_seat (slice_get h.value.tasks.items index) ≡ None → SweptAt h (with_value h x) index
 none_at h x index st same within none =
     let t = some_at index h.value.tasks.items within in
     let w = t.0 in
@@ -369,17 +369,17 @@ none_at h x index st same within none =
     let found = at_found seat_of w.seat index h.value.tasks.items w (once_in h st) t.1 refl in
     swept_there h (with_value h x) index w t.1 (not_read h x w.seat st same (λ ne is. true≢false (sym is ∙ (ap has_stream found ∙ still)))) (front_same index x h.value same)
 
-pub own_at : (h : Held Parts Event ghosts) (x : Parts) (index seat : ℕ) → MayRelease h → x ≡ h.value → stream_seat (slice_get h.value.tasks.items index) ≡ Some seat → seat ≡ (holder h).number → SweptAt h (with_value h x) index
+pub own_at : (h : Held ServerState Event ghosts) (x : ServerState) (index seat : ℕ) → MayRelease h → x ≡ h.value → stream_seat (slice_get h.value.tasks.items index) ≡ Some seat → seat ≡ (holder h).number → SweptAt h (with_value h x) index
 own_at h x index seat st same is own =
     let t = stream_there h index seat st is in
     swept_there h (with_value h x) index t.work t.at (not_read h x t.work.seat st same (λ ne _. absurd (ne (t.named ∙ own)))) (front_same index x h.value same)
 
-pub goes_on_at : (h k : Held Parts Event ghosts) (index seat : ℕ) → MayRelease h → seat ≢ (holder h).number → stream_seat (slice_get h.value.tasks.items index) ≡ Some seat → Reads h k seat true → SweptAt h k index
+pub goes_on_at : (h k : Held ServerState Event ghosts) (index seat : ℕ) → MayRelease h → seat ≢ (holder h).number → stream_seat (slice_get h.value.tasks.items index) ≡ Some seat → Reads h k seat true → SweptAt h k index
 goes_on_at h k index seat st ne is r =
     let t = stream_there h index seat st is in
     swept_there h k index t.work t.at (subst (Swept h k) (sym t.named) (goes_on h k seat st ne t.is r)) (front_same index k.value h.value r.value)
 
-pub ended_at : (h k : Held Parts Event ghosts) (index seat : ℕ) (x : Parts) → MayRelease h → seat ≢ (holder h).number → stream_seat (slice_get h.value.tasks.items index) ≡ Some seat → Reads h k seat false → x ≡ rested seat k.value → IsDirectory x.dir → SweptAt h (with_value k x) index
+pub ended_at : (h k : Held ServerState Event ghosts) (index seat : ℕ) (x : ServerState) → MayRelease h → seat ≢ (holder h).number → stream_seat (slice_get h.value.tasks.items index) ≡ Some seat → Reads h k seat false → x ≡ rested seat k.value → IsDirectory x.dir → SweptAt h (with_value k x) index
 ended_at h k index seat x st ne is r rests valid =
     let t = stream_there h index seat st is in
     let sound = st.sound in
@@ -415,18 +415,18 @@ find_more n (suc i) (x ∷ xs) w h ne none = elim (eqb x.seat n) as (λ b. cond 
   | false ↦ λ f. find_more n i xs w h ne f
 ] none
 
-pub reads_start : (own index : ℕ) (s t : Parts) → index ≡ length t.tasks.items → t ≡ s → ReadsBehind own index s t []
+pub reads_start : (own index : ℕ) (s t : ServerState) → index ≡ length t.tasks.items → t ≡ s → ReadsBehind own index s t []
 reads_start own index s t long same = record {
   within = omega (arith, long);
   front = front_same index t s same;
   each = tt;
   all = λ n ne is none.
-      let all_of : take index s.tasks.items ≡ s.tasks.items = take_all index s.tasks.items (omega (arith, long, ap (λ (x : Parts). length x.tasks.items) same)) in
+      let all_of : take index s.tasks.items ≡ s.tasks.items = take_all index s.tasks.items (omega (arith, long, ap (λ (x : ServerState). length x.tasks.items) same)) in
       absurd (true≢false (sym is ∙ ap has_stream (ap (find (is_of n)) (sym all_of) ∙ none)));
 }
 
 -- one place more
-pub reads_next : (own i j : ℕ) (s t m : Parts) (f g : List FoundWord) → j ≡ suc i → are_distinct (map seat_of s.tasks.items) ≡ true → are_distinct (map seat_of t.tasks.items) ≡ true → ReadsBehind own j s t f → ReadsAt own i t m g → ReadsBehind own i s m (g ++ f)
+pub reads_next : (own i j : ℕ) (s t m : ServerState) (f g : List FoundWord) → j ≡ suc i → are_distinct (map seat_of s.tasks.items) ≡ true → are_distinct (map seat_of t.tasks.items) ≡ true → ReadsBehind own j s t f → ReadsAt own i t m g → ReadsBehind own i s m (g ++ f)
 reads_next own i j s t m f g next once_s once_t b o =
     let w = o.work in
     let front : take (suc i) t.tasks.items ≡ take (suc i) s.tasks.items = subst (λ k. take k t.tasks.items ≡ take k s.tasks.items) next b.front in
@@ -456,12 +456,12 @@ reads_next own i j s t m f g next once_s once_t b o =
     each_of w same [] h = tt
     each_of w same (x ∷ xs) h = ((h.0.1, subst (λ k. streams k s ≡ true) (sym h.0.0) (sym same ∙ subst (λ k. streams k t ≡ true) h.0.0 h.0.2)), each_of w same xs h.1)
 
-pub reads_end : (own i : ℕ) (s t : Parts) (found : List FoundWord) → i ≡ 0 → ReadsBehind own i s t found → ReadsStreams own s found
+pub reads_end : (own i : ℕ) (s t : ServerState) (found : List FoundWord) → i ≡ 0 → ReadsBehind own i s t found → ReadsStreams own s found
 reads_end own i s t found none b = record { each = b.each; all = λ n ne is. b.all n ne is (ap (λ k. find (is_of n) (take k s.tasks.items)) none) }
 
 -- ---- what a call asked before, it still has
 
-pub next_swept : (h k : Held Parts Event ghosts) (who : Who) (found : List FoundWord) → Finds h k found → IsSwept (holder h).number h.value k.value found → IsNext h who → IsNext k who
+pub next_swept : (h k : Held ServerState Event ghosts) (who : Who) (found : List FoundWord) → Finds h k found → IsSwept (holder h).number h.value k.value found → IsNext h who → IsNext k who
 next_swept h k who found f sw n =
     let number = sym (finds_number h k found f) in
     record {
@@ -471,5 +471,5 @@ next_swept h k who found f sw n =
       free = subst (λ j. listed_for j (tasks_of k.value) ≡ []) number (sw.listed ∙ n.free);
     }
 
-pub spare_swept : (own : ℕ) (s t : Parts) (found : List FoundWord) → IsSwept own s t found → HasSpare s → HasSpare t
+pub spare_swept : (own : ℕ) (s t : ServerState) (found : List FoundWord) → IsSwept own s t found → HasSpare s → HasSpare t
 spare_swept own s t found sw room = subst (λ (j : Recorded). reserved (cache j.events) < j.spare) (sym sw.journal) room

@@ -14,7 +14,7 @@ use Rattle.qc_laws.specs.history.Named.{AreThere}
 use Rattle.qc_table.specs.Views.{tables_in}
 use Rattle.qc_dir.specs.declared.entries.Entry.{Entry}
 use Rattle.qc_dir.specs.Directory.{names_table}
-use Rattle.qc_core.specs.Commits.{is_named_by, tables_dropped_by, tables_dropped, uses_touched}
+use Rattle.qc_core.specs.Invalidation.{is_named_by, tables_dropped_by, tables_dropped, uses_touched}
 
 -- ---- tests of lists
 

@@ -45,12 +45,12 @@ use Rattle.qc_laws.proofs.history.Serials.{serials_apart}
 use Rattle.qc_sound.specs.parts.Tasks.{IsSeat}
 use Rattle.qc_core.proofs.Seating.{found_less}
 use Rattle.qc_sound.proofs.Handed.{pinned_all}
-use Rattle.qc_core.specs.declared.parts.RunningTask.{RunningTask}
-use Rattle.qc_core.specs.declared.parts.Parts.{Parts}
+use Rattle.qc_core.specs.declared.server_state.RunningTask.{RunningTask}
+use Rattle.qc_core.specs.declared.server_state.ServerState.{ServerState}
 use Rattle.qc_core.specs.Whole.{Named, is_named, IsNamedAs, chain_blocks, stored, chain_in, work_in, listed_in, plain, tasks_of, IsNamed, IsWhole, with_event}
-use Rattle.qc_core.specs.Hits.{MayUse, streams, used_by, hit_server, entry_chain, IsChainOf}
+use Rattle.qc_core.specs.HitStream.{MayUse, streams, used_by, hit_server, entry_chain, IsChainOf}
 use Rattle.qc_chain.specs.Chains.{Ranged}
-use Rattle.qc_core.specs.Hits.{hit_entry as hit_entry_server}
+use Rattle.qc_core.specs.HitStream.{hit_entry as hit_entry_server}
 use Rattle.qc_core.specs.contracts.server.ServerKept.TheImpl.{ghosts}
 use Rattle.qc_turn.specs.Releases.{Follows}
 use Rattle.qc_turn.specs.declared.task.ListedTask.{ListedTask}
@@ -124,7 +124,7 @@ stored_serials : (cs : Chained) (es : List Entry) → map (λ e. e.serial) (map 
 stored_serials cs [] = refl
 stored_serials cs (x ∷ es) = ap (λ l. x.serial ∷ l) (stored_serials cs es)
 
-pub serials_distinct : (m : Moment) (names : List Named) (words : List ℕ) (s : Parts) → IsWhole m names words s → are_distinct (map (λ e. e.serial) s.dir.entries) ≡ true
+pub serials_distinct : (m : Moment) (names : List Named) (words : List ℕ) (s : ServerState) → IsWhole m names words s → are_distinct (map (λ e. e.serial) s.dir.entries) ≡ true
 serials_distinct m names words s h =
     ap are_distinct (sym (stored_serials s.chains s.dir.entries) ∙ same_serials m (map (stored s.chains) s.dir.entries) (cache s.journal.events) h.sound.directory) ∙ serials_apart s.options s.journal.events h.sound.journal.lawful
 
@@ -161,7 +161,7 @@ chain_there : (o : Option Kept) → is_some o ≡ true → (c : Kept) × (o ≡ 
 chain_there None h = absurd (true≢false (sym h))
 chain_there (Some c) h = (c, refl)
 
-pub begun_at : (names : List Named) (s : Parts) (serial number : ℕ) → IsNamed names s → IsNamedAs names serial number → (c : Kept) × Begun number s.chains c
+pub begun_at : (names : List Named) (s : ServerState) (serial number : ℕ) → IsNamed names s → IsNamedAs names serial number → (c : Kept) × Begun number s.chains c
 begun_at names s serial number h is = chain_there (chain_at number s.chains) (find_all (λ x. is_some (chain_at x.number s.chains) ≡ true) (is_named serial) names _ h.begun is)
 
 -- its blocks are among those of all chains
@@ -187,7 +187,7 @@ all_members P [] h = tt
 all_members P (b ∷ bs) h = (h b (0, omega arith, refl), all_members P bs (λ c k. h c (suc k.0, omega (arith, k.1), k.2)))
 
 -- the blocks of a chain are handed out
-pub out_of : (m : Moment) (names : List Named) (words : List ℕ) (s : Parts) (n number : ℕ) (held : Kept) → IsWhole m names words s → IsNamedAs names n number → Begun number s.chains held → AllByRecursion (Contains (handed_out s.tiles)) held.blocks
+pub out_of : (m : Moment) (names : List Named) (words : List ℕ) (s : ServerState) (n number : ℕ) (held : Kept) → IsWhole m names words s → IsNamedAs names n number → Begun number s.chains held → AllByRecursion (Contains (handed_out s.tiles)) held.blocks
 out_of m names words s n number held h is begun =
     let p = plain names s in
     all_members (Contains (handed_out s.tiles)) held.blocks (λ b k.
@@ -204,7 +204,7 @@ few_out (t ∷ ts) = elim t.free as (λ v. length (map block_of (cond (not v) (t
   | false ↦ omega (arith, few_out ts)
 ]
 
-pub few_blocks : (m : Moment) (names : List Named) (s : Parts) (n number : ℕ) (held : Kept) → TilesAreSound m (plain names s) → IsNamedAs names n number → Begun number s.chains held → 512 * length held.blocks ≤ s.options.size
+pub few_blocks : (m : Moment) (names : List Named) (s : ServerState) (n number : ℕ) (held : Kept) → TilesAreSound m (plain names s) → IsNamedAs names n number → Begun number s.chains held → 512 * length held.blocks ≤ s.options.size
 few_blocks m names s n number held h is begun =
     let p = plain names s in
     let chains = flat_map (λ (c : EntryChain). c.blocks) p.chains in
@@ -224,7 +224,7 @@ few_blocks m names s n number held h is begun =
 
 -- ---- the whole
 
-pub may_use : (m : Moment) (names : List Named) (words : List ℕ) (s : Parts) (n room : ℕ) → IsWhole m names words s → IsComplete s.journal.events n → s.options.size ≤ 512 * room → 0 < s.tasks.room → MayUse n s room
+pub may_use : (m : Moment) (names : List Named) (words : List ℕ) (s : ServerState) (n room : ℕ) → IsWhole m names words s → IsComplete s.journal.events n → s.options.size ≤ 512 * room → 0 < s.tasks.room → MayUse n s room
 may_use m names words s n room h complete wide some_room =
     let p = plain names s in
     let y = hit_entry n (entry_of n (cache p.journal)) complete in
@@ -249,7 +249,7 @@ may_use m names words s n room h complete wide some_room =
       out = out_of m names words s e.entry.serial e.entry.chain.number c.0 h named c.1;
     }
 
-pub hit_whole : (m : Moment) (names : List Named) (words : List ℕ) (s : Parts) (who : Who) (n seat room : ℕ) → IsWhole m names words s → IsSeat seat → NeedsOf s.options m.next (s.journal.events ++ event.Run who (how.Hit n) ∷ []) → who.session ≡ seat - 1 → who.number ≡ event_count s.journal.events who.session + 1
+pub hit_whole : (m : Moment) (names : List Named) (words : List ℕ) (s : ServerState) (who : Who) (n seat room : ℕ) → IsWhole m names words s → IsSeat seat → NeedsOf s.options m.next (s.journal.events ++ event.Run who (how.Hit n) ∷ []) → who.session ≡ seat - 1 → who.number ≡ event_count s.journal.events who.session + 1
     → listed_for seat (tasks_of s) ≡ [] → HasRoom (plain names s) → IsComplete s.journal.events n → (u : MayUse n s room) → IsDirectory (with_entries (after_touch n (after_enter n s.dir.entries)) s.dir)
     → IsWhole m names words (with_event (event.Run who (how.Hit n)) (used_by seat n u.entry u.held s))
 hit_whole m names words s who n seat room h low needs is number free spare complete u valid =
@@ -311,14 +311,14 @@ listed_else cs k ws w ne =
     ∙ (ap (λ b. listed_for k (map (listed_in cs) ws) ++ cond b (listed_in cs w ∷ []) []) (ne_eqb w.seat k (λ z. ne (sym z))) ∙ append-nil (listed_for k (map (listed_in cs) ws))))
 
 -- what is listed for the seat
-pub hit_listed : (s : Parts) (who : Who) (n seat room : ℕ) (u : MayUse n s room) → listed_for seat (tasks_of s) ≡ [] → listed_for seat (tasks_of (with_event (event.Run who (how.Hit n)) (used_by seat n u.entry u.held s))) ≡ own seat (task.Stream n) u.held.blocks
+pub hit_listed : (s : ServerState) (who : Who) (n seat room : ℕ) (u : MayUse n s room) → listed_for seat (tasks_of s) ≡ [] → listed_for seat (tasks_of (with_event (event.Run who (how.Hit n)) (used_by seat n u.entry u.held s))) ≡ own seat (task.Stream n) u.held.blocks
 hit_listed s who n seat room u free =
     let w = streams seat n u.entry in
     ap (listed_for seat) (map-append (listed_in s.chains) s.tasks.items (w ∷ []))
     ∙ (filter-append (λ (t : ListedTask). t.number == seat) (tasks_of s) (listed_in s.chains w ∷ [])
     ∙ ((λ i. free i ++ cond (eq-eqb seat seat refl i) (listed_in s.chains w ∷ []) []) ∙ ap (λ (o : Option Kept). own seat (task.Stream n) (chain_blocks o)) u.begun))
 
-pub hit_follows : (s : Parts) (who : Who) (n seat : ℕ) (e : Entry) (held : Kept) (quiet : List ℕ) → 0 < seat → who.session ≡ seat - 1 → Follows ghosts seat quiet s (with_event (event.Run who (how.Hit n)) (used_by seat n e held s))
+pub hit_follows : (s : ServerState) (who : Who) (n seat : ℕ) (e : Entry) (held : Kept) (quiet : List ℕ) → 0 < seat → who.session ≡ seat - 1 → Follows ghosts seat quiet s (with_event (event.Run who (how.Hit n)) (used_by seat n e held s))
 hit_follows s who n seat e held quiet ps is = record {
   journal = (event.Run who (how.Hit n) ∷ [], refl);
   others = λ k ne. of_seat_else ghosts k s.journal.events (event.Run who (how.Hit n)) who.session refl (λ z. ne (omega (arith, z, ps, is)));
@@ -328,23 +328,23 @@ hit_follows s who n seat e held quiet ps is = record {
 }
 
 -- the server after the hit, by the definition
-pub hit_is : (s : Parts) (who : Who) (n seat room : ℕ) (u : MayUse n s room) → with_event (event.Run who (how.Hit n)) (used_by seat n u.entry u.held s) ≡ hit_server who n seat s
+pub hit_is : (s : ServerState) (who : Who) (n seat room : ℕ) (u : MayUse n s room) → with_event (event.Run who (how.Hit n)) (used_by seat n u.entry u.held s) ≡ hit_server who n seat s
 hit_is s who n seat room u =
     sym (ap (λ o. hit_entry_server who n seat o s) u.there ∙ ap (λ (o : Option Kept). with_event (event.Run who (how.Hit n)) (used_by seat n u.entry (record { blocks = chain_blocks o; bytes = 0 }) s)) u.begun)
 
 -- ---- what the code did
 
-pub use_pulled : (s v new : Parts) (old taken : Ranged) (n seat : ℕ) → v ≡ s → taken ≡ old → ((u : MayUse n v taken.room) → new ≡ used_by seat n u.entry u.held v) → (u : MayUse n s old.room) → new ≡ used_by seat n u.entry u.held s
+pub use_pulled : (s v new : ServerState) (old taken : Ranged) (n seat : ℕ) → v ≡ s → taken ≡ old → ((u : MayUse n v taken.room) → new ≡ used_by seat n u.entry u.held v) → (u : MayUse n s old.room) → new ≡ used_by seat n u.entry u.held s
 use_pulled s v new old taken n seat same hand f u =
-    subst (λ (p : Parts × Ranged). (u : MayUse n p.0 p.1.room) → new ≡ used_by seat n u.entry u.held p.0) (λ i. (same i, hand i)) f u
+    subst (λ (p : ServerState × Ranged). (u : MayUse n p.0 p.1.room) → new ≡ used_by seat n u.entry u.held p.0) (λ i. (same i, hand i)) f u
 
-pub hand_pulled : (s v : Parts) (old taken new : Ranged) (n : ℕ) → v ≡ s → taken ≡ old → ((u : MayUse n v taken.room) → new ≡ record { blocks = u.held.blocks; bytes = u.held.bytes; room = taken.room }) → (u : MayUse n s old.room)
+pub hand_pulled : (s v : ServerState) (old taken new : Ranged) (n : ℕ) → v ≡ s → taken ≡ old → ((u : MayUse n v taken.room) → new ≡ record { blocks = u.held.blocks; bytes = u.held.bytes; room = taken.room }) → (u : MayUse n s old.room)
     → new ≡ record { blocks = u.held.blocks; bytes = u.held.bytes; room = old.room }
 hand_pulled s v old taken new n same hand f u =
-    subst (λ (p : Parts × Ranged). (u : MayUse n p.0 p.1.room) → new ≡ record { blocks = u.held.blocks; bytes = u.held.bytes; room = p.1.room }) (λ i. (same i, hand i)) f u
+    subst (λ (p : ServerState × Ranged). (u : MayUse n p.0 p.1.room) → new ≡ record { blocks = u.held.blocks; bytes = u.held.bytes; room = p.1.room }) (λ i. (same i, hand i)) f u
 
-pub fit_pulled : (s v : Parts) (old taken : Ranged) (n : ℕ) → v ≡ s → taken ≡ old → ((u : MayUse n v taken.room) → IsFit u.held.blocks u.held.bytes) → (u : MayUse n s old.room) → IsFit u.held.blocks u.held.bytes
-fit_pulled s v old taken n same hand f u = subst (λ (p : Parts × Ranged). (u : MayUse n p.0 p.1.room) → IsFit u.held.blocks u.held.bytes) (λ i. (same i, hand i)) f u
+pub fit_pulled : (s v : ServerState) (old taken : Ranged) (n : ℕ) → v ≡ s → taken ≡ old → ((u : MayUse n v taken.room) → IsFit u.held.blocks u.held.bytes) → (u : MayUse n s old.room) → IsFit u.held.blocks u.held.bytes
+fit_pulled s v old taken n same hand f u = subst (λ (p : ServerState × Ranged). (u : MayUse n p.0 p.1.room) → IsFit u.held.blocks u.held.bytes) (λ i. (same i, hand i)) f u
 
 -- the entry is found at the end
 none_without : (n : ℕ) (es : List Entry) (e : Entry) → e.serial ≡ n → entry_at n (without n es ++ e ∷ []) ≡ Some e
@@ -354,7 +354,7 @@ none_without n (x ∷ es) e is = elim (eqb x.serial n) as (λ b. eqb x.serial n 
   | false ↦ λ p. ap (λ b. cond b (Some x) (entry_at n (without n es ++ e ∷ []))) p ∙ none_without n es e is
 ] refl
 
-pub chain_kept : (s : Parts) (who : Who) (n seat room : ℕ) (u : MayUse n s room) (r : Ranged) → r ≡ record { blocks = u.held.blocks; bytes = u.held.bytes; room = room } → IsChainOf n (with_event (event.Run who (how.Hit n)) (used_by seat n u.entry u.held s)) r
+pub chain_kept : (s : ServerState) (who : Who) (n seat room : ℕ) (u : MayUse n s room) (r : Ranged) → r ≡ record { blocks = u.held.blocks; bytes = u.held.bytes; room = room } → IsChainOf n (with_event (event.Run who (how.Hit n)) (used_by seat n u.entry u.held s)) r
 chain_kept s who n seat room u r is =
     ap (λ o. entry_chain s.chains o) (ap (entry_at n) (used_is n s.dir.entries u.entry u.there) ∙ none_without n s.dir.entries (entered u.entry) (serial_at n s.dir.entries u.entry u.there))
     ∙ (u.begun ∙ ap (λ (z : Ranged). Some (record { blocks = z.blocks; bytes = z.bytes })) (sym is))

@@ -9,7 +9,7 @@ use Rattle.qc_chain.specs.Chains.{Chain as Kept}
 use Rattle.qc_dir.specs.declared.entries.Entry.{Entry}
 use Rattle.qc_dir.specs.declared.tables.TableBlock.{TableBlock}
 use Rattle.qc_dir.specs.Directory.{IsDirectory}
-use Rattle.qc_core.specs.Counted.{recorded}
+use Rattle.qc_journal.specs.Room.{recorded}
 use Rattle.qc_key.specs.Hash.{hash}
 use Rattle.qc_laws.specs.history.Runs.{are_distinct}
 use Rattle.qc_model.specs.Licence.{region_words}
@@ -23,8 +23,8 @@ use Rattle.qc_sound.specs.Moment.{Moment, at_rest}
 use Rattle.qc_sound.specs.Sound.{IsSound}
 use Rattle.qc_sound.specs.PlainServer.{serial_of}
 use Rattle.qc_sound.specs.Laws.{free_blocks, taken_blocks}
-use Rattle.qc_core.specs.declared.parts.RunningTask.{RunningTask}
-use Rattle.qc_core.specs.declared.parts.Parts.{Parts}
+use Rattle.qc_core.specs.declared.server_state.RunningTask.{RunningTask}
+use Rattle.qc_core.specs.declared.server_state.ServerState.{ServerState}
 
 -- ---- chains by their names
 
@@ -61,7 +61,7 @@ table_pair b = (b.table, b.block)
 abbrev pub work_in : RunningTask → SeatTask
 work_in w = record { seat = w.seat; task = w.task }
 
-abbrev pub plain : List Named → Parts → PlainServer
+abbrev pub plain : List Named → ServerState → PlainServer
 plain names s = record {
   options = s.options;
   journal = s.journal.events;
@@ -85,27 +85,27 @@ task_blocks (task.Fill n) bs = bs
 abbrev pub listed_in : Chained → RunningTask → ListedTask
 listed_in cs w = record { number = w.seat; task = w.task; blocks = task_blocks w.task (chain_blocks (chain_at w.chain.number cs)) }
 
-abbrev pub tasks_of : Parts → List ListedTask
+abbrev pub tasks_of : ServerState → List ListedTask
 tasks_of s = map (listed_in s.chains) s.tasks.items
 
 -- the blocks that are free, and those that are handed out and in no task
-abbrev pub free_of : Parts → List Block
+abbrev pub free_of : ServerState → List Block
 free_of s = free_blocks s.tiles
 
-abbrev pub taken_of : Parts → List Block
+abbrev pub taken_of : ServerState → List Block
 taken_of s = taken_blocks s.tiles (tasks_of s)
 
 -- ---- sound
 
 -- the names are those of the chains
-pub record IsNamed (names : List Named) (s : Parts) : Type 0 where
+pub record IsNamed (names : List Named) (s : ServerState) : Type 0 where
   pub begun : AllByRecursion (λ x. is_some (chain_at x.number s.chains) ≡ true) names
   pub numbers : are_distinct (map (λ x. x.number) names) ≡ true
   pub entries : AllByRecursion (λ e. IsNamedAs names e.serial e.chain.number) s.dir.entries
   pub tasks : AllByRecursion (λ w. IfSome (serial_of w.task) (λ n. IsNamedAs names n w.chain.number)) s.tasks.items
 
 -- each seat is connected at most once, and there is room for 65 of them, and for as many tasks
-pub record SeatsAreSound (s : Parts) : Type 0 where
+pub record SeatsAreSound (s : ServerState) : Type 0 where
   pub once : are_distinct s.connected.items ≡ true
   pub room : length s.connected.items + s.connected.room ≡ word_seats
   pub task_room : length s.tasks.items + s.tasks.room ≡ word_seats
@@ -121,13 +121,13 @@ pub record ChainsHaveRoom (names : List Named) (cs : Chained) (words : ℕ) : Ty
 
 -- there is room for an entry for each 128 words of the region, and for a table, for a chain and a block of one, and for a block of the chain that is
 -- unpinned, for each 64
-pub record RoomIsSound (names : List Named) (s : Parts) : Type 0 where
+pub record RoomIsSound (names : List Named) (s : ServerState) : Type 0 where
   pub entries : length s.dir.entries + s.dir.room ≡ region_words s.options / 128
   pub tables : length s.dir.tables + s.dir.table_room ≡ region_words s.options / 64
   pub chains : ChainsHaveRoom names s.chains (region_words s.options)
   pub unpinner : s.unpinner ≡ region_words s.options / 64
 
-pub record IsWhole (m : Moment) (names : List Named) (words : List ℕ) (s : Parts) : Type 0 where
+pub record IsWhole (m : Moment) (names : List Named) (words : List ℕ) (s : ServerState) : Type 0 where
   pub named : IsNamed names s
   pub sound : IsSound m words (plain names s)
   pub directory : IsDirectory s.dir
@@ -135,14 +135,14 @@ pub record IsWhole (m : Moment) (names : List Named) (words : List ℕ) (s : Par
   pub room : RoomIsSound names s
 
 -- the server may stand free over these words
-abbrev pub Sound : List ℕ → Parts → Type 0
+abbrev pub Sound : List ℕ → ServerState → Type 0
 Sound words s = (names : List Named) × IsWhole (at_rest hash) names words s
 
 -- it may stand free over some words
-abbrev pub IsSomewhereSound : Parts → Type 0
+abbrev pub IsSomewhereSound : ServerState → Type 0
 IsSomewhereSound s = (words : List ℕ) × Sound words s
 
 -- ---- one more event
 
-abbrev pub with_event : Event → Parts → Parts
+abbrev pub with_event : Event → ServerState → ServerState
 with_event e s = record s { journal = recorded e s.journal }

@@ -7,7 +7,7 @@ ghost use Rattle.qc_model.specs.Licence.{words_of_bytes};
 ghost use Rattle.qc_turn.specs.Seats.{IsHeld, MayRelease, words};
 ghost use Rattle.qc_dir.specs.Directory.{entry_at};
 ghost use Rattle.qc_core.specs.Calls.{HasKey, LacksKey};
-ghost use Rattle.qc_core.specs.Spelled.{spells, is_text, read, IsSame, MayRead};
+ghost use Rattle.qc_core.specs.KeySpelling.{spells, is_text, read, IsSame, MayRead};
 
 use crate::server::Server;
 use byteorder::{ByteOrder, LittleEndian};

@@ -7,7 +7,7 @@ ghost use Rattle.qc_model.specs.Cache as meant;
 ghost use Rattle.qc_model.specs.Journal.{event_count};
 ghost use Rattle.qc_core.specs.Whole.{with_event, IsSomewhereSound};
 
-use crate::parts::Parts;
+use crate::server_state::ServerState;
 use qc_dir::Entry;
 use qc_journal::Journal;
 use qc_model::events::{Counters, Event};
@@ -20,13 +20,13 @@ use std::marker::Model;
 /// The server, in a box, since the lock moves it at each take and each release. Contracts see what is in the box.
 #[derive(Drop)]
 pub struct Server {
-    pub(crate) parts: Box<Parts>,
+    pub(crate) parts: Box<ServerState>,
 }
 
 impl Model for Server {
-    ghost use Rattle.qc_core.specs.declared.parts.Parts.{Parts};
+    ghost use Rattle.qc_core.specs.declared.server_state.ServerState.{ServerState};
 
-    ghost Value = { Parts };
+    ghost Value = { ServerState };
 
     ghost view = { λ s. s.parts.value };
 }
@@ -77,7 +77,7 @@ impl Server {
     pub fn journal(&self) -> &Journal
         ensures { result.now ≡ self.now.journal }
     {
-        self.parts.journal.journal()
+        &self.parts.journal
     }
 
     /// The options.

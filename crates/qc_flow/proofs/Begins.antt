@@ -11,7 +11,7 @@ use Rattle.qc_turn.specs.Tasks.{task_in, blocks_in, released_task, released_bloc
 use Rattle.qc_turn.specs.Views.{bytes_on, content_of, with_word_set, after_release}
 use Rattle.qc_turn.specs.declared.view.View.{View}
 use Rattle.qc_core.specs.contracts.server.ServerKept.TheImpl.{ghosts}
-use Rattle.qc_core.specs.declared.parts.Parts.{Parts}
+use Rattle.qc_core.specs.declared.server_state.ServerState.{ServerState}
 use Rattle.qc_flow.specs.Begins.{FillsBegin, PacketsFollow, FillsAnswer}
 use Rattle.qc_flow.proofs.Licences.{started_in}
 use Rattle.qc_flow.proofs.Packets.{answer_now}
@@ -21,11 +21,11 @@ fills_begin h f s b =
     let w = with_word_set (holder h) false in
     let us = words h in
     let none : (after_release ghosts w h.value us).content ≡ [] = ap (λ ts. content_of ghosts us w.task w.content (released_task false (task_in ts)) (released_blocks (released_task false (task_in ts)) (blocks_in ts))) b.listed ∙ ap (λ t. bytes_on ghosts t f.serial w.content) b.rested in
-    let content : (view s).content ≡ [] = ap (λ (v : View Parts Event). v.content) b.view ∙ none in
-    let fixed : (view s).fixed ≡ ghosts.fixed h.value = ap (λ (v : View Parts Event). v.fixed) b.view ∙ b.fixed in
+    let content : (view s).content ≡ [] = ap (λ (v : View ServerState Event). v.content) b.view ∙ none in
+    let fixed : (view s).fixed ≡ ghosts.fixed h.value = ap (λ (v : View ServerState Event). v.fixed) b.view ∙ b.fixed in
     let empty = b.empty in (
       record {
-        task = ap (λ (v : View Parts Event). v.task) b.view ∙ ap (λ ts. released_task false (task_in ts)) b.listed;
+        task = ap (λ (v : View ServerState Event). v.task) b.view ∙ ap (λ ts. released_task false (task_in ts)) b.listed;
         bytes = b.empty ∙ ap (λ (l : List ℕ). length l) (sym content);
         last = (λ i. low_bytes (b.empty i % 8) f.last) ∙ sym (λ i. drop (8 * (b.empty i / 8)) (content i));
         stored = omega (arith, empty);

@@ -31,9 +31,9 @@ use Rattle.qc_turn.proofs.Tasks.{length_words}
 use Rattle.qc_sound.specs.Moment.{at_rest}
 use Rattle.qc_sound.specs.PlainServer.{blocks_at}
 use Rattle.qc_sound.specs.parts.Contents.{text_of}
-use Rattle.qc_core.specs.declared.parts.Parts.{Parts}
+use Rattle.qc_core.specs.declared.server_state.ServerState.{ServerState}
 use Rattle.qc_core.specs.contracts.server.ServerKept.TheImpl.{ghosts}
-use Rattle.qc_core.specs.Hits.{entry_chain, hit_entry, used_by}
+use Rattle.qc_core.specs.HitStream.{entry_chain, hit_entry, used_by}
 use Rattle.qc_core.specs.KeptLaws.{blocks_named}
 use Rattle.qc_core.specs.Whole.{Named, IsNamedAs, chain_blocks, chain_bytes, chain_in, tasks_of, with_event}
 use Rattle.qc_core.proofs.Seeking.{pair_of}
@@ -90,11 +90,11 @@ from_map : (o : Option Cached) (n : ℕ) → option_map (λ (y : Cached). y.seri
 from_map None n h = absurd (none-some n h)
 from_map (Some y) n h = (y, refl, same_Some y.serial n h)
 
-module _ (g h : Held Parts Event ghosts) (who : Who) (serial : ℕ) (key : List ℕ) (state : State) (l : Looked g h who serial key state) where
-  abbrev s : Parts
+module _ (g h : Held ServerState Event ghosts) (who : Who) (serial : ℕ) (key : List ℕ) (state : State) (l : Looked g h who serial key state) where
+  abbrev s : ServerState
   s = g.value
 
-  abbrev t : Parts
+  abbrev t : ServerState
   t = h.value
 
   abbrev J : Journal
@@ -128,7 +128,7 @@ module _ (g h : Held Parts Event ghosts) (who : Who) (serial : ℕ) (key : List 
   server = l.server ∙ ap (λ o. hit_entry who serial (holder g).number o s) (pair_of (at_rest hash) (words g) l.stood.sound.0 s serial was.0 l.stood.sound.1 of_serial).0.there
 
   events : t.journal.events ≡ J ++ ev ∷ []
-  events = ap (λ (x : Parts). x.journal.events) server
+  events = ap (λ (x : ServerState). x.journal.events) server
 
   now_there : entry_of serial (cache t.journal.events) ≡ Some was.0
   now_there = ap (λ j. entry_of serial (cache j)) events ∙ (ap (entry_of serial) (cache_push J ev) ∙ used_there serial (cache J) was.0 of_serial was.2)

@@ -36,18 +36,18 @@ use Rattle.qc_turn.specs.Words.{StartsWith}
 use Rattle.qc_sound.specs.Moment.{at_rest}
 use Rattle.qc_sound.specs.PlainServer.{serial_of}
 use Rattle.qc_sound.proofs.Grounds.{lacks_room}
-use Rattle.qc_core.specs.declared.grows.Short.{Short}
-use Rattle.qc_core.specs.declared.grows.Short.TheVariants as short
-use Rattle.qc_core.specs.declared.parts.RunningTask.{RunningTask}
-use Rattle.qc_core.specs.declared.parts.Parts.{Parts}
+use Rattle.qc_core.specs.declared.fill_growth.Short.{Short}
+use Rattle.qc_core.specs.declared.fill_growth.Short.TheVariants as short
+use Rattle.qc_core.specs.declared.server_state.RunningTask.{RunningTask}
+use Rattle.qc_core.specs.declared.server_state.ServerState.{ServerState}
 use Rattle.qc_core.specs.contracts.server.ServerKept.TheImpl.{ghosts}
 use Rattle.qc_core.specs.Whole.{stored, plain, tasks_of, Sound}
-use Rattle.qc_core.specs.Allocates.{LacksTile}
-use Rattle.qc_core.specs.Ends.{EndsBy}
-use Rattle.qc_core.specs.Grows.{FillsOn, Grows, IsShort, TellsGrowth, longer_by}
-use Rattle.qc_core.specs.Overtaken.{IsOvertaken}
-use Rattle.qc_core.specs.Strikes.{is_of, let_go, with_user_less, without_task_of, rested_from, rested_by, rested}
-use Rattle.qc_core.specs.Sweeps.{swept, ReadsStreams, Finds}
+use Rattle.qc_core.specs.Eviction.{LacksTile}
+use Rattle.qc_core.specs.FillEnd.{EndsBy}
+use Rattle.qc_core.specs.FillGrowth.{FillsOn, Grows, IsShort, TellsGrowth, longer_by}
+use Rattle.qc_core.specs.OvertakenFill.{IsOvertaken}
+use Rattle.qc_core.specs.TaskEnd.{is_of, let_go, with_user_less, without_task_of, rested_from, rested_by, rested}
+use Rattle.qc_core.specs.EndedStreams.{swept, ReadsStreams, Finds}
 use Rattle.qc_core.proofs.FillTasks.{IsAfter, pruned_after, still_filling}
 use Rattle.qc_core.proofs.Filling.{fills_of, there_same, none_of, was_overtaken}
 use Rattle.qc_turn.proofs.Tasks.{starts_trans}
@@ -57,10 +57,10 @@ use Rattle.qc_flow.proofs.Removals.{overtaken_ends}
 
 -- ---- the journal goes on
 
-pub onward_same : (s : Parts) → Onward s s
+pub onward_same : (s : ServerState) → Onward s s
 onward_same s = record { later = []; events = sym (append-nil s.journal.events); quiet = λ n. refl; options = refl; connected = refl }
 
-pub onward_both : (s t u : Parts) → Onward s t → Onward t u → Onward s u
+pub onward_both : (s t u : ServerState) → Onward s t → Onward t u → Onward s u
 onward_both s t u p q = record {
   later = p.later ++ q.later;
   events = q.events ∙ (ap (λ l. l ++ q.later) p.events ∙ append_assoc s.journal.events p.later q.later);
@@ -69,42 +69,42 @@ onward_both s t u p q = record {
   connected = q.connected ∙ p.connected;
 }
 
-onward_after : (s t : Parts) → IsAfter s t → Onward s t
+onward_after : (s t : ServerState) → IsAfter s t → Onward s t
 onward_after s t a = record { later = a.later; events = a.events; quiet = a.others; options = a.options; connected = a.connected }
 
-onward_grown : (n : ℕ) (s t : Parts) (b : Block) → Grows n s b t → Onward s t
+onward_grown : (n : ℕ) (s t : ServerState) (b : Block) → Grows n s b t → Onward s t
 onward_grown n s t b g =
     let o = onward_after s g.mid (pruned_after [] (unit_words s.options) g.count s g.mid g.prunes) in
     subst (Onward s) (sym g.server) (record { later = o.later; events = o.events; quiet = o.quiet; options = o.options; connected = o.connected })
 
-onward_short : (n : ℕ) (s t : Parts) (e : Short) → IsShort n s t e → Onward s t
+onward_short : (n : ℕ) (s t : ServerState) (e : Short) → IsShort n s t e → Onward s t
 onward_short n s t (short.Overtaken by) h = subst (Onward s) (sym h.2) (onward_same s)
 onward_short n s t (short.NoRoom need largest) h = onward_after s t (pruned_after [] (unit_words s.options) h.1 s t h.2)
 
 -- ---- what is struck off
 
-record Keeps (s t : Parts) : Type 0 where
+record Keeps (s t : ServerState) : Type 0 where
   pub journal : t.journal ≡ s.journal
   pub options : t.options ≡ s.options
   pub connected : t.connected ≡ s.connected
 
-go_keeps : (on there : Bool) (number : ℕ) (s : Parts) → Keeps s (let_go on there number s)
+go_keeps : (on there : Bool) (number : ℕ) (s : ServerState) → Keeps s (let_go on there number s)
 go_keeps true there number s = record { journal = refl; options = refl; connected = refl }
 go_keeps false true number s = record { journal = refl; options = refl; connected = refl }
 go_keeps false false number s = record { journal = refl; options = refl; connected = refl }
 
-from_keeps : (seat number : ℕ) (o : Option ℕ) (s : Parts) → Keeps s (rested_from seat number o s)
+from_keeps : (seat number : ℕ) (o : Option ℕ) (s : ServerState) → Keeps s (rested_from seat number o s)
 from_keeps seat number None s = record { journal = refl; options = refl; connected = refl }
 from_keeps seat number (Some n) s = let k = go_keeps _ _ number (with_user_less n (without_task_of seat s)) in record { journal = k.journal; options = k.options; connected = k.connected }
 
-by_keeps : (seat : ℕ) (o : Option RunningTask) (s : Parts) → Keeps s (rested_by seat o s)
+by_keeps : (seat : ℕ) (o : Option RunningTask) (s : ServerState) → Keeps s (rested_by seat o s)
 by_keeps seat None s = record { journal = refl; options = refl; connected = refl }
 by_keeps seat (Some w) s = from_keeps seat w.chain.number (serial_of w.task) s
 
-rested_keeps : (seat : ℕ) (s : Parts) → Keeps s (rested seat s)
+rested_keeps : (seat : ℕ) (s : ServerState) → Keeps s (rested seat s)
 rested_keeps seat s = by_keeps seat (find (is_of seat) s.tasks.items) s
 
-swept_keeps : (found : List FoundWord) (s : Parts) → Keeps s (swept found s)
+swept_keeps : (found : List FoundWord) (s : ServerState) → Keeps s (swept found s)
 swept_keeps [] s = record { journal = refl; options = refl; connected = refl }
 swept_keeps (f ∷ fs) s = elim f.set as (λ b. Keeps s (cond b (swept fs s) (rested f.seat (swept fs s)))) [
   | true ↦ swept_keeps fs s
@@ -114,26 +114,26 @@ swept_keeps (f ∷ fs) s = elim f.set as (λ b. Keeps s (cond b (swept fs s) (re
       record { journal = b.journal ∙ a.journal; options = b.options ∙ a.options; connected = b.connected ∙ a.connected }
 ]
 
-onward_kept : (s t : Parts) → Keeps s t → Onward s t
+onward_kept : (s t : ServerState) → Keeps s t → Onward s t
 onward_kept s t k = record { later = []; events = ap (λ (j : Recorded). j.events) k.journal ∙ sym (append-nil s.journal.events); quiet = λ n. refl; options = k.options; connected = k.connected }
 
 -- ---- one call on the holding
 
-pub continues_same : (h : Held Parts Event ghosts) → Continues h h
+pub continues_same : (h : Held ServerState Event ghosts) → Continues h h
 continues_same h = record { seat = refl; turn = refl; view = refl; turns = refl; value = onward_same h.value; room = refl }
 
-pub continues_both : (h k m : Held Parts Event ghosts) → Continues h k → Continues k m → Continues h m
+pub continues_both : (h k m : Held ServerState Event ghosts) → Continues h k → Continues k m → Continues h m
 continues_both h k m p q = record { seat = q.seat ∙ p.seat; turn = q.turn ∙ p.turn; view = q.view ∙ p.view; turns = q.turns ∙ p.turns; value = onward_both h.value k.value m.value p.value q.value; room = q.room ∙ p.room }
 
-told_value : (n : ℕ) (s t : Parts) (q r : Ranged) (told : Result Block Short) → TellsGrowth n s q t r told → Onward s t × (r.room ≡ q.room)
+told_value : (n : ℕ) (s t : ServerState) (q r : Ranged) (told : Result Block Short) → TellsGrowth n s q t r told → Onward s t × (r.room ≡ q.room)
 told_value n s t q r (Ok b) g = (onward_grown n s t b g.ok.0, ap (λ (x : Ranged). x.room) g.ok.1)
 told_value n s t q r (Err e) g = (onward_short n s t e g.err.0, ap (λ (x : Ranged). x.room) g.err.1)
 
 -- what one call for a block more tells
-abbrev Told : ℕ → Held Parts Event ghosts → Held Parts Event ghosts → Result Block Short → Type 0
+abbrev Told : ℕ → Held ServerState Event ghosts → Held ServerState Event ghosts → Result Block Short → Type 0
 Told n h k told = (found : List FoundWord) × ReadsStreams (holder h).number h.value found × Finds h (with_ranges k h.ranges) found × TellsGrowth n (swept found h.value) h.ranges k.value k.ranges told
 
-pub grew : (n : ℕ) (h k : Held Parts Event ghosts) (told : Result Block Short) → Told n h k told → Continues h k
+pub grew : (n : ℕ) (h k : Held ServerState Event ghosts) (told : Result Block Short) → Told n h k told → Continues h k
 grew n h k told g =
     let found = g.0 in
     let t = told_value n (swept found h.value) k.value h.ranges k.ranges told g.3 in
@@ -146,14 +146,14 @@ grew n h k told g =
       room = t.1;
     }
 
-pub grew_block : (n : ℕ) (h k : Held Parts Event ghosts) (told : Result Block Short) (b : Block) → told ≡ Ok b → Told n h k told → k.ranges.blocks ≡ h.ranges.blocks ++ b ∷ []
+pub grew_block : (n : ℕ) (h k : Held ServerState Event ghosts) (told : Result Block Short) (b : Block) → told ≡ Ok b → Told n h k told → k.ranges.blocks ≡ h.ranges.blocks ++ b ∷ []
 grew_block n h k told b is g = ap (λ (x : Ranged). x.blocks) (subst (λ r. TellsGrowth n (swept g.0 h.value) h.ranges k.value k.ranges r) is g.3).ok.1
 
-pub grew_none : (n : ℕ) (h k : Held Parts Event ghosts) (told : Result Block Short) (e : Short) → told ≡ Err e → Told n h k told → k.ranges.blocks ≡ h.ranges.blocks
+pub grew_none : (n : ℕ) (h k : Held ServerState Event ghosts) (told : Result Block Short) (e : Short) → told ≡ Err e → Told n h k told → k.ranges.blocks ≡ h.ranges.blocks
 grew_none n h k told e is g = ap (λ (x : Ranged). x.blocks) (subst (λ r. TellsGrowth n (swept g.0 h.value) h.ranges k.value k.ranges r) is g.3).err.1
 
 -- the same of the server, by the number of the seat
-pub asked_block : (seat n : ℕ) (h k : Held Parts Event ghosts) (told r : Result Block Short) → told ≡ r → seat ≡ (holder h).number → Told n h k told → AsksBlock seat n h.value h.ranges k.value k.ranges r
+pub asked_block : (seat n : ℕ) (h k : Held ServerState Event ghosts) (told r : Result Block Short) → told ≡ r → seat ≡ (holder h).number → Told n h k told → AsksBlock seat n h.value h.ranges k.value k.ranges r
 asked_block seat n h k told r is number g = (g.0, subst (λ i. ReadsStreams i h.value g.0) (sym number) g.1, subst (λ z. TellsGrowth n (swept g.0 h.value) h.ranges k.value k.ranges z) is g.3)
 
 -- a chain that grew begins as it was
@@ -165,7 +165,7 @@ grown_front total old new g = ⊎_elim
 
 -- ---- a start stays
 
-pub started_on : (s t : Parts) (n : ℕ) → Onward s t → IsStarted s.journal.events n → IsStarted t.journal.events n
+pub started_on : (s t : ServerState) (n : ℕ) → Onward s t → IsStarted s.journal.events n → IsStarted t.journal.events n
 started_on s t n o u = record {
   who = u.who;
   key = u.key;
@@ -175,10 +175,10 @@ started_on s t n o u = record {
   split = o.events ∙ (ap (λ l. l ++ o.later) u.split ∙ append_assoc u.earlier (event.Run u.who (how.Start n u.key u.tables) ∷ u.later) o.later);
 }
 
-pub number_on : (h k : Held Parts Event ghosts) → Continues h k → (holder k).number ≡ (holder h).number
+pub number_on : (h k : Held ServerState Event ghosts) → Continues h k → (holder k).number ≡ (holder h).number
 number_on h k c = ap (λ v. v.number) c.view
 
-pub fills_on : (n total : ℕ) (h k : Held Parts Event ghosts) → FillsFor n total h → Continues h k → listed_for (holder h).number (tasks_of k.value) ≡ own (holder h).number (task.Fill n) k.ranges.blocks → FillsFor n total k
+pub fills_on : (n total : ℕ) (h k : Held ServerState Event ghosts) → FillsFor n total h → Continues h k → listed_for (holder h).number (tasks_of k.value) ≡ own (holder h).number (task.Fill n) k.ranges.blocks → FillsFor n total k
 unfolding started_on
 fills_on n total h k f c listed = record {
   listed = subst (λ i. listed_for i (tasks_of k.value) ≡ own i (task.Fill n) k.ranges.blocks) (sym (number_on h k c)) listed;
@@ -189,7 +189,7 @@ fills_on n total h k f c listed = record {
   room = subst (λ (p : Options × ℕ). p.0.size ≤ 512 * p.1) (λ i. (sym c.value.options i, sym c.room i)) f.room;
 }
 
-pub asks_more : (n total : ℕ) (h : Held Parts Event ghosts) → FillsFor n total h → nat_le total (8 * words_of h.ranges.blocks) ≡ false → FillsOn (holder h).number n h.value h.ranges
+pub asks_more : (n total : ℕ) (h : Held ServerState Event ghosts) → FillsFor n total h → nat_le total (8 * words_of h.ranges.blocks) ≡ false → FillsOn (holder h).number n h.value h.ranges
 asks_more n total h f more = record {
   listed = f.listed;
   start = f.start;
@@ -230,7 +230,7 @@ block_words need ts b some h = by (best (raised need) ts) refl h
         subst (λ (x : Block). 0 < x.words) (same_Some (record { first = t.first; words = cut_words (raised need) t.words }) b k) cut
 
 -- one more block holds more
-pub more_words : (n : ℕ) (s t : Parts) (q r : Ranged) (b : Block) → 0 < unit_words s.options → Grows n s b t → r ≡ longer_by b q → words_of q.blocks < words_of r.blocks
+pub more_words : (n : ℕ) (s t : ServerState) (q r : Ranged) (b : Block) → 0 < unit_words s.options → Grows n s b t → r ≡ longer_by b q → words_of q.blocks < words_of r.blocks
 more_words n s t q r b some g is =
     let one = block_words (unit_words s.options) g.mid.tiles b some g.taken in
     let sum = words_push q.blocks b in
@@ -239,8 +239,8 @@ more_words n s t q r b some g is =
 
 -- ---- why a chain doesn't grow
 
-pub was_short : (n : ℕ) (s t : Parts) (e : Short) → IsLawful t.options t.journal.events → IsShort n s t e → WasShort n t e
-was_short n s t (short.Overtaken by) lawful h = (ap (λ (x : Parts). entry_of n (cache x.journal.events)) h.2 ∙ h.0, subst (λ (x : Parts). IsOvertaken x.journal.events n by) (sym h.2) h.1)
+pub was_short : (n : ℕ) (s t : ServerState) (e : Short) → IsLawful t.options t.journal.events → IsShort n s t e → WasShort n t e
+was_short n s t (short.Overtaken by) lawful h = (ap (λ (x : ServerState). entry_of n (cache x.journal.events)) h.2 ∙ h.0, subst (λ (x : ServerState). IsOvertaken x.journal.events n by) (sym h.2) h.1)
 was_short n s t (short.NoRoom need largest) lawful h =
     let a = pruned_after [] (unit_words s.options) h.1 s t h.2 in
     (still_filling t.options s t n lawful a h.0, subst (λ o. LacksTile (unit_words o) t (record { need = need; largest = largest })) (sym a.options) h.3)
@@ -263,7 +263,7 @@ restless cs (e ∷ es) h = elim (is_idle e) as (λ b. is_idle e ≡ b → cond b
     used zero k = absurd (true≢false k)
     used (suc n) k = omega arith
 
-pub no_room : (ws : List ℕ) (s : Parts) (n need largest : ℕ) → Sound ws s → LacksTile (unit_words s.options) s (record { need = need; largest = largest }) → MayGiveUp s.options s.journal.events n (gone.NoRoom need largest)
+pub no_room : (ws : List ℕ) (s : ServerState) (n need largest : ℕ) → Sound ws s → LacksTile (unit_words s.options) s (record { need = need; largest = largest }) → MayGiveUp s.options s.journal.events n (gone.NoRoom need largest)
 no_room ws s n need largest sound l =
     let h = sound.1.sound in
     let t = h.memory.tiles in
@@ -281,13 +281,13 @@ pub quiet_done : (n k : ℕ) → of_seat ghosts k (event.Done n ∷ []) ≡ []
 quiet_done n k = refl
 
 -- by this event, or it was overtaken
-pub record EndedSo (e : Event) (n : ℕ) (s t : Parts) (r : Result ℕ ℕ) : Type 0 where
+pub record EndedSo (e : Event) (n : ℕ) (s t : ServerState) (r : Result ℕ ℕ) : Type 0 where
   pub onward : Onward s t
   pub ok : IfOk r (λ place. (place ≡ length t.journal.events) × EndsIn e t.journal.events)
   pub err : IfErr r (λ by. IsOvertaken t.journal.events n by × (is_ended n [] t.journal.events ≡ true))
   pub kept : IfErr r (λ by. t.journal.events ≡ s.journal.events)
 
-pub ended_so : (e : Event) (n seat : ℕ) (ws : List ℕ) (s t : Parts) (bs : List Block) (r : Result ℕ ℕ) → ((k : ℕ) → of_seat ghosts k (e ∷ []) ≡ []) → Sound ws s → listed_for seat (tasks_of s) ≡ own seat (task.Fill n) bs → is_ok r ≡ is_some (entry_of n (cache s.journal.events))
+pub ended_so : (e : Event) (n seat : ℕ) (ws : List ℕ) (s t : ServerState) (bs : List Block) (r : Result ℕ ℕ) → ((k : ℕ) → of_seat ghosts k (e ∷ []) ≡ []) → Sound ws s → listed_for seat (tasks_of s) ≡ own seat (task.Fill n) bs → is_ok r ≡ is_some (entry_of n (cache s.journal.events))
     → IfOk r (λ place. (place ≡ length t.journal.events) × EndsBy e s t) → IfErr r (λ by. IsOvertaken s.journal.events n by × (t ≡ rested seat s)) → EndedSo e n s t r
 ended_so e n seat ws s t bs (Ok place) quiet sound listed there ok err = record {
   onward = record { later = e ∷ []; events = ok.1.events; quiet = quiet; options = ok.1.options; connected = ok.1.connected };
@@ -297,7 +297,7 @@ ended_so e n seat ws s t bs (Ok place) quiet sound listed there ok err = record 
 }
 ended_so e n seat ws s t bs (Err by) quiet sound listed there ok err =
     let keeps = rested_keeps seat s in
-    let same : t.journal.events ≡ s.journal.events = ap (λ (x : Parts). x.journal.events) err.1 ∙ ap (λ (j : Recorded). j.events) keeps.journal in
+    let same : t.journal.events ≡ s.journal.events = ap (λ (x : ServerState). x.journal.events) err.1 ∙ ap (λ (j : Recorded). j.events) keeps.journal in
     let left = none_of _ (there_same (at_rest hash) sound.0 ws s n sound.1 ∙ sym there) in
     let was = was_overtaken (at_rest hash) sound.0 ws s seat n sound.1 (fills_of s seat n bs listed) left in
     record {
@@ -307,7 +307,7 @@ ended_so e n seat ws s t bs (Err by) quiet sound listed there ok err =
       kept = same;
     }
 
-pub grew_more : (n : ℕ) (h k : Held Parts Event ghosts) (told : Result Block Short) (b : Block) → told ≡ Ok b → MayRelease h → Told n h k told → words_of h.ranges.blocks < words_of k.ranges.blocks
+pub grew_more : (n : ℕ) (h k : Held ServerState Event ghosts) (told : Result Block Short) (b : Block) → told ≡ Ok b → MayRelease h → Told n h k told → words_of h.ranges.blocks < words_of k.ranges.blocks
 grew_more n h k told b is stands g =
     let found = g.0 in
     let t = subst (λ r. TellsGrowth n (swept found h.value) h.ranges k.value k.ranges r) is g.3 in
@@ -315,7 +315,7 @@ grew_more n h k told b is stands g =
     let some : 0 < unit_words (swept found h.value).options = subst (λ o. 0 < unit_words o) (sym (swept_keeps found h.value).options) unit in
     more_words n (swept found h.value) k.value h.ranges k.ranges b some t.ok.0 t.ok.1
 
-pub grew_short : (n : ℕ) (h k : Held Parts Event ghosts) (told : Result Block Short) (e : Short) → told ≡ Err e → MayRelease k → Told n h k told → WasShort n k.value e
+pub grew_short : (n : ℕ) (h k : Held ServerState Event ghosts) (told : Result Block Short) (e : Short) → told ≡ Err e → MayRelease k → Told n h k told → WasShort n k.value e
 grew_short n h k told e is stands g =
     let found = g.0 in
     let t = subst (λ r. TellsGrowth n (swept found h.value) h.ranges k.value k.ranges r) is g.3 in

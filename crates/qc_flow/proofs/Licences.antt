@@ -19,7 +19,7 @@ use Rattle.qc_turn.specs.declared.view.View.{View}
 use Rattle.qc_sound.specs.Sound.{FitsFill}
 use Rattle.qc_core.specs.Whole.{IsSomewhereSound}
 use Rattle.qc_core.specs.contracts.server.ServerKept.TheImpl.{ghosts}
-use Rattle.qc_core.specs.declared.parts.Parts.{Parts}
+use Rattle.qc_core.specs.declared.server_state.ServerState.{ServerState}
 use Rattle.qc_core.proofs.Filling.{some_of}
 use Rattle.qc_flow.specs.Fills.{IsNextPacket}
 use Rattle.qc_flow.specs.Endings.{IsGrantedFor, IsTooLong}
@@ -38,7 +38,7 @@ started_in j seen n begins s = record {
   split = begins.1 ∙ (ap (λ l. l ++ begins.0) s.split ∙ append_assoc s.earlier (event.Run s.who (how.Start n s.key s.tables) ∷ s.later) begins.0);
 }
 
-pub long_granted : (serial total limit : ℕ) (v : View Parts Event) → IsTooLong serial total limit v → IsGrantedFor serial (gone.TooLarge total limit) v
+pub long_granted : (serial total limit : ℕ) (v : View ServerState Event) → IsTooLong serial total limit v → IsGrantedFor serial (gone.TooLarge total limit) v
 long_granted serial total limit v long s sound begins fixed there =
     let j = s.journal.events in
     let p = long.next in
@@ -57,11 +57,11 @@ long_granted serial total limit v long s sound begins fixed there =
     )
 
 -- what begins the answer fits, by each journal that goes on from there
-pub seen_fits : (s : Parts) (seen : Journal) (n : ℕ) (start : IsStarted seen n) (all bytes : List ℕ) → IsSomewhereSound s → StartsWith s.journal.events seen → answer start.key (present start.earlier) ≡ Some all → StartsWith all bytes → FitsFill s.journal.events n bytes
+pub seen_fits : (s : ServerState) (seen : Journal) (n : ℕ) (start : IsStarted seen n) (all bytes : List ℕ) → IsSomewhereSound s → StartsWith s.journal.events seen → answer start.key (present start.earlier) ≡ Some all → StartsWith all bytes → FitsFill s.journal.events n bytes
 seen_fits s seen n start all bytes sound begins is front = front_fits s.options s.journal.events n (started_in s.journal.events seen n begins start) all bytes sound.1.1.sound.journal.lawful is front
 
 -- a packet that comes next is more of the answer
-pub wants_packet : (n : ℕ) (packet : List ℕ) (v : View Parts Event) → IsNextPacket n packet v → Wants n (length v.content + length packet) v
+pub wants_packet : (n : ℕ) (packet : List ℕ) (v : View ServerState Event) → IsNextPacket n packet v → Wants n (length v.content + length packet) v
 wants_packet n packet v p =
     let all = concat (p.earlier ++ packet ∷ p.later) in
     let split : all ≡ v.content ++ (packet ++ concat p.later) = concat-append p.earlier (packet ∷ p.later) ∙ ap (λ l. l ++ (packet ++ concat p.later)) (sym p.stored) in
@@ -77,11 +77,11 @@ wants_packet n packet v p =
     }
 
 -- the packets are those that stand in front
-pub packet_front : (n : ℕ) (packet : List ℕ) (v : View Parts Event) (p : IsNextPacket n packet v) → StartsWith (concat (p.earlier ++ packet ∷ p.later)) (v.content ++ packet)
+pub packet_front : (n : ℕ) (packet : List ℕ) (v : View ServerState Event) (p : IsNextPacket n packet v) → StartsWith (concat (p.earlier ++ packet ∷ p.later)) (v.content ++ packet)
 packet_front n packet v p = (concat p.later, concat-append p.earlier (packet ∷ p.later) ∙ (ap (λ l. l ++ (packet ++ concat p.later)) (sym p.stored) ∙ sym (append_assoc v.content packet (concat p.later))))
 
 -- a packet that comes next may stand behind what is stored, by what the seat has seen since
-pub put_fits : (n : ℕ) (packet : List ℕ) (v w : View Parts Event) (p : IsNextPacket n packet v) → IsSoundJournal ghosts w.seen → GoesOn v w → w.content ≡ v.content → (front : List ℕ) → StartsWith (w.content ++ packet) front → FitsFill w.seen n front
+pub put_fits : (n : ℕ) (packet : List ℕ) (v w : View ServerState Event) (p : IsNextPacket n packet v) → IsSoundJournal ghosts w.seen → GoesOn v w → w.content ≡ v.content → (front : List ℕ) → StartsWith (w.content ++ packet) front → FitsFill w.seen n front
 put_fits n packet v w p sound goes same front begins =
     let all = concat (p.earlier ++ packet ∷ p.later) in
     let within : StartsWith all front = starts_trans all (v.content ++ packet) front (packet_front n packet v p) (subst (λ l. StartsWith (l ++ packet) front) same begins) in

@@ -19,7 +19,7 @@ use Rattle.qc_laws.proofs.history.Events.{cache_push, lawful_prefix, lawful_back
 use Rattle.qc_laws.proofs.history.Serials.{neither, none_new}
 use Rattle.qc_laws.proofs.history.Stays.{answers_stay}
 use Rattle.qc_sound.specs.Ended.{ends_fill as ends, is_ended as was_ended}
-use Rattle.qc_core.specs.Overtaken.{overtakes, WasOvertaken}
+use Rattle.qc_core.specs.OvertakenFill.{overtakes, WasOvertaken}
 use Rattle.qc_core.proofs.Overtaking.{IsThere, stays_all}
 
 -- ---- just after its start it is there

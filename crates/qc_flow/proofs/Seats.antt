@@ -22,14 +22,14 @@ use Rattle.qc_sound.specs.Sound.{FitsFill}
 use Rattle.qc_sound.proofs.Counts.{places_append}
 use Rattle.qc_core.specs.Whole.{tasks_of}
 use Rattle.qc_core.specs.contracts.server.ServerKept.TheImpl.{ghosts}
-use Rattle.qc_core.specs.declared.parts.Parts.{Parts}
+use Rattle.qc_core.specs.declared.server_state.ServerState.{ServerState}
 use Rattle.qc_flow.specs.Growths.{Onward, settled}
 use Rattle.qc_flow.specs.Seats.{GoesOn, IsAtRest}
 
 -- ---- what stays
 
-module _ (v : View Parts Event) (b : Parts) (ws : List ℕ) (taken : Taken ghosts v b ws) (free : v.holding ≡ Free) (unset : v.word_set ≡ false) where
-  on : (turns : List Parts) (x : Parts) (us : List ℕ) → Onward b x → GoesOn v (after_release ghosts (with_word_set (record v { turns = turns }) false) x us)
+module _ (v : View ServerState Event) (b : ServerState) (ws : List ℕ) (taken : Taken ghosts v b ws) (free : v.holding ≡ Free) (unset : v.word_set ≡ false) where
+  on : (turns : List ServerState) (x : ServerState) (us : List ℕ) → Onward b x → GoesOn v (after_release ghosts (with_word_set (record v { turns = turns }) false) x us)
   on turns x us o =
       let events : of_seat ghosts v.number x.journal.events ≡ v.events =
       ap (of_seat ghosts v.number) o.events
@@ -42,12 +42,12 @@ module _ (v : View Parts Event) (b : Parts) (ws : List ℕ) (taken : Taken ghost
         told = λ h. refl;
       }
 
-  pub released_on : (w : View Parts Event) (x : Parts) (us : List ℕ) → settled w ≡ settled v → Onward b x → GoesOn v (after_release ghosts (with_word_set w false) x us)
-  released_on w x us same o = subst (λ (u : View Parts Event). GoesOn v (after_release ghosts (with_word_set (record u { turns = w.turns }) false) x us)) (sym same) (on w.turns x us o)
+  pub released_on : (w : View ServerState Event) (x : ServerState) (us : List ℕ) → settled w ≡ settled v → Onward b x → GoesOn v (after_release ghosts (with_word_set w false) x us)
+  released_on w x us same o = subst (λ (u : View ServerState Event). GoesOn v (after_release ghosts (with_word_set (record u { turns = w.turns }) false) x us)) (sym same) (on w.turns x us o)
 
 -- ---- the seat rests
 
-pub released_rests : (w : View Parts Event) (x : Parts) (us : List ℕ) → listed_for w.number (tasks_of x) ≡ [] → IsAtRest (after_release ghosts (with_word_set w false) x us)
+pub released_rests : (w : View ServerState Event) (x : ServerState) (us : List ℕ) → listed_for w.number (tasks_of x) ≡ [] → IsAtRest (after_release ghosts (with_word_set w false) x us)
 released_rests w x us none = record {
   task = ap (λ ts. released_task false (task_in ts)) none;
   blocks = ap (λ ts. released_blocks (released_task false (task_in ts)) (blocks_in ts)) none;
@@ -59,12 +59,12 @@ released_rests w x us none = record {
 bytes_same : (t : Task) (serial : ℕ) (bytes : List ℕ) → t ≡ task.Fill serial → bytes_on ghosts t serial bytes ≡ bytes
 bytes_same t serial bytes h = ap (λ u. bytes_on ghosts u serial bytes) h ∙ ap (λ b. cond b bytes []) (eq-eqb serial serial refl)
 
-pub record Fills (serial : ℕ) (bs : List Block) (bytes : List ℕ) (v : View Parts Event) : Type 0 where
+pub record Fills (serial : ℕ) (bs : List Block) (bytes : List ℕ) (v : View ServerState Event) : Type 0 where
   pub task : v.task ≡ task.Fill serial
   pub blocks : v.blocks ≡ bs
   pub content : v.content ≡ bytes
 
-module _ (w : View Parts Event) (x : Parts) (us : List ℕ) (serial : ℕ) (bs : List Block) (one : listed_for w.number (tasks_of x) ≡ own w.number (task.Fill serial) bs) (filled : w.task ≡ task.Fill serial) where
+module _ (w : View ServerState Event) (x : ServerState) (us : List ℕ) (serial : ℕ) (bs : List Block) (one : listed_for w.number (tasks_of x) ≡ own w.number (task.Fill serial) bs) (filled : w.task ≡ task.Fill serial) where
   pub released_fills : Fills serial bs w.content (after_release ghosts (with_word_set w false) x us)
   released_fills = record {
     task = ap (λ ts. released_task false (task_in ts)) one;

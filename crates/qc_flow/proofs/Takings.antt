@@ -23,12 +23,12 @@ use Rattle.qc_turn.proofs.Holders.{follows_refl}
 use Rattle.qc_turn.proofs.Tasks.{starts_trans, length_words}
 use Rattle.qc_sound.specs.Sound.{FitsFill}
 use Rattle.qc_core.specs.Calls.{StoresWhole}
-use Rattle.qc_core.specs.Overtaken.{IsOvertaken}
+use Rattle.qc_core.specs.OvertakenFill.{IsOvertaken}
 use Rattle.qc_core.specs.Whole.{IsSomewhereSound, tasks_of}
-use Rattle.qc_core.specs.declared.grows.Short.{Short}
-use Rattle.qc_core.specs.declared.grows.Short.TheVariants as short
+use Rattle.qc_core.specs.declared.fill_growth.Short.{Short}
+use Rattle.qc_core.specs.declared.fill_growth.Short.TheVariants as short
 use Rattle.qc_core.specs.contracts.server.ServerKept.TheImpl.{ghosts}
-use Rattle.qc_core.specs.declared.parts.Parts.{Parts}
+use Rattle.qc_core.specs.declared.server_state.ServerState.{ServerState}
 use Rattle.qc_flow.specs.Fills.{IsWholeAnswer, size_of, limit_of}
 use Rattle.qc_flow.specs.Growths.{HoldFewer, Widens, WasShort, IsFull, EndsShort, step_of, Wants, Onward, settled, Continues, FillsFor, GrowsShort}
 use Rattle.qc_flow.specs.Seats.{GoesOn, IsAtRest, HasEnded, TookOnce}
@@ -43,14 +43,14 @@ fill_alone n serial t bs ts h l = ⊎_elim (λ (e : ts ≡ own n (task.Fill seri
     not_rest e = absurd cc
 
 -- what a fill stored, as the words had it at the take
-stored_front : (b : Parts) (ws : List ℕ) (t : Task) (serial : ℕ) (bs : List Block) (content : List ℕ) → t ≡ task.Fill serial → ContentRule ghosts b ws t bs content → (content ≡ take (length content) (bytes_of (spelled ws bs))) × FitsFill b.journal.events serial content
+stored_front : (b : ServerState) (ws : List ℕ) (t : Task) (serial : ℕ) (bs : List Block) (content : List ℕ) → t ≡ task.Fill serial → ContentRule ghosts b ws t bs content → (content ≡ take (length content) (bytes_of (spelled ws bs))) × FitsFill b.journal.events serial content
 stored_front b ws t serial bs content h rule = subst (λ u. ContentRule ghosts b ws u bs content) h rule
 
 -- the words of a seat that fills
-pub fill_words : (v : View Parts Event) (serial : ℕ) → v.task ≡ task.Fill serial → task_words v ≡ words_of v.blocks
+pub fill_words : (v : View ServerState Event) (serial : ℕ) → v.task ≡ task.Fill serial → task_words v ≡ words_of v.blocks
 fill_words v serial h = ap (λ t. words_in t v.blocks) h ∙ length_words v.blocks
 
-pub record TookFill (v : View Parts Event) (h : Held Parts Event ghosts) (serial : ℕ) : Type 0 where
+pub record TookFill (v : View ServerState Event) (h : Held ServerState Event ghosts) (serial : ℕ) : Type 0 where
   pub stands : MayRelease h
   pub listed : listed_for (holder h).number (tasks_of h.value) ≡ own (holder h).number (task.Fill serial) v.blocks
   pub view : settled (holder h) ≡ settled v
@@ -58,7 +58,7 @@ pub record TookFill (v : View Parts Event) (h : Held Parts Event ghosts) (serial
   pub unset : v.word_set ≡ false
   pub front : v.content ≡ take (length v.content) (bytes_of (spelled (words h) v.blocks))
 
-pub took_fill : (v : View Parts Event) (h : Held Parts Event ghosts) (serial : ℕ) → IsHeld h → Taken ghosts v h.value (words h) → holder h ≡ with_turn v h.value (words h) → v.task ≡ task.Fill serial → TookFill v h serial
+pub took_fill : (v : View ServerState Event) (h : Held ServerState Event ghosts) (serial : ℕ) → IsHeld h → Taken ghosts v h.value (words h) → holder h ≡ with_turn v h.value (words h) → v.task ≡ task.Fill serial → TookFill v h serial
 took_fill v h serial held t holds fill =
     let base : taken h ≡ h.value = ap (λ u. base_of h.value u.holding) holds in
     let number : (holder h).number ≡ v.number = ap (λ u. u.number) holds in
@@ -76,7 +76,7 @@ took_fill v h serial held t holds fill =
     }
 
 -- what is stored is the whole answer, so the entry may be completed
-pub stores_whole : (v : View Parts Event) (h : Held Parts Event ghosts) (serial bytes : ℕ) → TookFill v h serial → Taken ghosts v h.value (words h) → IsWholeAnswer serial v → (bytes ≡ length v.content) × (bytes ≤ 8 * words_of v.blocks) × (bytes ≤ limit_of v) → StoresWhole serial bytes h
+pub stores_whole : (v : View ServerState Event) (h : Held ServerState Event ghosts) (serial bytes : ℕ) → TookFill v h serial → Taken ghosts v h.value (words h) → IsWholeAnswer serial v → (bytes ≡ length v.content) × (bytes ≤ 8 * words_of v.blocks) × (bytes ≤ limit_of v) → StoresWhole serial bytes h
 stores_whole v h serial bytes f t whole few bs one =
     let blocks : bs ≡ v.blocks = ap blocks_in (sym one ∙ f.listed) in
     let text : v.content ≡ take bytes (bytes_of (spelled (words h) bs)) = f.front ∙ (λ i. take (sym few.0 i) (bytes_of (spelled (words h) (sym blocks i)))) in
@@ -93,16 +93,16 @@ stores_whole v h serial bytes f t whole few bs one =
 -- ---- the seat after the release
 
 -- a seat that took the turn once has no other server from it
-pub took_once : (v w : View Parts Event) (h k : Held Parts Event ghosts) (serial : ℕ) (set : _) → TookFill v h serial → (holder k).turns ≡ (holder h).turns → w ≡ after_release ghosts (with_word_set (holder k) set) k.value (words k) → TookOnce h.value v w
+pub took_once : (v w : View ServerState Event) (h k : Held ServerState Event ghosts) (serial : ℕ) (set : _) → TookFill v h serial → (holder k).turns ≡ (holder h).turns → w ≡ after_release ghosts (with_word_set (holder k) set) k.value (words k) → TookOnce h.value v w
 took_once v w h k serial set f same is = ap (λ u. u.turns) is ∙ (same ∙ f.turns)
 
 -- the seat rests, and has seen this journal
-pub record Rested (v w : View Parts Event) (x : Parts) : Type 0 where
+pub record Rested (v w : View ServerState Event) (x : ServerState) : Type 0 where
   pub goes_on : GoesOn v w
   pub rests : IsAtRest w
   pub seen : w.seen ≡ x.journal.events
 
-pub seat_rests : (v w : View Parts Event) (h k : Held Parts Event ghosts) (serial : ℕ) → TookFill v h serial → Taken ghosts v h.value (words h) → v.holding ≡ Free → settled (holder k) ≡ settled (holder h) → Onward h.value k.value → listed_for (holder h).number (tasks_of k.value) ≡ []
+pub seat_rests : (v w : View ServerState Event) (h k : Held ServerState Event ghosts) (serial : ℕ) → TookFill v h serial → Taken ghosts v h.value (words h) → v.holding ≡ Free → settled (holder k) ≡ settled (holder h) → Onward h.value k.value → listed_for (holder h).number (tasks_of k.value) ≡ []
     → w ≡ after_release ghosts (with_word_set (holder k) false) k.value (words k) → Rested v w k.value
 seat_rests v w h k serial f t free same o none is =
     let number : (holder k).number ≡ (holder h).number = ap (λ u. u.number) same in
@@ -114,7 +114,7 @@ seat_rests v w h k serial f t free same o none is =
     }
 
 -- what a seat asks that has taken the turn for more blocks
-pub fills_for : (v : View Parts Event) (h : Held Parts Event ghosts) (ranges : Ranged) (serial total : ℕ) → TookFill v h serial → Taken ghosts v h.value (words h) → v.task ≡ task.Fill serial → HasBlocks v.task v.blocks ranges.blocks → h.ranges ≡ ranges → Wants serial total v → size_of v ≤ 512 * ranges.room
+pub fills_for : (v : View ServerState Event) (h : Held ServerState Event ghosts) (ranges : Ranged) (serial total : ℕ) → TookFill v h serial → Taken ghosts v h.value (words h) → v.task ≡ task.Fill serial → HasBlocks v.task v.blocks ranges.blocks → h.ranges ≡ ranges → Wants serial total v → size_of v ≤ 512 * ranges.room
     → FillsFor serial total h
 fills_for v h ranges serial total f t fill has same wants room =
     let blocks : h.ranges.blocks ≡ v.blocks = ap (λ (r : Ranged). r.blocks) same ∙ subst (λ u. HasBlocks u v.blocks ranges.blocks) fill has in
@@ -128,7 +128,7 @@ fills_for v h ranges serial total f t fill has same wants room =
     }
 
 -- the fill goes on with its blocks, and what was stored stands in them
-module _ (v : View Parts Event) (h k : Held Parts Event ghosts) (ranges : Ranged) (serial total : ℕ) (f : TookFill v h serial) (t : Taken ghosts v h.value (words h)) (fill : v.task ≡ task.Fill serial) (c : Continues h k) (one : FillsFor serial total k) where
+module _ (v : View ServerState Event) (h k : Held ServerState Event ghosts) (ranges : Ranged) (serial total : ℕ) (f : TookFill v h serial) (t : Taken ghosts v h.value (words h)) (fill : v.task ≡ task.Fill serial) (c : Continues h k) (one : FillsFor serial total k) where
   filled : (holder k).task ≡ task.Fill serial
   filled = ap (λ u. u.task) (c.view ∙ f.view) ∙ fill
 
@@ -147,7 +147,7 @@ module _ (v : View Parts Event) (h k : Held Parts Event ghosts) (ranges : Ranged
       (subst (λ l. l ≡ take (length l) (bytes_of (spelled (words k) k.ranges.blocks))) (sym same_content) now)
       (subst (FitsFill k.value.journal.events serial) (sym same_content) fits)
 
-  pub seat_fills : (w : View Parts Event) → v.holding ≡ Free → w ≡ after_release ghosts (with_word_set (holder k) false) k.value (words k) → GoesOn v w × (w.task ≡ task.Fill serial) × (w.content ≡ v.content) × (w.blocks ≡ k.ranges.blocks)
+  pub seat_fills : (w : View ServerState Event) → v.holding ≡ Free → w ≡ after_release ghosts (with_word_set (holder k) false) k.value (words k) → GoesOn v w × (w.task ≡ task.Fill serial) × (w.content ≡ v.content) × (w.blocks ≡ k.ranges.blocks)
   seat_fills w free is =
       let r = released_fills (holder k) k.value (words k) serial k.ranges.blocks one.listed filled in (
         subst (GoesOn v) (sym is) (released_on v h.value (words h) t free f.unset (holder k) k.value (words k) (c.view ∙ f.view) c.value),
@@ -157,13 +157,13 @@ module _ (v : View Parts Event) (h k : Held Parts Event ghosts) (ranges : Ranged
       )
 
 -- no block was found, and the answer is longer than the blocks hold
-pub is_full : (n total : ℕ) (k : Held Parts Event ghosts) (e : Short) → FillsFor n total k → WasShort n k.value e × HoldFewer k.ranges.blocks total → IsFull (holder k).number n k.value e
+pub is_full : (n total : ℕ) (k : Held ServerState Event ghosts) (e : Short) → FillsFor n total k → WasShort n k.value e × HoldFewer k.ranges.blocks total → IsFull (holder k).number n k.value e
 is_full n total k (short.Overtaken by) f was = tt
 is_full n total k (short.NoRoom need largest) f was =
     record { tile = was.0.1; blocks = k.ranges.blocks; listed = f.listed; start = f.start; all = f.all; answered = f.answered; longer = omega (arith, was.1, f.long) }
 
 -- no block was found
-pub widens_short : (serial total : ℕ) (v w : View Parts Event) (k m : Parts) (bs : List Block) (e : Short) (taken : Parts) (before after : Ranged) → TookOnce taken v w → GrowsShort v.number serial taken before k after e → before.blocks ≡ v.blocks → after.blocks ≡ bs
+pub widens_short : (serial total : ℕ) (v w : View ServerState Event) (k m : ServerState) (bs : List Block) (e : Short) (taken : ServerState) (before after : Ranged) → TookOnce taken v w → GrowsShort v.number serial taken before k after e → before.blocks ≡ v.blocks → after.blocks ≡ bs
     → HoldFewer v.blocks total → IsSomewhereSound k → listed_for v.number (tasks_of k) ≡ own v.number (task.Fill serial) bs → StartsWith bs v.blocks → WasShort serial k e × HoldFewer bs total
     → EndsShort serial k.journal.events m.journal.events e → w.seen ≡ m.journal.events → HasEnded serial w → Widens serial total v w (step_of e)
 widens_short serial total v w k m bs (short.Overtaken by) taken before after once grown begun ended_with fewer sound listed longer was ends seen ended = (fewer, ended, subst (λ j. IsOvertaken j serial by) (sym (seen ∙ ends)) was.0.1)

@@ -7,8 +7,8 @@ use Rattle.qc_model.specs.declared.events.GoneWhy.TheVariants as gone
 use Rattle.qc_model.specs.Agrees.{ends_fill, is_ended}
 use Rattle.qc_model.specs.Journal.{Journal}
 use Rattle.qc_turn.specs.declared.view.View.{View}
-use Rattle.qc_core.specs.Overtaken.{IsOvertaken}
-use Rattle.qc_core.specs.declared.parts.Parts.{Parts}
+use Rattle.qc_core.specs.OvertakenFill.{IsOvertaken}
+use Rattle.qc_core.specs.declared.server_state.ServerState.{ServerState}
 use Rattle.qc_flow.specs.Fills.{IsLargeIn, Abandons}
 use Rattle.qc_flow.specs.Seats.{IsAtRest, HasEnded, EndsIn}
 use Rattle.qc_flow.proofs.Removals.{last_ends}
@@ -21,7 +21,7 @@ pub large_told : (seen : Journal) (n total limit : ℕ) (r : Result ℕ ℕ) →
 large_told seen n total limit (Ok place) ok err = (in_last n (event.Gone n (gone.TooLarge total limit)) seen (eq-eqb n n refl) ok, inl ok)
 large_told seen n total limit (Err by) ok err = (err.1, inr (by, err.0))
 
-pub abandon_told : (v : View Parts Event) (n : ℕ) (r : Result ℕ ℕ) → IfOk r (λ place. EndsIn (event.Gone n gone.Ended) v.seen) → IfErr r (λ by. IsOvertaken v.seen n by × (is_ended n [] v.seen ≡ true)) → Abandons n v
+pub abandon_told : (v : View ServerState Event) (n : ℕ) (r : Result ℕ ℕ) → IfOk r (λ place. EndsIn (event.Gone n gone.Ended) v.seen) → IfErr r (λ by. IsOvertaken v.seen n by × (is_ended n [] v.seen ≡ true)) → Abandons n v
 abandon_told v n (Ok place) ok err = inl ok
 abandon_told v n (Err by) ok err = inr (by, err.0)
 
@@ -43,5 +43,5 @@ pub is_there : {A : Type 0} (o : Option A) (P : A → Type 0) → IsSomeAnd o P 
 is_there None P h = absurd h
 is_there (Some x) P h = refl
 
-pub has_ended : (n : ℕ) (w : View Parts Event) → IsAtRest w → is_ended n [] w.seen ≡ true → HasEnded n w
+pub has_ended : (n : ℕ) (w : View ServerState Event) → IsAtRest w → is_ended n [] w.seen ≡ true → HasEnded n w
 has_ended n w rests ended = record { rests = rests; ended = ended }

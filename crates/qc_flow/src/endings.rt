@@ -9,8 +9,8 @@ ghost use Rattle.qc_turn.specs.declared.task.Task.TheVariants as task;
 ghost use Rattle.qc_turn.specs.Seats.{view, IsSeatOf};
 ghost use Rattle.qc_chain.specs.Words.{words_of};
 ghost use Rattle.qc_core.specs.Calls.{IsInWant};
-ghost use Rattle.qc_core.specs.Overtaken.{IsOvertaken};
-ghost use Rattle.qc_core.specs.declared.parts.Parts.{Parts};
+ghost use Rattle.qc_core.specs.OvertakenFill.{IsOvertaken};
+ghost use Rattle.qc_core.specs.declared.server_state.ServerState.{ServerState};
 ghost use Rattle.qc_flow.specs.Seats.{GoesOn, IsAtRest, HasEnded, EndsIn, EndsAlone};
 ghost use Rattle.qc_flow.specs.Fills.{IsWholeAnswer, Ends, Abandons, IsLargeIn, limit_of};
 ghost use Rattle.qc_flow.specs.Endings.{IsGrantedFor, IsTooLong};
@@ -77,7 +77,7 @@ fn give_up<R: Wait>(
 ) -> Result<u64, u64>
     requires seated { IsSeatOf turn.now seat.old × ((view seat.old).task ≡ task.Fill serial) }
     requires granted { IsGrantedFor serial why (view seat.old) }
-    requires other { (seat : ℕ) (s : Parts) → IsInWant seat serial why s }
+    requires other { (seat : ℕ) (s : ServerState) → IsInWant seat serial why s }
     ensures seated { IsSeatOf turn.now seat.new × (seat.new.ranges ≡ seat.old.ranges) }
     ensures goes_on { GoesOn (view seat.old) (view seat.new) }
     ensures rests { IsAtRest (view seat.new) }

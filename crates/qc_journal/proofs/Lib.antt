@@ -1,3 +1,4 @@
 pub mod Maps
 pub mod Finding
 pub mod Numbers
+pub mod Sessions

@@ -1,6 +1,6 @@
 -- The counts of a journal's events.
-use Rattle.std.specs.Prelude.{◌≡◌, ◌<◌, ◌^◌, ◌||◌, count_by}
-use Rattle.qc_model.specs.Journal.{Journal}
+use Rattle.std.specs.Prelude.{◌≡◌, ℕ, ◌+◌, ◌<◌, ◌^◌, ◌||◌, List, length, Option, Some, None, slice_index, slice_set, count_by}
+use Rattle.qc_model.specs.Journal.{Journal, event_count}
 use Rattle.qc_model.specs.Cache.{is_hit, is_not_cached, is_plain, is_prune, is_run, is_start}
 use Rattle.qc_journal.specs.declared.counts.Counts.{Counts}
 
@@ -19,3 +19,13 @@ pub record AreCounts (counts : Counts) (journal : Journal) : Type 0 where
   pub inserts : counts.inserts ≡ count_by (is_run is_start) journal
   pub not_cached : counts.not_cached ≡ count_by (is_run is_not_cached) journal
   pub lowmem_prunes : counts.lowmem_prunes ≡ count_by is_prune journal
+
+-- each session has as many deciding events as are counted
+pub record AreCounted (sessions : List ℕ) (journal : Journal) : Type 0 where
+  pub long : length sessions ≡ 256
+  pub each : (session : ℕ) → session < 256 → slice_index sessions session ≡ event_count journal session
+
+-- one more of a session
+abbrev pub raised : Option ℕ → List ℕ → List ℕ
+raised None counts = counts
+raised (Some n) counts = slice_set counts n (slice_index counts n + 1)

@@ -1,8 +1,9 @@
-//! How many events of each counted kind there are.
+//! How many events of each counted kind there are, and how many of each session.
 
-ghost use Rattle.std.specs.Prelude.{◌≡◌, ◌+◌, ◌||◌, if◌then◌else◌};
+ghost use Rattle.std.specs.Prelude.{◌≡◌, ◌+◌, ◌<◌, ◌^◌, ◌||◌, if◌then◌else◌, length, option_map, slice_index, IfSome};
+ghost use Rattle.qc_model.specs.Journal.{decider};
 ghost use Rattle.qc_model.specs.Cache.{is_hit, is_not_cached, is_plain, is_prune, is_run, is_start};
-ghost use Rattle.qc_journal.specs.Counting.{IsSmall};
+ghost use Rattle.qc_journal.specs.Counting.{IsSmall, raised};
 
 use qc_model::events::{Event, How, Reason};
 
@@ -71,5 +72,31 @@ impl Counts {
             }
             _ => {}
         }
+    }
+}
+
+/// How many numbers of sessions there are.
+pub(crate) const SESSIONS: usize = 256;
+
+/// One more event of a session, where there is one.
+pub(crate) fn raise_session(counts: &mut [u64; SESSIONS], session: Option<u8>)
+    requires small { IfSome session (λ n. slice_index counts.old n + 1 < 2 ^ 64) }
+    ensures { counts.new ≡ raised session counts.old }
+{
+    if let Some(session) = session {
+        counts[session as usize] += 1;
+    }
+}
+
+/// The session of a deciding event.
+pub(crate) fn session_of(event: &Event) -> Option<u8>
+    ensures { result ≡ option_map (λ who. who.session) (decider event.now) }
+{
+    match event {
+        Event::Run { who, .. }
+        | Event::Commit { who, .. }
+        | Event::Reset { who }
+        | Event::Flush { who } => Some(who.session),
+        Event::Done { .. } | Event::Gone { .. } | Event::Prune { .. } => None,
     }
 }

@@ -2,10 +2,11 @@
 
 ghost use Rattle.std.specs.Prelude.{◌≡◌, ◌+◌, ◌^◌, ◌<◌, ◌≤◌, ◌++◌, ◌∷◌, [], length, IfOk, OnOk, Some};
 ghost use Rattle.qc_model.specs.Cache as meant;
-ghost use Rattle.qc_model.specs.Journal.{event_at, last_change};
+ghost use Rattle.qc_journal.specs.Room.{recorded};
+ghost use Rattle.qc_model.specs.Journal.{event_at, event_count, last_change};
 
 use crate::changes::Changes;
-use crate::counts::Counts;
+use crate::counts::{Counts, SESSIONS, raise_session, session_of};
 use crate::replicas::replicas;
 use qc_model::events::{Counters, Event, Events};
 use qc_types::{NoMemory, TableName};
@@ -13,12 +14,15 @@ use std::alloc::Global;
 use std::marker::Model;
 
 /// The one list of events of the server, numbered from 1, to which events are added and from which none is taken. Contracts see the events,
-/// and how many more there is room for. It keeps the five counts of SHOW STATUS that are of events, and an index of the tables that commits touched.
+/// and how many more there is room for. It keeps the five counts of SHOW STATUS that are of events, how many deciding
+/// events each session has, and an index of the tables that commits touched.
 #[derive(Drop)]
 pub struct Journal {
     alloc: Global,
     events: Vec<Event>,
     counts: Counts,
+    /// How many deciding events each session has, by its number.
+    sessions: [u64; SESSIONS],
     changes: Changes,
 }
 
@@ -32,7 +36,7 @@ impl Model for Journal {
 
     ghost view = { λ j. record { events = j.events.items; spare = vec_capacity j.events - vec_len j.events } };
 
-    ghost invariant = { λ j. IsKept j.counts j.changes j.events.items };
+    ghost invariant = { λ j. IsKept j.counts j.sessions j.changes j.events.items };
 }
 
 impl Journal {
@@ -44,6 +48,7 @@ impl Journal {
             alloc,
             events: Vec::new(alloc),
             counts: Counts::NONE,
+            sessions: [0; SESSIONS],
             changes: Changes::new(alloc),
         }
     }
@@ -74,9 +79,11 @@ impl Journal {
         ensures number { result ≡ length self.new.events }
         ensures added { self.new.events ≡ self.old.events ++ event ∷ [] }
         ensures room { self.old.spare ≡ self.new.spare + 1 }
+        ensures pushed { self.new ≡ recorded event self.old }
     {
         let number = self.events.len() as u64 + 1;
         self.counts.raise(&event);
+        raise_session(&mut self.sessions, session_of(&event));
         self.events.push_reserved(event);
         number
     }
@@ -102,6 +109,15 @@ impl Journal {
         ensures within { length self.now.events < 2 ^ 63 }
     {
         self.events.len() as u64
+    }
+
+    /// How many deciding events a session has. Constant time.
+    pub fn count(&self, session: u8) -> u64
+        ensures count { result ≡ event_count self.now.events session }
+        ensures within { result < 2 ^ 63 }
+    {
+        let _ = self.events.len();
+        self.sessions[session as usize]
     }
 
     /// The event with this number, which is at least 1 and no more than there are. Constant time.

@@ -28,14 +28,14 @@ use Rattle.qc_turn.specs.Tasks.{listed_for, own}
 use Rattle.qc_turn.specs.Seats.{Held, SameHolder, holder, taken, with_ranges, words}
 use Rattle.qc_turn.specs.Views.{with_found, with_holding}
 use Rattle.qc_turn.proofs.Holders.{taken_is}
-use Rattle.qc_core.specs.declared.hits.Hit.{Hit}
-use Rattle.qc_core.specs.declared.parts.Parts.{Parts}
+use Rattle.qc_core.specs.declared.hit_stream.Hit.{Hit}
+use Rattle.qc_core.specs.declared.server_state.ServerState.{ServerState}
 use Rattle.qc_core.specs.Whole.{tasks_of, with_event}
 use Rattle.qc_core.specs.Calls.{HasMoreRoom}
-use Rattle.qc_core.specs.Hits.{IsChainOf, hit_server}
-use Rattle.qc_core.specs.Plains.{MayRunPlain}
-use Rattle.qc_core.specs.Strikes.{rested}
-use Rattle.qc_core.specs.Sweeps.{Finds}
+use Rattle.qc_core.specs.HitStream.{IsChainOf, hit_server}
+use Rattle.qc_core.specs.PlainRun.{MayRunPlain}
+use Rattle.qc_core.specs.TaskEnd.{rested}
+use Rattle.qc_core.specs.EndedStreams.{Finds}
 use Rattle.qc_select.specs.declared.selected.Selected.{Selected}
 use Rattle.qc_select.specs.declared.selected.Selected.TheVariants as selected
 use Rattle.qc_select.specs.Selects.{Begins, Decided, Does, HasPlan, IsChosen, IsStartWith, answering_asked, given, outside_by, planned, reason_by, selected_tasks}
@@ -52,7 +52,7 @@ planned_ok : (r : Result Rows SqlError) (p : PlanView) → ◌≡◌ {A = Result
 planned_ok (Ok x) p h = (x, refl)
 planned_ok (Err x) p h = absurd cc
 
-module _ (seat : ℕ) (who : Who) (key : List ℕ) (select : Select) (asked : Asked) (s : State) (old : Parts) where
+module _ (seat : ℕ) (who : Who) (key : List ℕ) (select : Select) (asked : Asked) (s : State) (old : ServerState) where
   -- no entry answers
   abbrev pub IsUnanswered : Type 0
   IsUnanswered = answering_asked old.options asked s old.journal.events key ≡ None
@@ -68,7 +68,7 @@ module _ (seat : ℕ) (who : Who) (key : List ℕ) (select : Select) (asked : As
     more_free = more_at_rest seat old free
 
     -- it is refused
-    pub decided_refused : (new : Parts) (before after : Ranged) (e : SqlError) → IsUnanswered → ◌≡◌ {A = Result PlanView SqlError} (Err e) (planned (given s old.journal.events select))
+    pub decided_refused : (new : ServerState) (before after : Ranged) (e : SqlError) → IsUnanswered → ◌≡◌ {A = Result PlanView SqlError} (Err e) (planned (given s old.journal.events select))
         → new ≡ with_event (event.Run who (how.Plain (reason.Error e.code))) old → after ≡ before → listed_for seat (tasks_of new) ≡ [] → Decided seat who key select asked s old new before after [] (selected.Plain (reason.Error e.code) (length new.journal.events) (Err e))
     decided_refused new before after e none is pushed ranges listed =
         let r = planned_err (given s old.journal.events select) e is in
@@ -82,7 +82,7 @@ module _ (seat : ℕ) (who : Who) (key : List ℕ) (select : Select) (asked : As
         }
 
     -- it runs plain
-    pub decided_outside : (new : Parts) (before after : Ranged) (why : Reason) (plan : PlanView) → IsUnanswered → ◌≡◌ {A = Result PlanView SqlError} (Ok plan) (planned (given s old.journal.events select))
+    pub decided_outside : (new : ServerState) (before after : Ranged) (why : Reason) (plan : PlanView) → IsUnanswered → ◌≡◌ {A = Result PlanView SqlError} (Ok plan) (planned (given s old.journal.events select))
         → outside_by old.options s asked select old.journal.events (select_tables s.db select) key ≡ Some why → MayRunPlain old who why → new ≡ with_event (event.Run who (how.Plain why)) old → after ≡ before
         → listed_for seat (tasks_of new) ≡ [] → Decided seat who key select asked s old new before after [] (selected.Plain why (length new.journal.events) (Ok plan))
     decided_outside new before after why plan none is out may pushed ranges listed = by why (outside_first plan is ∙ out) may pushed
@@ -99,7 +99,7 @@ module _ (seat : ℕ) (who : Who) (key : List ℕ) (select : Select) (asked : As
         by (reason.Rival n) first may pushed = record { chosen = (none, first); plan = is; room = old; more = more_free; does = (refl, pushed, refl, ranges); listed = listed }
 
     -- a start is tried
-    pub decided_begins : (new : Parts) (before after : Ranged) (found : List FoundWord) (plan : PlanView) (x : Selected) → IsUnanswered → ◌≡◌ {A = Result PlanView SqlError} (Ok plan) (planned (given s old.journal.events select))
+    pub decided_begins : (new : ServerState) (before after : Ranged) (found : List FoundWord) (plan : PlanView) (x : Selected) → IsUnanswered → ◌≡◌ {A = Result PlanView SqlError} (Ok plan) (planned (given s old.journal.events select))
         → outside_by old.options s asked select old.journal.events (select_tables s.db select) key ≡ None → Begins seat who key (select_tables s.db select) plan old new before after found x → Decided seat who key select asked s old new before after found x
     decided_begins new before after found plan x none is out b = by x b.starts b.does b.listed
       where
@@ -116,7 +116,7 @@ module _ (seat : ℕ) (who : Who) (key : List ℕ) (select : Select) (asked : As
         by (selected.Plain (reason.Rival n) place own) starts does listed = absurd starts
 
     -- an entry answers
-    pub decided_hit : (new : Parts) (before after : Ranged) (hit : Hit) → Some hit.serial ≡ option_map (λ entry. entry.serial) (answering_asked old.options asked s old.journal.events key) → new ≡ hit_server who hit.serial seat old
+    pub decided_hit : (new : ServerState) (before after : Ranged) (hit : Hit) → Some hit.serial ≡ option_map (λ entry. entry.serial) (answering_asked old.options asked s old.journal.events key) → new ≡ hit_server who hit.serial seat old
         → hit.place ≡ length new.journal.events → hit.bytes ≡ after.bytes → IsChainOf hit.serial new after → hit.bytes ≤ 8 * words_of after.blocks → after.room ≡ before.room
         → listed_for seat (tasks_of new) ≡ own seat (task.Stream hit.serial) after.blocks → Decided seat who key select asked s old new before after [] (selected.Hit hit)
     decided_hit new before after hit found server place bytes chain within kept listed = record {
@@ -129,7 +129,7 @@ module _ (seat : ℕ) (who : Who) (key : List ℕ) (select : Select) (asked : As
     }
 
   -- the own stream was struck off and the room was made before
-  pub decided_more : (mid new : Parts) (before after : Ranged) (found : List FoundWord) (x : Selected) → HasMoreRoom (rested seat old) mid → listed_for seat (tasks_of mid) ≡ [] → Decided seat who key select asked s mid new before after found x → Decided seat who key select asked s old new before after found x
+  pub decided_more : (mid new : ServerState) (before after : Ranged) (found : List FoundWord) (x : Selected) → HasMoreRoom (rested seat old) mid → listed_for seat (tasks_of mid) ≡ [] → Decided seat who key select asked s mid new before after found x → Decided seat who key select asked s old new before after found x
   decided_more mid new before after found x more free d =
       let k = keeps_both old (rested seat old) mid (rested_keeps seat old) (more_keeps (rested seat old) mid more) in
       record {
@@ -143,9 +143,9 @@ module _ (seat : ℕ) (who : Who) (key : List ℕ) (select : Select) (asked : As
 
 -- ---- the holding
 
-module _ {K : Ghosts Parts Event} where
+module _ {K : Ghosts ServerState Event} where
   -- words that were read behind a change of the value alone
-  pub finds_behind : (h k m : Held Parts Event K) (found : List FoundWord) → SameHolder h k → Finds k (with_ranges m k.ranges) found → Finds h (with_ranges m h.ranges) found
+  pub finds_behind : (h k m : Held ServerState Event K) (found : List FoundWord) → SameHolder h k → Finds k (with_ranges m k.ranges) found → Finds h (with_ranges m h.ranges) found
   finds_behind h k m found s t = record {
     seat = t.seat ∙ s.seat;
     turn = t.turn ∙ s.turn;

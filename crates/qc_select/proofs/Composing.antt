@@ -31,16 +31,16 @@ use Rattle.qc_turn.specs.declared.task.Task.TheVariants as task
 use Rattle.qc_turn.specs.Tasks.{listed_for, own}
 use Rattle.qc_turn.specs.Seats.{Held, MayRelease, SameHolder, holder, with_ranges, words}
 use Rattle.qc_turn.proofs.Holders.{number_is, same_on}
-use Rattle.qc_core.specs.declared.hits.Hit.{Hit}
-use Rattle.qc_core.specs.declared.parts.Parts.{Parts}
+use Rattle.qc_core.specs.declared.hit_stream.Hit.{Hit}
+use Rattle.qc_core.specs.declared.server_state.ServerState.{ServerState}
 use Rattle.qc_core.specs.contracts.server.ServerKept.TheImpl.{ghosts}
 use Rattle.qc_core.specs.Whole.{tasks_of, with_event}
 use Rattle.qc_core.specs.Calls.{HasMoreRoom, IsNext}
-use Rattle.qc_core.specs.Connects.{is_connected}
-use Rattle.qc_core.specs.Hits.{IsChainOf, hit_server}
-use Rattle.qc_core.specs.Plains.{MayRunPlain}
-use Rattle.qc_core.specs.Strikes.{rested}
-use Rattle.qc_core.specs.Sweeps.{Finds}
+use Rattle.qc_core.specs.Connection.{is_connected}
+use Rattle.qc_core.specs.HitStream.{IsChainOf, hit_server}
+use Rattle.qc_core.specs.PlainRun.{MayRunPlain}
+use Rattle.qc_core.specs.TaskEnd.{rested}
+use Rattle.qc_core.specs.EndedStreams.{Finds}
 use Rattle.qc_select.specs.declared.selected.Selected.{Selected}
 use Rattle.qc_select.specs.declared.selected.Selected.TheVariants as selected
 use Rattle.qc_select.specs.Selects.{Begins, Decided, Decides, IsOfText, MayAsk, answering_asked, given, outside_by, planned, rule_by}
@@ -52,7 +52,7 @@ use Rattle.qc_select.proofs.Seeing.{seen_is}
 use Rattle.qc_select.proofs.Sweeping.{Keeps, finds_none, keeps_both, more_keeps, rested_keeps}
 
 abbrev pub H : Type 0
-H = Held Parts Event ghosts
+H = Held ServerState Event ghosts
 
 -- ---- the plan
 
@@ -69,10 +69,10 @@ early (Some x) b r why h = sym h
 early None (Some y) r why h = sym h
 early None None r why h = absurd (none-some why h)
 
-pub outside_early : (old v : Parts) (s : State) (asked : Asked) (select : Select) (ts : List TableName) (key : List ℕ) (o : Option Reason) (why : Reason) → v ≡ old
+pub outside_early : (old v : ServerState) (s : State) (asked : Asked) (select : Select) (ts : List TableName) (key : List ℕ) (o : Option Reason) (why : Reason) → v ≡ old
     → o ≡ (rule_by v.options s asked select or_else unseen_reason s v.journal.events ts) → o ≡ Some why → Some why ≡ outside_by old.options s asked select old.journal.events ts key
 outside_early old v s asked select ts key o why same is some =
-    subst (λ (p : Parts). Some why ≡ outside_by p.options s asked select p.journal.events ts key) same
+    subst (λ (p : ServerState). Some why ≡ outside_by p.options s asked select p.journal.events ts key) same
     (early (rule_by v.options s asked select) (unseen_reason s v.journal.events ts) (option_map (λ (e : Entry). reason.Rival e.serial) (rival v.journal.events key)) why (sym is ∙ some))
 
 -- the reason that was found, for the tables of the select and the bytes of the key
@@ -83,7 +83,7 @@ outside_of h s asked select ts key k o why named same is found = sym (is ∙ λ 
 -- ---- a holding behind another
 
 -- the same holding, with more room than this server
-pub record IsBehind (start : Parts) (h k : H) : Type 0 where
+pub record IsBehind (start : ServerState) (h k : H) : Type 0 where
   pub same : SameHolder h k
   pub more : HasMoreRoom start k.value
   pub ranges : k.ranges ≡ h.ranges
@@ -95,7 +95,7 @@ IsReserved h k = IsBehind (rested (holder h).number h.value) h k
 pub behind_reserve : (h k : H) → SameHolder h k → HasMoreRoom (rested (holder h).number h.value) k.value → k.ranges ≡ h.ranges → IsReserved h k
 behind_reserve h k same more ranges = record { same = same; more = more; ranges = ranges }
 
-more_same : (a b : Parts) → b ≡ a → HasMoreRoom a b
+more_same : (a b : ServerState) → b ≡ a → HasMoreRoom a b
 more_same a b e = subst (HasMoreRoom a) (sym e) (more_refl a)
 
 pub behind_same : (h k : H) → SameHolder h k → k.value ≡ h.value → k.ranges ≡ h.ranges → IsBehind h.value h k
@@ -105,7 +105,7 @@ pub behind_look : {A : Type 0} (o : Option A) (h k : H) → o ≡ None → SameH
 behind_look None h k is same none = behind_same h k same none.0 none.1
 behind_look (Some x) h k is same none = absurd (none-some x (sym is))
 
-pub behind_both : (start : Parts) (h k l : H) → IsBehind start h k → IsBehind k.value k l → IsBehind start h l
+pub behind_both : (start : ServerState) (h k l : H) → IsBehind start h k → IsBehind k.value k l → IsBehind start h l
 behind_both start h k l a b = record { same = same_on h k l a.same b.same; more = more_trans start k.value l.value a.more b.more; ranges = b.ranges ∙ a.ranges }
 
 pub reserved_keeps : (h k : H) → IsReserved h k → Keeps h.value k.value
@@ -138,7 +138,7 @@ at_error (Err y) p = p
 pub next_behind : (h k : H) (who : Who) → IsBehind h.value h k → IsNext h who → IsNext k who
 next_behind h k who b next = next_more h k who b.same b.more next
 
-pub err_behind : {A E : Type 0} (r : Result A E) (start : Parts) (h k m : H) → IsBehind start h k → OnErr r (SameHolder k m × HasMoreRoom k.value m.value × (m.ranges ≡ k.ranges)) → OnErr r (SameHolder h m × HasMoreRoom start m.value × (m.ranges ≡ h.ranges))
+pub err_behind : {A E : Type 0} (r : Result A E) (start : ServerState) (h k m : H) → IsBehind start h k → OnErr r (SameHolder k m × HasMoreRoom k.value m.value × (m.ranges ≡ k.ranges)) → OnErr r (SameHolder h m × HasMoreRoom start m.value × (m.ranges ≡ h.ranges))
 err_behind (Ok x) start h k m b e = tt
 err_behind (Err y) start h k m b e = (same_on h k m b.same e.0, more_trans start k.value m.value b.more e.1, e.2 ∙ b.ranges)
 
@@ -154,8 +154,8 @@ go_on h who stands next = record {
 }
 
 -- an event alone lists nothing
-still_free : (h : H) (new : Parts) (e : Event) (who : Who) → IsNext h who → new ≡ with_event e h.value → listed_for (holder h).number (tasks_of new) ≡ []
-still_free h new e who next pushed = ap (λ (p : Parts). listed_for (holder h).number (tasks_of p)) pushed ∙ next.free
+still_free : (h : H) (new : ServerState) (e : Event) (who : Who) → IsNext h who → new ≡ with_event e h.value → listed_for (holder h).number (tasks_of new) ≡ []
+still_free h new e who next pushed = ap (λ (p : ServerState). listed_for (holder h).number (tasks_of p)) pushed ∙ next.free
 
 module _ (who : Who) (key : List ℕ) (select : Select) (asked : Asked) (s : State) where
   -- what was decided on the holding k, from h on
@@ -217,7 +217,7 @@ module _ (who : Who) (key : List ℕ) (select : Select) (asked : Asked) (s : Sta
     b.0,
     finds_behind h k m b.0 same b.1,
     decided_begins (holder h).number who key select asked s h.value next.free m.value h.ranges m.ranges b.0 plan x none is out
-        (subst (λ (p : ℕ × Parts × Ranged × List TableName). Begins p.0 who key p.3 plan p.1 m.value p.2 m.ranges b.0 x) (λ i. (number_is h k same i, value i, ranges i, named i)) b.2),
+        (subst (λ (p : ℕ × ServerState × Ranged × List TableName). Begins p.0 who key p.3 plan p.1 m.value p.2 m.ranges b.0 x) (λ i. (number_is h k same i, value i, ranges i, named i)) b.2),
   )
 
 pub err_plain : {A E : Type 0} (r : Result A E) (h k m : H) → SameHolder h k → k.value ≡ h.value → SameHolder k m → OnErr r (m.value ≡ k.value) → m.ranges ≡ h.ranges → OnErr r (SameHolder h m × HasMoreRoom h.value m.value × (m.ranges ≡ h.ranges))

@@ -31,11 +31,11 @@ use Rattle.qc_laws.proofs.history.Serials.{serials_apart}
 use Rattle.qc_trx.specs.SnapshotStates.{SnapshotState}
 use Rattle.qc_sound.specs.Moment.{at_rest}
 use Rattle.qc_sound.proofs.Needs.{needs_are}
-use Rattle.qc_core.specs.declared.parts.Parts.{Parts}
+use Rattle.qc_core.specs.declared.server_state.ServerState.{ServerState}
 use Rattle.qc_core.specs.Whole.{Sound, tasks_of, with_event}
 use Rattle.qc_core.specs.Calls.{HasMoreRoom}
-use Rattle.qc_core.specs.Hits.{hit_entry}
-use Rattle.qc_core.specs.Sweeps.{swept}
+use Rattle.qc_core.specs.HitStream.{hit_entry}
+use Rattle.qc_core.specs.EndedStreams.{swept}
 use Rattle.qc_core.proofs.Seeking.{own_serial, pair_of}
 use Rattle.qc_select.specs.declared.selected.Selected.{Selected}
 use Rattle.qc_select.specs.declared.selected.Selected.TheVariants as selected
@@ -61,7 +61,7 @@ place_next jn q new e p at is =
     let all : length new ≡ length (jn ++ (q ++ e ∷ [])) = ap (λ (l : Journal). length l) is in
     omega (arith, at, all, whole, behind, short)
 
-module _ (words : List ℕ) (old : Parts) (x : SnapshotState) (key : List ℕ) (select : Select) (asked : Asked) (text : List ℕ) (sound : Sound words old) (ask : MayAsk old.journal.events x) (t : IsOfText x.state key select asked text) where
+module _ (words : List ℕ) (old : ServerState) (x : SnapshotState) (key : List ℕ) (select : Select) (asked : Asked) (text : List ℕ) (sound : Sound words old) (ask : MayAsk old.journal.events x) (t : IsOfText x.state key select asked text) where
   abbrev jn : Journal
   jn = old.journal.events
 
@@ -96,7 +96,7 @@ module _ (words : List ℕ) (old : Parts) (x : SnapshotState) (key : List ℕ) (
   asked_found true o e h = h
   asked_found false o e h = absurd (none-some e h)
 
-  hit_events : (who : Who) (n seat : ℕ) (room : Parts) (o : Option Entry) (e : Entry) → o ≡ Some e → (hit_entry who n seat o room).journal.events ≡ room.journal.events ++ event.Run who (how.Hit n) ∷ []
+  hit_events : (who : Who) (n seat : ℕ) (room : ServerState) (o : Option Entry) (e : Entry) → o ≡ Some e → (hit_entry who n seat o room).journal.events ≡ room.journal.events ++ event.Run who (how.Hit n) ∷ []
   hit_events who n seat room None e h = absurd (none-some e h)
   hit_events who n seat room (Some y) e h = refl
 
@@ -109,14 +109,14 @@ module _ (words : List ℕ) (old : Parts) (x : SnapshotState) (key : List ℕ) (
 
   -- ---- by what was chosen
 
-  pub decides_hit : (seat : ℕ) (who : Who) (new : Parts) (before after : Ranged) (found : List FoundWord) (hit : _) → (d : Decided seat who key select asked s old new before after found (selected.Hit hit)) → HasMoreRoom old d.room → Decides who text key select s old new (selected.Hit hit)
+  pub decides_hit : (seat : ℕ) (who : Who) (new : ServerState) (before after : Ranged) (found : List FoundWord) (hit : _) → (d : Decided seat who key select asked s old new before after found (selected.Hit hit)) → HasMoreRoom old d.room → Decides who text key select s old new (selected.Hit hit)
   decides_hit seat who new before after found hit d more =
       let n = hit.serial in
       let a = answers n _ refl d.chosen in
       let e = hit_there n a in
-      let dir : entry_at n d.room.dir.entries ≡ Some e.0 = ap (λ (p : Parts). entry_at n p.dir.entries) more.same ∙ e.1 in
+      let dir : entry_at n d.room.dir.entries ≡ Some e.0 = ap (λ (p : ServerState). entry_at n p.dir.entries) more.same ∙ e.1 in
       let events : new.journal.events ≡ jn ++ event.Run who (how.Hit n) ∷ [] =
-      ap (λ (p : Parts). p.journal.events) d.does.1 ∙ hit_events who n seat d.room (entry_at n d.room.dir.entries) e.0 dir ∙ ap (λ j. j ++ event.Run who (how.Hit n) ∷ []) more.events in
+      ap (λ (p : ServerState). p.journal.events) d.does.1 ∙ hit_events who n seat d.room (entry_at n d.room.dir.entries) e.0 dir ∙ ap (λ j. j ++ event.Run who (how.Hit n) ∷ []) more.events in
       let p = place_next jn [] new.journal.events (event.Run who (how.Hit n)) hit.place d.does.2 events in
       record {
         prunes = [];
@@ -128,10 +128,10 @@ module _ (words : List ℕ) (old : Parts) (x : SnapshotState) (key : List ℕ) (
         plan = tt;
       }
 
-  pub decides_plain : (seat : ℕ) (who : Who) (new room : Parts) (why : Reason) (place : ℕ) (plan : _) → answering_asked old.options asked s jn key ≡ None → reason_by old.options s asked select jn key ≡ Some why → HasPlan (given s jn select) (selected.Plain why place plan)
+  pub decides_plain : (seat : ℕ) (who : Who) (new room : ServerState) (why : Reason) (place : ℕ) (plan : _) → answering_asked old.options asked s jn key ≡ None → reason_by old.options s asked select jn key ≡ Some why → HasPlan (given s jn select) (selected.Plain why place plan)
       → HasMoreRoom old room → new ≡ with_event (event.Run who (how.Plain why)) room → place ≡ length new.journal.events → HasOwnNeeds old.options (jn ++ []) key (event.Run who (how.Plain why)) → Decides who text key select s old new (selected.Plain why place plan)
   decides_plain seat who new room why place plan none is planned more pushed at needs =
-      let events : new.journal.events ≡ jn ++ event.Run who (how.Plain why) ∷ [] = ap (λ (p : Parts). p.journal.events) pushed ∙ ap (λ j. j ++ event.Run who (how.Plain why) ∷ []) more.events in
+      let events : new.journal.events ≡ jn ++ event.Run who (how.Plain why) ∷ [] = ap (λ (p : ServerState). p.journal.events) pushed ∙ ap (λ j. j ++ event.Run who (how.Plain why) ∷ []) more.events in
       let p = place_next jn [] new.journal.events (event.Run who (how.Plain why)) place at events in
       record {
         prunes = [];
@@ -144,7 +144,7 @@ module _ (words : List ℕ) (old : Parts) (x : SnapshotState) (key : List ℕ) (
       }
 
   -- behind some prunes
-  decides_else : (who : Who) (new : Parts) (y : Selected) → answering_asked old.options asked s jn key ≡ None → reason_by old.options s asked select jn key ≡ None → HasPlan (given s jn select) y
+  decides_else : (who : Who) (new : ServerState) (y : Selected) → answering_asked old.options asked s jn key ≡ None → reason_by old.options s asked select jn key ≡ None → HasPlan (given s jn select) y
       → (r : Runs key who old new (how_of key (select_tables s.db select) y)) → place_of y ≡ length new.journal.events → HasOwnNeeds old.options (jn ++ r.prunes) key (event.Run who (how_of key (select_tables s.db select) y))
       → (how_of key (select_tables s.db select) y ≡ how.Start (start_count jn + 1) (key_of_text s text) (select_tables s.db select)) ⊎ IsNoRoom (how_of key (select_tables s.db select) y) → Decides who text key select s old new y
   decides_else who new y none is planned r at needs h =
@@ -160,30 +160,30 @@ module _ (words : List ℕ) (old : Parts) (x : SnapshotState) (key : List ℕ) (
         plan = plan_there r.prunes (place_of y) y prunes p planned;
       }
 
-  swept_same : (found : List FoundWord) (room : Parts) → HasMoreRoom old room → Keeps old (swept found room)
+  swept_same : (found : List FoundWord) (room : ServerState) → HasMoreRoom old room → Keeps old (swept found room)
   swept_same found room more = keeps_both old room (swept found room) (more_keeps old room more) (swept_keeps found room)
 
-  runs_before : (who : Who) (room new : Parts) (h : How) → Keeps old room → Runs key who room new h → Runs key who old new h
+  runs_before : (who : Who) (room new : ServerState) (h : How) → Keeps old room → Runs key who room new h → Runs key who old new h
   runs_before who room new h same r = record {
     prunes = r.prunes;
     own = subst (λ (o : Options). list_all (is_own_prune o key) r.prunes ≡ true) same.options r.own;
     events = r.events ∙ ap (λ j. j ++ (r.prunes ++ event.Run who h ∷ [])) same.events;
   }
 
-  least : (room : Parts) → Keeps old room → 64 ≤ unit_words room.options
+  least : (room : ServerState) → Keeps old room → 64 ≤ unit_words room.options
   least room same = subst (λ (o : Options). 64 ≤ unit_words o) (sym same.options) sound.1.sound.rounded.least
 
   has_needs : HasNeeds old.options jn
   has_needs = needs_are old.options [] jn sound.1.sound.journal.needs
 
-  decides_start : (seat : ℕ) (who : Who) (new : Parts) (before after : Ranged) (found : List FoundWord) (serial place : ℕ) (plan : _) → (d : Decided seat who key select asked s old new before after found (selected.Start serial place plan)) → HasMoreRoom old d.room → Decides who text key select s old new (selected.Start serial place plan)
+  decides_start : (seat : ℕ) (who : Who) (new : ServerState) (before after : Ranged) (found : List FoundWord) (serial place : ℕ) (plan : _) → (d : Decided seat who key select asked s old new before after found (selected.Start serial place plan)) → HasMoreRoom old d.room → Decides who text key select s old new (selected.Start serial place plan)
   decides_start seat who new before after found serial place plan d more =
       let tables = select_tables s.db select in
       let runs = runs_before who (swept found d.room) new (how.Start serial key tables) (swept_same found d.room more) (started_runs seat who key tables (swept found d.room) new before after (record { serial = serial; place = place }) (least (swept found d.room) (swept_same found d.room more)) d.does.1) in
       let number : serial ≡ start_count jn + 1 = d.does.1.serial ∙ ap (λ j. start_count j + 1) (swept_same found d.room more).events in
       decides_else who new (selected.Start serial place plan) d.chosen.0 d.chosen.1 d.plan runs d.does.1.place tt (inl (λ i. how.Start (number i) (t.key_is i) tables))
 
-  decides_short : (seat : ℕ) (who : Who) (new : Parts) (before after : Ranged) (found : List FoundWord) (need largest place : ℕ) (plan : _) → (d : Decided seat who key select asked s old new before after found (selected.Plain (reason.NoRoom need largest) place plan)) → HasMoreRoom old d.room
+  decides_short : (seat : ℕ) (who : Who) (new : ServerState) (before after : Ranged) (found : List FoundWord) (need largest place : ℕ) (plan : _) → (d : Decided seat who key select asked s old new before after found (selected.Plain (reason.NoRoom need largest) place plan)) → HasMoreRoom old d.room
       → Decides who text key select s old new (selected.Plain (reason.NoRoom need largest) place plan)
   decides_short seat who new before after found need largest place plan d more =
       let tables = select_tables s.db select in
@@ -192,7 +192,7 @@ module _ (words : List ℕ) (old : Parts) (x : SnapshotState) (key : List ℕ) (
       let is : is_need old.options key need ≡ true = subst (λ (o : Options). is_need o key need ≡ true) (swept_same found d.room more).options short.need_is in
       decides_else who new (selected.Plain (reason.NoRoom need largest) place plan) d.chosen.0 d.chosen.1 d.plan runs d.does.1.place (own_needs old.options jn runs.prunes key who need largest has_needs runs.own is) (inr (need, largest, refl))
 
-  pub decides : (seat : ℕ) (who : Who) (new : Parts) (before after : Ranged) (found : List FoundWord) (y : Selected) → listed_for seat (tasks_of old) ≡ [] → Decided seat who key select asked s old new before after found y → Decides who text key select s old new y
+  pub decides : (seat : ℕ) (who : Who) (new : ServerState) (before after : Ranged) (found : List FoundWord) (y : Selected) → listed_for seat (tasks_of old) ≡ [] → Decided seat who key select asked s old new before after found y → Decides who text key select s old new y
   decides seat who new before after found (selected.Hit hit) free d = decides_hit seat who new before after found hit d (more_rested seat old d.room free d.more)
   decides seat who new before after found (selected.Start serial place plan) free d = decides_start seat who new before after found serial place plan d (more_rested seat old d.room free d.more)
   decides seat who new before after found (selected.Plain (reason.NoRoom need largest) place plan) free d = decides_short seat who new before after found need largest place plan d (more_rested seat old d.room free d.more)
@@ -205,7 +205,7 @@ module _ (words : List ℕ) (old : Parts) (x : SnapshotState) (key : List ℕ) (
   decides seat who new before after found (selected.Plain (reason.Rival serial) place plan) free d = decides_plain seat who new d.room (reason.Rival serial) place plan d.chosen.0 d.chosen.1 d.plan (more_rested seat old d.room free d.more) d.does.1 d.does.2 tt
 
 -- what was decided behind a change that keeps the events and the options
-pub decides_on : (old mid new : Parts) (who : Who) (text key : List ℕ) (select : Select) (s : State) (y : Selected) → Keeps old mid → Decides who text key select s mid new y → Decides who text key select s old new y
+pub decides_on : (old mid new : ServerState) (who : Who) (text key : List ℕ) (select : Select) (s : State) (y : Selected) → Keeps old mid → Decides who text key select s mid new y → Decides who text key select s old new y
 decides_on old mid new who text key select s y k d =
     let how = how_of key (select_tables s.db select) y in
     record {

@@ -21,10 +21,10 @@ use Rattle.qc_model.specs.Session.{State, key_of_text, snapshot_of}
 use Rattle.qc_laws.proofs.history.Few.{tables_are_apart, tables_are_few}
 use Rattle.qc_turn.specs.Tasks.{listed_for}
 use Rattle.qc_trx.specs.SnapshotStates.{SnapshotState}
-use Rattle.qc_core.specs.declared.parts.Parts.{Parts}
+use Rattle.qc_core.specs.declared.server_state.ServerState.{ServerState}
 use Rattle.qc_core.specs.Whole.{Sound, tasks_of}
-use Rattle.qc_core.specs.Plains.{MayRunPlain}
-use Rattle.qc_core.specs.Starts.{MayBegin}
+use Rattle.qc_core.specs.PlainRun.{MayRunPlain}
+use Rattle.qc_core.specs.EntryStart.{MayBegin}
 use Rattle.qc_select.specs.Selects.{IsOfText, MayAsk, answering_asked, outside_by, reason_by, rule_by}
 use Rattle.qc_select.proofs.Choosing.{asked_entry}
 use Rattle.qc_select.proofs.Lengths.{key_short}
@@ -50,7 +50,7 @@ above : (n p : ℕ) → nat_lt p n ≡ true → p < n
 above n p h = grind (arith, nat_tests)
 
 -- the seat's session may have its next event
-pub record MayGoOn (s : Parts) (who : Who) : Type 0 where
+pub record MayGoOn (s : ServerState) (who : Who) : Type 0 where
   pub words : List ℕ
   pub sound : Sound words s
   pub seat : ℕ
@@ -59,7 +59,7 @@ pub record MayGoOn (s : Parts) (who : Who) : Type 0 where
   pub number : who.number ≡ event_count s.journal.events who.session + 1
   pub free : listed_for seat (tasks_of s) ≡ []
 
-module _ (s : Parts) (who : Who) (go : MayGoOn s who) (x : State) where
+module _ (s : ServerState) (who : Who) (go : MayGoOn s who) (x : State) where
   rule_may : (asked : Asked) (select : Select) (why : Reason) → rule_by s.options x asked select ≡ Some why → MayRunPlain s who why
   rule_may asked select why h =
       first_of_two (MayRunPlain s who) (when (s.options.size == 0 || x.kind == 0) reason.Off) _ why
@@ -109,7 +109,7 @@ some_region options whole some = by (region_words options) refl
     by zero e = absurd (true≢false (sym (eq-eqb options.size 0 (let none : options.size ≡ 8 * 0 = whole ∙ ap (λ k. 8 * k) e in omega (arith, none))) ∙ some))
     by (suc n) e = omega arith
 
-pub may_begin : (words : List ℕ) (s : Parts) (x : SnapshotState) (key : List ℕ) (select : Select) (asked : Asked) (text : List ℕ) → Sound words s → MayAsk s.journal.events x → IsOfText x.state key select asked text → length text < 2 ^ 32
+pub may_begin : (words : List ℕ) (s : ServerState) (x : SnapshotState) (key : List ℕ) (select : Select) (asked : Asked) (text : List ℕ) → Sound words s → MayAsk s.journal.events x → IsOfText x.state key select asked text → length text < 2 ^ 32
     → answering_asked s.options asked x.state s.journal.events key ≡ None → reason_by s.options x.state asked select s.journal.events key ≡ None → MayBegin key (select_tables x.state.db select) s
 may_begin words s x key select asked text sound ask t short none why =
     let J = s.journal.events in

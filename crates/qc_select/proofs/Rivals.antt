@@ -17,7 +17,7 @@ use Rattle.qc_laws.proofs.history.Fillings.{fills_are_last}
 use Rattle.qc_laws.proofs.history.Serials.{neither, opposite, serials_apart}
 use Rattle.qc_turn.specs.Tasks.{listed_for}
 use Rattle.qc_sound.specs.Moment.{at_rest}
-use Rattle.qc_core.specs.declared.parts.Parts.{Parts}
+use Rattle.qc_core.specs.declared.server_state.ServerState.{ServerState}
 use Rattle.qc_core.specs.Whole.{Sound, tasks_of}
 use Rattle.qc_core.proofs.Noting.{alone}
 use Rattle.qc_core.proofs.Seeking.{own_serial}
@@ -31,7 +31,7 @@ both false true h k = refl
 both false false h k = absurd (true≢false (sym k))
 both true b h k = absurd (true≢false h)
 
-pub is_rival : (words : List ℕ) (s : Parts) (who : Who) (seat : ℕ) (key : List ℕ) (y : Cached) → Sound words s → 0 < seat → who.session ≡ seat - 1 → who.number ≡ event_count s.journal.events who.session + 1
+pub is_rival : (words : List ℕ) (s : ServerState) (who : Who) (seat : ℕ) (key : List ℕ) (y : Cached) → Sound words s → 0 < seat → who.session ≡ seat - 1 → who.number ≡ event_count s.journal.events who.session + 1
     → listed_for seat (tasks_of s) ≡ [] → rival s.journal.events key ≡ Some y → IsRivalOf s.journal.events who y.serial
 is_rival words s who seat key y sound ps is number free found =
     let w = sound.1 in

@@ -9,19 +9,19 @@ use Rattle.qc_turn.specs.declared.kept.Kept.{Ghosts}
 use Rattle.qc_turn.specs.Seats.{Held, SameHolder}
 use Rattle.qc_turn.specs.Tasks.{listed_for}
 use Rattle.qc_turn.proofs.Holders.{number_is}
-use Rattle.qc_core.specs.declared.parts.RunningTask.{RunningTask}
-use Rattle.qc_core.specs.declared.parts.Parts.{Parts}
+use Rattle.qc_core.specs.declared.server_state.RunningTask.{RunningTask}
+use Rattle.qc_core.specs.declared.server_state.ServerState.{ServerState}
 use Rattle.qc_core.specs.Whole.{listed_in, tasks_of}
 use Rattle.qc_core.specs.Calls.{HasMoreRoom, IsNext}
-use Rattle.qc_core.specs.Connects.{is_connected}
-use Rattle.qc_core.specs.Strikes.{is_of, rested, rested_by}
+use Rattle.qc_core.specs.Connection.{is_connected}
+use Rattle.qc_core.specs.TaskEnd.{is_of, rested, rested_by}
 
-pub more_refl : (s : Parts) → HasMoreRoom s s
+pub more_refl : (s : ServerState) → HasMoreRoom s s
 more_refl s = record { same = refl; events = refl; spare = omega arith }
 
-pub more_trans : (a b c : Parts) → HasMoreRoom a b → HasMoreRoom b c → HasMoreRoom a c
+pub more_trans : (a b c : ServerState) → HasMoreRoom a b → HasMoreRoom b c → HasMoreRoom a c
 more_trans a b c h k = record {
-  same = k.same ∙ ap (λ (s : Parts). record s { journal = c.journal }) h.same;
+  same = k.same ∙ ap (λ (s : ServerState). record s { journal = c.journal }) h.same;
   events = k.events ∙ h.events;
   spare = omega (arith, h.spare, k.spare);
 }
@@ -34,17 +34,17 @@ none_of cs n (w ∷ ws) h = elim (w.seat == n) as (λ b. cond b (listed_in cs w 
 ] h
 
 -- where nothing is listed for a seat, nothing is struck off
-pub rested_none : (seat : ℕ) (s : Parts) → listed_for seat (tasks_of s) ≡ [] → rested seat s ≡ s
+pub rested_none : (seat : ℕ) (s : ServerState) → listed_for seat (tasks_of s) ≡ [] → rested seat s ≡ s
 rested_none seat s h = ap (λ o. rested_by seat o s) (none_of s.chains seat s.tasks.items h)
 
-pub more_at_rest : (seat : ℕ) (s : Parts) → listed_for seat (tasks_of s) ≡ [] → HasMoreRoom (rested seat s) s
+pub more_at_rest : (seat : ℕ) (s : ServerState) → listed_for seat (tasks_of s) ≡ [] → HasMoreRoom (rested seat s) s
 more_at_rest seat s h = subst (λ t. HasMoreRoom t s) (sym (rested_none seat s h)) (more_refl s)
 
-pub more_rested : (seat : ℕ) (old new : Parts) → listed_for seat (tasks_of old) ≡ [] → HasMoreRoom (rested seat old) new → HasMoreRoom old new
+pub more_rested : (seat : ℕ) (old new : ServerState) → listed_for seat (tasks_of old) ≡ [] → HasMoreRoom (rested seat old) new → HasMoreRoom old new
 more_rested seat old new h m = subst (λ s. HasMoreRoom s new) (rested_none seat old h) m
 
-module _ {K : Ghosts Parts Event} where
-  pub next_more : (h k : Held Parts Event K) (who : Who) → SameHolder h k → HasMoreRoom h.value k.value → IsNext h who → IsNext k who
+module _ {K : Ghosts ServerState Event} where
+  pub next_more : (h k : Held ServerState Event K) (who : Who) → SameHolder h k → HasMoreRoom h.value k.value → IsNext h who → IsNext k who
   next_more h k who same more next = record {
     session = next.session ∙ ap (λ i. i - 1) (sym (number_is h k same));
     number = next.number ∙ ap (λ j. event_count j who.session + 1) (sym more.events);

@@ -33,14 +33,14 @@ use Rattle.qc_turn.specs.declared.task.ListedTask.{ListedTask}
 use Rattle.qc_turn.specs.declared.task.Task.TheVariants as task
 use Rattle.qc_turn.specs.declared.view.FoundWord.{FoundWord}
 use Rattle.qc_turn.specs.Tasks.{listed_for, own}
-use Rattle.qc_core.specs.declared.parts.Parts.{Parts}
-use Rattle.qc_core.specs.declared.starts.Begun.TheVariants as begun
+use Rattle.qc_core.specs.declared.server_state.ServerState.{ServerState}
+use Rattle.qc_core.specs.declared.entry_start.Begun.TheVariants as begun
 use Rattle.qc_core.specs.Whole.{tasks_of, with_event}
 use Rattle.qc_core.specs.Calls.{HasMoreRoom}
-use Rattle.qc_core.specs.Hits.{hit_server, IsChainOf}
-use Rattle.qc_core.specs.Starts.{IsBegun}
-use Rattle.qc_core.specs.Strikes.{rested}
-use Rattle.qc_core.specs.Sweeps.{ReadsStreams, swept}
+use Rattle.qc_core.specs.HitStream.{hit_server, IsChainOf}
+use Rattle.qc_core.specs.EntryStart.{IsBegun}
+use Rattle.qc_core.specs.TaskEnd.{rested}
+use Rattle.qc_core.specs.EndedStreams.{ReadsStreams, swept}
 use Rattle.qc_select.specs.declared.selected.Selected.{Selected}
 use Rattle.qc_select.specs.declared.selected.Selected.TheVariants as selected
 use Rattle.qc_select.specs.Settled.{state_at}
@@ -108,7 +108,7 @@ HasPlan r (selected.Plain why place plan) = plan ≡ planned r
 -- ---- what is done
 
 -- The event was pushed, with what belongs to it: a hit streams the entry; a start first strikes off the streams that others have ended, as their words were read, and then begins the entry, or falls short; any other plain run changes nothing.
-abbrev pub Does : ℕ → Who → List ℕ → List TableName → Parts → Parts → Ranged → Ranged → List FoundWord → Selected → Type 0
+abbrev pub Does : ℕ → Who → List ℕ → List TableName → ServerState → ServerState → Ranged → Ranged → List FoundWord → Selected → Type 0
 Does seat who key tables old new before after found (selected.Hit hit) =
     (found ≡ []) × (new ≡ hit_server who hit.serial seat old) × (hit.place ≡ length new.journal.events) × (hit.bytes ≡ after.bytes) × IsChainOf hit.serial new after × (hit.bytes ≤ 8 * words_of after.blocks) × (after.room ≡ before.room)
 Does seat who key tables old new before after found (selected.Start serial place plan) =
@@ -125,10 +125,10 @@ selected_tasks seat r (selected.Start serial place plan) = own seat (task.Fill s
 selected_tasks seat r (selected.Plain why place plan) = []
 
 -- The choice is right by the server as it was taken, the plan is made on the database that the session sees by it, and what is chosen was done, after the seat's own ended stream was struck off and the journal got its room.
-pub record Decided (seat : ℕ) (who : Who) (key : List ℕ) (select : Select) (asked : Asked) (state : State) (old new : Parts) (before after : Ranged) (found : List FoundWord) (x : Selected) : Type 0 where
+pub record Decided (seat : ℕ) (who : Who) (key : List ℕ) (select : Select) (asked : Asked) (state : State) (old new : ServerState) (before after : Ranged) (found : List FoundWord) (x : Selected) : Type 0 where
   pub chosen : IsChosen (answering_asked old.options asked state old.journal.events key) (reason_by old.options state asked select old.journal.events key) x
   pub plan : HasPlan (given state old.journal.events select) x
-  pub room : Parts
+  pub room : ServerState
   pub more : HasMoreRoom (rested seat old) room
   pub does : Does seat who key (select_tables state.db select) room new before after found x
   pub listed : listed_for seat (tasks_of new) ≡ selected_tasks seat after x
@@ -147,7 +147,7 @@ place_of (selected.Start serial place plan) = place
 place_of (selected.Plain why place plan) = place
 
 -- Some entries were pruned, then the one event of the select was pushed, which is allowed there, in the state in which it is validated, and has needs of its own. The plan is that of the database which the session sees there.
-pub record Decides (who : Who) (text key : List ℕ) (select : Select) (state : State) (old new : Parts) (x : Selected) : Type 0 where
+pub record Decides (who : Who) (text key : List ℕ) (select : Select) (state : State) (old new : ServerState) (x : Selected) : Type 0 where
   pub prunes : Journal
   pub only : list_all is_prune prunes ≡ true
   pub events : new.journal.events ≡ old.journal.events ++ (prunes ++ event.Run who (how_of key (select_tables state.db select) x) ∷ [])
@@ -165,9 +165,9 @@ IsStartWith plan (selected.Plain (reason.NoRoom need largest) place own) = own �
 IsStartWith plan x = ⊥
 
 -- it was done, after the journal got its room
-pub record Begins (seat : ℕ) (who : Who) (key : List ℕ) (tables : List TableName) (plan : PlanView) (old new : Parts) (before after : Ranged) (found : List FoundWord) (x : Selected) : Type 0 where
+pub record Begins (seat : ℕ) (who : Who) (key : List ℕ) (tables : List TableName) (plan : PlanView) (old new : ServerState) (before after : Ranged) (found : List FoundWord) (x : Selected) : Type 0 where
   pub starts : IsStartWith plan x
-  pub room : Parts
+  pub room : ServerState
   pub more : HasMoreRoom old room
   pub does : Does seat who key tables room new before after found x
   pub listed : listed_for seat (tasks_of new) ≡ selected_tasks seat after x

@@ -8,7 +8,7 @@ use Rattle.qc_tiles.specs.Tiles.{tile, free_tile, taken, after_take}
 use Rattle.qc_chain.specs.Chains.{Chain, Chained, empty_chain, whole_chain, with_chain, after_append, after_release}
 use Rattle.qc_dir.specs.declared.entries.Entry.{Entry}
 use Rattle.qc_dir.specs.declared.tables.TableBlock.{TableBlock}
-use Rattle.qc_core.specs.Leaves.{AreSorted, own_blocks}
+use Rattle.qc_core.specs.EntryRemoval.{AreSorted, own_blocks}
 
 abbrev block : ℕ → ℕ → Block
 block first words = record { first = first; words = words }

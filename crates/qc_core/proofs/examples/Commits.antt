@@ -6,7 +6,7 @@ use Rattle.qc_sql.specs.declared.tables.RowOp.{RowOp}
 use Rattle.qc_sql.specs.declared.tables.RowOp.TheVariants as op
 use Rattle.qc_sql.specs.Database.{Table, Database}
 use Rattle.qc_dir.specs.declared.entries.Entry.{Entry}
-use Rattle.qc_core.specs.Commits.{is_named_by, tables_dropped, uses_touched}
+use Rattle.qc_core.specs.Invalidation.{is_named_by, tables_dropped, uses_touched}
 
 abbrev named : List ℕ → List ℕ → TableName
 named db name = record { db = db; name = name }

@@ -5,8 +5,8 @@ use Rattle.qc_types.specs.declared.names.TableName.{TableName}
 use Rattle.qc_types.specs.declared.options.Options.{Options}
 use Rattle.qc_tiles.specs.declared.blocks.Tile.{Tile}
 use Rattle.qc_tiles.specs.Tiles.{tile, free_tile, fresh, taken, after_take, after_give_back, largest_free, movable, after_move_down, totals_of}
-use Rattle.qc_core.specs.Compacts.{OneFreeBetween}
-use Rattle.qc_core.specs.Starts.{needs_of}
+use Rattle.qc_core.specs.Compaction.{OneFreeBetween}
+use Rattle.qc_core.specs.EntryStart.{needs_of}
 
 abbrev t : TableName
 t = record { db = codes "d"; name = codes "t" }

@@ -1,5 +1,5 @@
 use Rattle.std.proofs.Common.{◌-◌, ◌^◌}
-use Rattle.qc_core.specs.Spelled.{IsSame}
+use Rattle.qc_core.specs.KeySpelling.{IsSame}
 use Rattle.qc_core.proofs.Seeking.{IsSought}
 use Rattle.qc_core.proofs.keys.find_entry.Given as goal
 

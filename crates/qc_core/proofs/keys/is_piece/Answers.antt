@@ -1,7 +1,7 @@
 use Rattle.std.proofs.Common.{◌≡◌, ℕ, true, List, sym, subst, arith}
 use Rattle.std.proofs.lemmas.List.{take_all}
 use Rattle.byteorder.specs.Endian.{little_from}
-use Rattle.qc_core.specs.Spelled.{spells}
+use Rattle.qc_core.specs.KeySpelling.{spells}
 use Rattle.qc_core.proofs.Storing.{read_spells, whole_word}
 use Rattle.qc_core.proofs.keys.is_piece.Goals as goal
 

@@ -3,7 +3,7 @@ use Rattle.std.specs.Prelude.{◌&&◌}
 use Rattle.qc_model.specs.Licence.{words_of_bytes}
 use Rattle.qc_turn.specs.Seats.{words}
 use Rattle.qc_chain.proofs.Calls.{words_are}
-use Rattle.qc_core.specs.Spelled.{is_text, read}
+use Rattle.qc_core.specs.KeySpelling.{is_text, read}
 use Rattle.qc_core.proofs.Spelling.{text_step, still_same, loaded, within_on}
 use Rattle.qc_core.proofs.keys.is_spelled.Goals as goal
 

@@ -3,9 +3,9 @@ use Rattle.std.specs.Prelude.{Some, None}
 use Rattle.qc_types.specs.declared.names.TableName.{TableName}
 use Rattle.qc_sql.specs.Rules.{select_tables}
 use Rattle.qc_turn.specs.Seats.{holder, words}
-use Rattle.qc_core.specs.declared.parts.Parts.{Parts}
-use Rattle.qc_core.specs.Plains.{MayRunPlain}
-use Rattle.qc_core.specs.Starts.{MayBegin}
+use Rattle.qc_core.specs.declared.server_state.ServerState.{ServerState}
+use Rattle.qc_core.specs.PlainRun.{MayRunPlain}
+use Rattle.qc_core.specs.EntryStart.{MayBegin}
 use Rattle.qc_select.proofs.Answering.{outside_first}
 use Rattle.qc_select.proofs.Composing.{begins_decided, behind_same, err_behind, err_plain, go_on, next_behind, outside_of, plain_decided}
 use Rattle.qc_select.proofs.Permitting.{may_begin, outside_may}
@@ -27,7 +27,7 @@ run_plain-requires-clause-may c =
     let tables = c.in_ok-tables.ensures ∙ ap (λ d. select_tables d select) c.db.ensures in
     let named = c.items.ensures ∙ tables in
     let out = outside_of h s c.args.asked select c.items.result.now c.args.key c.bytes.result.now c.in_ok-reason.reason (Some c.in-Some.reason) named c.bytes.ensures c.in_ok-reason.ensures.reason c.in-Some.is in
-    subst (λ (p : Parts). MayRunPlain p c.args.who c.in-Some.reason) (sym same.0) (outside_may h.value c.args.who (go_on h c.args.who c.requires.stands c.requires.next) s c.args.asked select (select_tables s.db select) c.args.key c.in-Some.reason out)
+    subst (λ (p : ServerState). MayRunPlain p c.args.who c.in-Some.reason) (sym same.0) (outside_may h.value c.args.who (go_on h c.args.who c.requires.stands c.requires.next) s c.args.asked select (select_tables s.db select) c.args.key c.in-Some.reason out)
 
 pub returns-in-Some-clause-decided : goal.returns-in-Some-clause-decided
 returns-in-Some-clause-decided c =
@@ -66,7 +66,7 @@ begin-requires-clause-may c =
     let out = outside_of h s c.args.asked select c.items.result.now c.args.key c.bytes.result.now c.in_ok-reason.reason None named c.bytes.ensures c.in_ok-reason.ensures.reason c.in-None.is in
     let first = outside_first (holder h).number c.args.who c.args.key select c.args.asked s h.value c.args.plan c.requires.plan in
     let own = may_begin (words h) h.value c.args.state.now c.args.key select c.args.asked c.requires.text.0 c.requires.stands.sound c.requires.state c.requires.text.1 c.requires.text.2 c.requires.none (first ∙ out) in
-    subst (λ (ts : List TableName). MayBegin c.args.key ts c.outside_reason.new.held.value) (sym tables) (subst (λ (p : Parts). MayBegin c.args.key (select_tables s.db select) p) (sym same.0) own)
+    subst (λ (ts : List TableName). MayBegin c.args.key ts c.outside_reason.new.held.value) (sym tables) (subst (λ (p : ServerState). MayBegin c.args.key (select_tables s.db select) p) (sym same.0) own)
 
 pub returns-in-None-clause-decided : goal.returns-in-None-clause-decided
 returns-in-None-clause-decided c =

@@ -6,7 +6,7 @@ use Rattle.qc_turn.specs.Tasks.{listed_for}
 use Rattle.qc_turn.proofs.Holders.{number_is}
 use Rattle.qc_core.specs.Whole.{tasks_of}
 use Rattle.qc_core.specs.Calls.{HasMoreRoom}
-use Rattle.qc_core.specs.Strikes.{rested}
+use Rattle.qc_core.specs.TaskEnd.{rested}
 use Rattle.qc_select.specs.declared.selected.Selected.TheVariants as selected
 use Rattle.qc_select.specs.Selects.{answering_asked}
 use Rattle.qc_select.proofs.Composing.{H, ask_reserved, at_error, behind_both, behind_look, behind_reserve, err_behind, hit_decided, next_behind, next_reserved, ok_behind, ok_decides, one_behind, one_decides, ranges_reserved}

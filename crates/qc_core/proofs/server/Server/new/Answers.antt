@@ -12,7 +12,7 @@ returns-clause-fresh c =
     IfOk-weaker _ _ _ (λ s is. subst (IsFresh ghosts _) (sym is) (fresh_of _ (record {
       size = c.requires.size.0;
       unit = (c.requires.unit.0, c.requires.unit.1);
-      events = c.in_ok-journal.ensures;
+      events = c.new-journal.ensures;
       database = c.in_ok-database.ensures;
       entries = ap (λ (d : Directory). d.entries) memory.dir;
       tables = ap (λ (d : Directory). d.tables) memory.dir;

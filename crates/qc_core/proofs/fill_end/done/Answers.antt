@@ -1,0 +1,21 @@
+use Rattle.std.proofs.Common.{sym, ap, ◌∙◌}
+use Rattle.std.specs.Prelude.{is_some}
+use Rattle.qc_key.specs.Hash.{hash}
+use Rattle.qc_dir.specs.Directory.{entry_at}
+use Rattle.qc_turn.specs.Seats.{words}
+use Rattle.qc_sound.specs.Moment.{at_rest}
+use Rattle.qc_core.specs.declared.server_state.ServerState.{ServerState}
+use Rattle.qc_core.proofs.Filling.{there_same}
+use Rattle.qc_core.proofs.fill_end.done.Goals as goal
+
+pub returns-then-has_entry-clause-there : goal.returns-then-has_entry-clause-there
+returns-then-has_entry-clause-there c =
+    let h = c.args.held.now in
+    let sound = c.requires.stands.sound in
+    sym c.if-has_entry.true ∙ (c.has_entry.ensures ∙ (ap (λ (s : ServerState). is_some (entry_at c.args.serial s.dir.entries)) c.value.ensures.value ∙ there_same (at_rest hash) sound.0 (words h) h.value c.args.serial sound.1))
+
+pub returns-clause-there : goal.returns-clause-there
+returns-clause-there c =
+    let h = c.args.held.now in
+    let sound = c.requires.stands.sound in
+    sym c.if-has_entry.false ∙ (c.has_entry.ensures ∙ (ap (λ (s : ServerState). is_some (entry_at c.args.serial s.dir.entries)) c.value.ensures.value ∙ there_same (at_rest hash) sound.0 (words h) h.value c.args.serial sound.1))

@@ -1,5 +1,0 @@
-use Rattle.qc_core.specs.Compacts.{HasCarried}
-use Rattle.qc_core.proofs.flushes.carry.Given as goal
-
-abbrev pub invariant-loop-index : goal.invariant-loop-index
-invariant-loop-index l = HasCarried l.fn.held l.held l.change l.index

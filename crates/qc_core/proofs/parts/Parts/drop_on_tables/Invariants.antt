@@ -1,7 +1,0 @@
-use Rattle.std.proofs.Common.{drop}
-use Rattle.qc_dir.specs.Directory.{names_table}
-use Rattle.qc_core.proofs.Dropping.{any_of, AreLeaving}
-use Rattle.qc_core.proofs.parts.Parts.drop_on_tables.Given as goal
-
-abbrev pub invariant-loop-table : goal.invariant-loop-table
-invariant-loop-table l = AreLeaving (any_of names_table (drop l.table-index l.tables)) (any_of names_table l.tables) l.fn.self l.self
