@@ -22,10 +22,10 @@ use Rattle.qc_model.specs.ReportText.{Text, lines}
 use Rattle.qc_model.specs.Sound.{IsRow}
 use Rattle.qc_model.specs.Workload.{Tally, draws_of_session, summary, tallies, total, value_sum}
 use Rattle.qc_table.specs.Views.{column_values, kind_at, value_at}
-use Rattle.qc_run.specs.Ran.{IsReportOf}
+use Rattle.qc_app.specs.ScriptRun.{IsReportOf}
 use Rattle.qc_script.specs.WorkloadScript.{workload_script}
-use Rattle.qc_workload.specs.Counts.{HasCounts, HasRows, is_commit}
-use Rattle.qc_workload.proofs.Whole.{workload_counts}
+use Rattle.qc_app.specs.workload.Counts.{HasCounts, HasRows, is_commit}
+use Rattle.qc_app.proofs.workload.Whole.{workload_counts}
 use Rattle.qc_app.specs.declared.summary.Counts.{Counts}
 use Rattle.qc_app.specs.declared.summary.TableCount.{TableCount}
 use Rattle.qc_app.specs.Summary.{count_in, count_of, count_line, counted_summary, selects_in, sum_in, summary_lines, table_line, total_of}

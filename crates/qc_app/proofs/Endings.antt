@@ -7,8 +7,8 @@ use Rattle.qc_types.specs.Streams.{Rose}
 use Rattle.qc_model.specs.declared.reports.Report.{Report}
 use Rattle.qc_model.specs.declared.reports.Script.{Script}
 use Rattle.qc_model.specs.declared.reports.ScriptRefusal.{ScriptRefusal}
-use Rattle.qc_run.specs.declared.script.Ran.{Ran}
-use Rattle.qc_run.specs.Ran.{IsReportOf}
+use Rattle.qc_app.specs.declared.script_run.Ran.{Ran}
+use Rattle.qc_app.specs.ScriptRun.{IsReportOf}
 use Rattle.qc_app.specs.declared.arguments.reading.Asked.{Asked}
 use Rattle.qc_app.specs.declared.arguments.reading.Asked.TheVariants as ask
 use Rattle.qc_app.specs.declared.top.Ended.{Ended}

@@ -7,3 +7,16 @@ pub mod Options
 pub mod Rounding
 pub mod Taken
 pub mod Counts
+pub mod Serving
+pub mod Meeting
+pub mod Closing
+pub mod Names
+pub mod Lists
+pub mod Opening
+pub mod Running
+pub mod Preparing
+pub mod Ordering
+pub mod Sends
+pub mod Closures
+pub mod Joining
+pub mod workload

@@ -12,11 +12,11 @@ use Rattle.qc_model.specs.declared.reports.ScriptRefusal.TheVariants as refusal
 use Rattle.qc_model.specs.Journal.{present}
 use Rattle.qc_model.specs.ScriptLines.{script_of, most_script, after_lines, lines_of, no_sessions}
 use Rattle.qc_script.specs.WorkloadScript.{workload_script}
-use Rattle.qc_core.specs.declared.parts.Parts.{Parts}
+use Rattle.qc_core.specs.declared.server_state.ServerState.{ServerState}
 use Rattle.qc_core.specs.Whole.{IsSomewhereSound}
 use Rattle.qc_serve.specs.declared.connecting.Receipt.{Receipt}
-use Rattle.qc_run.specs.declared.script.Ran.{Ran}
-use Rattle.qc_run.specs.Ran.{AreTaken, MayRun}
+use Rattle.qc_app.specs.declared.script_run.Ran.{Ran}
+use Rattle.qc_app.specs.ScriptRun.{AreTaken, MayRun}
 use Rattle.qc_app.specs.declared.arguments.reading.Asked.{Asked}
 use Rattle.qc_app.specs.declared.top.Ended.{Ended}
 use Rattle.qc_app.specs.Arguments.{asked_of, options_asked}
@@ -97,15 +97,15 @@ given {X} {E} r x meant a h = subst (λ (q : Result X (Or E)). Gives (λ x. x) (
 -- ---- what it leaves
 
 -- a sound server has the database of its journal
-pub sound_database : (s : Parts) → IsSomewhereSound s → s.database ≡ present s.journal.events
+pub sound_database : (s : ServerState) → IsSomewhereSound s → s.database ≡ present s.journal.events
 sound_database s sound = sound.1.1.sound.journal.database
 
 pub left_report : (ran : Ran) (e : Ended) (P : Report → Type 0) → LeavesRun ran e → P ran.report → IfSome e.report P
 left_report ran e P (inl (report, server, receipts)) h = subst (λ (o : Option Report). IfSome o P) (sym report) h
 left_report ran e P (inr (report, server, receipts)) h = subst (λ (o : Option Report). IfSome o P) (sym report) tt
 
-shown_by : (e : Ended) (r : Option Report) (s : Option Parts) (q : Option (List Receipt)) → e.report ≡ r → e.server ≡ s → e.receipts ≡ q → AreShown r s q → IsShown e
-shown_by e r s q report server receipts h = subst (λ (p : Option Report × Option Parts × Option (List Receipt)). AreShown p.0 p.1 p.2) (λ i. (sym report i, sym server i, sym receipts i)) h
+shown_by : (e : Ended) (r : Option Report) (s : Option ServerState) (q : Option (List Receipt)) → e.report ≡ r → e.server ≡ s → e.receipts ≡ q → AreShown r s q → IsShown e
+shown_by e r s q report server receipts h = subst (λ (p : Option Report × Option ServerState × Option (List Receipt)). AreShown p.0 p.1 p.2) (λ i. (sym report i, sym server i, sym receipts i)) h
 
 pub left_shown : (ran : Ran) (e : Ended) → LeavesRun ran e → IsBacked ran.server ran.receipts ran.report → IsShown e
 left_shown ran e (inl (report, server, receipts)) backed = shown_by e (Some ran.report) (Some ran.server) (Some ran.receipts) report server receipts backed

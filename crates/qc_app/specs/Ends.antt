@@ -4,7 +4,7 @@ use Rattle.qc_types.specs.Streams.{Rose}
 use Rattle.qc_model.specs.declared.reports.Report.{Report}
 use Rattle.qc_model.specs.declared.reports.Script.{Script}
 use Rattle.qc_model.specs.ReportText.{text_of_report}
-use Rattle.qc_run.specs.Ran.{IsReportOf}
+use Rattle.qc_app.specs.ScriptRun.{IsReportOf}
 use Rattle.qc_app.specs.declared.arguments.reading.Asked.{Asked}
 use Rattle.qc_app.specs.declared.arguments.reading.Asked.TheVariants as ask
 use Rattle.qc_app.specs.declared.top.Ended.{Ended}

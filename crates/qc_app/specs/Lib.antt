@@ -5,3 +5,11 @@ pub mod Reading
 pub mod Summary
 pub mod Arguments
 pub mod Laws
+pub mod SessionInput
+pub mod Sessions
+pub mod SessionStarts
+pub mod SessionEnds
+pub mod SetupPart
+pub mod ScriptRun
+pub mod ReplyBuffer
+pub mod workload

@@ -1,7 +1,7 @@
 -- What the top call ends with, and how that is told.
 use Rattle.std.specs.Prelude.{ℕ, Option, Some, None}
 use Rattle.qc_model.specs.declared.reports.ScriptRefusal.{ScriptRefusal}
-use Rattle.qc_run.specs.declared.script.Ran.{Ran}
+use Rattle.qc_app.specs.declared.script_run.Ran.{Ran}
 use Rattle.qc_app.specs.declared.top.Ended.{Ended}
 use Rattle.qc_app.specs.declared.top.Outcome.{Outcome}
 use Rattle.qc_app.specs.declared.top.Outcome.TheVariants as outcome

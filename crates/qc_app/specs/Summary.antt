@@ -10,7 +10,7 @@ use Rattle.qc_model.specs.Journal.{present}
 use Rattle.qc_model.specs.ReportText.{Text, fields, lines}
 use Rattle.qc_model.specs.Workload.{draws_of_session}
 use Rattle.qc_table.specs.Views.{value_at}
-use Rattle.qc_workload.specs.Counts.{is_commit}
+use Rattle.qc_app.specs.workload.Counts.{is_commit}
 use Rattle.qc_app.specs.declared.summary.Counts.{Counts}
 use Rattle.qc_app.specs.declared.summary.TableCount.{TableCount}
 

@@ -8,11 +8,11 @@ use Rattle.qc_model.specs.ReportText.{text_of_report}
 use Rattle.qc_model.specs.ScriptLines.{script_of}
 use Rattle.qc_model.specs.Workload.{summary}
 use Rattle.qc_script.specs.WorkloadScript.{workload_script}
-use Rattle.qc_core.specs.declared.parts.Parts.{Parts}
+use Rattle.qc_core.specs.declared.server_state.ServerState.{ServerState}
 use Rattle.qc_core.specs.Whole.{IsSomewhereSound}
 use Rattle.qc_serve.specs.declared.connecting.Receipt.{Receipt}
-use Rattle.qc_run.specs.declared.script.Ran.{Ran}
-use Rattle.qc_run.specs.Ran.{HaveReceipts, IsReportOf}
+use Rattle.qc_app.specs.declared.script_run.Ran.{Ran}
+use Rattle.qc_app.specs.ScriptRun.{HaveReceipts, IsReportOf}
 use Rattle.qc_app.specs.declared.arguments.reading.Asked.{Asked}
 use Rattle.qc_app.specs.declared.arguments.reading.Asked.TheVariants as ask
 use Rattle.qc_app.specs.declared.top.Ended.{Ended}
@@ -86,14 +86,14 @@ text_put (Some (ask.Workload number)) report = summary number
 text_put None report = []
 
 -- what a run has left beside its report: the server is sound, under the report's options and with its journal, and each session has its receipt
-pub record IsBacked (server : Parts) (receipts : List Receipt) (report : Report) : Type 0 where
+pub record IsBacked (server : ServerState) (receipts : List Receipt) (report : Report) : Type 0 where
   pub sound : IsSomewhereSound server
   pub options : server.options ≡ report.options
   pub journal : server.journal.events ≡ report.journal
   pub each : HaveReceipts report.sessions receipts
 
 -- the report, the server and the receipts are there together, and the others show what the report tells
-abbrev pub AreShown : Option Report → Option Parts → Option (List Receipt) → Type 0
+abbrev pub AreShown : Option Report → Option ServerState → Option (List Receipt) → Type 0
 AreShown (Some report) (Some server) (Some receipts) = IsBacked server receipts report
 AreShown None None None = Unit {0}
 AreShown (Some report) None receipts = ⊥

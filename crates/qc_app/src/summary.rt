@@ -3,7 +3,7 @@
 ghost use Rattle.std.specs.Prelude.{◌≡◌, ◌<◌, ◌≤◌, ◌^◌, ◌+ℤ◌, ◌≤ℤ◌, ◌++◌, ◌∷◌, [], length, count_by, neg_ℤ, pos, Some, IfOk, OnOk};
 ghost use Rattle.qc_model.specs.Journal.{present};
 ghost use Rattle.qc_model.specs.ReportText.{lines};
-ghost use Rattle.qc_workload.specs.Counts as counts;
+ghost use Rattle.qc_app.specs.workload.Counts as counts;
 ghost use Rattle.qc_app.specs.Summary as meant;
 ghost use Rattle.qc_app.specs.Summary.{count_in, count_of, counted_summary, summary_lines, total_of};
 

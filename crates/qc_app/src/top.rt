@@ -5,7 +5,7 @@ ghost use Rattle.qc_types.specs.declared.options.Options.{Options};
 ghost use Rattle.qc_types.specs.Streams.{Rose};
 ghost use Rattle.qc_script.specs.ShortNames.{HasShortNames};
 ghost use Rattle.qc_core.specs.Whole.{IsSomewhereSound};
-ghost use Rattle.qc_run.specs.Ran.{AreTaken, MayRun};
+ghost use Rattle.qc_app.specs.ScriptRun.{AreTaken, MayRun};
 ghost use Rattle.qc_app.specs.declared.arguments.reading.Asked.TheVariants as ask;
 ghost use Rattle.qc_app.specs.Arguments.{asked_of, begins_with_run, options_asked};
 ghost use Rattle.qc_app.specs.Ends.{HasEnded, HasRun, Seen, seen, text_made};
@@ -14,10 +14,10 @@ ghost use Rattle.qc_app.specs.Top.{HasReadFault, HoldsMore, HoldsPrefix, IsRunOf
 
 use crate::arguments::{Asked, read_words};
 use crate::reading::{Unread, read_input};
+use crate::script_run::{Ran, run_script};
 use crate::summary::summary_text;
 use qc_core::Server;
 use qc_model::reports::{Report, Script, ScriptRefusal};
-use qc_run::{Ran, run_script};
 use qc_script::{read_script, report_text, workload};
 use qc_serve::{Gate, Receipts};
 use qc_types::{NoMemory, Or, PutStep, Sink, Source, Text};

@@ -5,11 +5,11 @@ use Rattle.std.specs.Option.{IsSome, MatchOption, option_map, option_to_list}
 use Rattle.std.proofs.lemmas.List.{length-map, length-drop, length-set, length-replicate, length-append, append-nil, get_or-replicate, ext_get_or}
 use Rattle.std.proofs.lemmas.Option.{none-some, same_Some}
 use Rattle.std.proofs.lemmas.Bool.{eq-eqb, ne_eqb, eqb-true, cases_eq, cases_lt}
-use Rattle.qc_index.specs.Counts.{bit, count}
-use Rattle.qc_index.specs.Linked.{Linked, nodes_of, without, IsLast, moved_last, standing}
-use Rattle.qc_index.specs.Filed.{in_slot, in_slots, IsFiled, AreFree, bucket_of}
-use Rattle.qc_index.proofs.Counting.{total-append, total-set, few, count-without, count-without_other, without-none, length-without, all-without, standing-without, standing-without_other, standing-put, nodes-moved, length-moved}
-use Rattle.qc_index.proofs.FiledSteps.{bucket-low, listed-all, none-counts, in-set, in-set_other, all-end, moved as moved_node, filed-moved, filed-still, free-filed, slots-append, slots-set}
+use Rattle.qc_chain.specs.Counts.{bit, count}
+use Rattle.qc_chain.specs.Linked.{Linked, nodes_of, without, IsLast, moved_last, standing}
+use Rattle.qc_chain.specs.Filed.{in_slot, in_slots, IsFiled, AreFree, bucket_of}
+use Rattle.qc_chain.proofs.Counting.{total-append, total-set, few, count-without, count-without_other, without-none, length-without, all-without, standing-without, standing-without_other, standing-put, nodes-moved, length-moved}
+use Rattle.qc_chain.proofs.FiledSteps.{bucket-low, listed-all, none-counts, in-set, in-set_other, all-end, moved as moved_node, filed-moved, filed-still, free-filed, slots-append, slots-set}
 use Rattle.qc_tiles.specs.declared.blocks.Block.{Block}
 use Rattle.qc_tiles.specs.declared.blocks.Move.{Move}
 use Rattle.qc_tiles.specs.Tiles.{moved}

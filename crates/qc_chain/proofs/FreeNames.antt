@@ -3,8 +3,8 @@ use Rattle.std.proofs.Common.{◌≡◌, ◌≢◌, ℕ, zero, suc, ◌+◌, ◌
 use Rattle.std.specs.Prelude.{slice_get, Contains}
 use Rattle.std.proofs.lemmas.Option.{slice_get_within}
 use Rattle.std.proofs.lemmas.Bool.{eq-eqb, ne_eqb, cases_eq}
-use Rattle.qc_index.specs.Counts.{bit, count}
-use Rattle.qc_index.proofs.Counting.{total-append, few}
+use Rattle.qc_chain.specs.Counts.{bit, count}
+use Rattle.qc_chain.proofs.Counting.{total-append, few}
 use Rattle.qc_chain.specs.declared.names.Extent.{Extent}
 use Rattle.qc_chain.specs.Stored.{is_empty, is_free}
 use Rattle.qc_chain.proofs.BlockSteps.{all-counted}

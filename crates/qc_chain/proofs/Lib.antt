@@ -7,3 +7,7 @@ pub mod BlockSteps
 pub mod FreeNames
 pub mod Stores
 mod examples
+pub mod Counting
+pub mod FiledSteps
+pub mod Linking
+pub mod ListWalks

@@ -4,3 +4,6 @@ pub mod Ends
 pub mod Views
 pub mod Listed
 pub mod Stored
+pub mod Counts
+pub mod Filed
+pub mod Linked

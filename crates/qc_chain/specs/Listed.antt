@@ -2,9 +2,9 @@
 use Rattle.std.specs.Prelude.{◌≡◌, ℕ, ◌+◌, ◌<◌, ◌≤◌, ◌^◌, Bool, false, List, map, drop, length, Option, Some, None, option_map, ◌==◌}
 use Rattle.std.specs.List.{AllByRecursion}
 use Rattle.std.specs.Option.{IsSome}
-use Rattle.qc_index.specs.Counts.{total, bit, count}
-use Rattle.qc_index.specs.Linked.{Linked, nodes_of, standing}
-use Rattle.qc_index.specs.Filed.{in_slot, in_slots, IsFiled, bucket_of}
+use Rattle.qc_chain.specs.Counts.{total, bit, count}
+use Rattle.qc_chain.specs.Linked.{Linked, nodes_of, standing}
+use Rattle.qc_chain.specs.Filed.{in_slot, in_slots, IsFiled, bucket_of}
 use Rattle.qc_tiles.specs.declared.blocks.Block.{Block}
 use Rattle.qc_tiles.specs.declared.blocks.Move.{Move}
 use Rattle.qc_tiles.specs.Tiles.{moved}

@@ -1,6 +1,6 @@
 -- Chains: how much each has, the free names, and the blocks.
 use Rattle.std.specs.Prelude.{◌≡◌, ℕ, ◌≤◌, Bool, true, false, List, map, length, Option, Some, None, option_map, option_and_then, slice_get}
-use Rattle.qc_index.specs.Counts.{bit, count}
+use Rattle.qc_chain.specs.Counts.{bit, count}
 use Rattle.qc_tiles.specs.declared.blocks.Block.{Block}
 use Rattle.qc_chain.specs.declared.names.Extent.{Extent}
 use Rattle.qc_chain.specs.Words.{words_of}

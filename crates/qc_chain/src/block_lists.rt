@@ -4,12 +4,13 @@ ghost use Rattle.std.specs.Prelude.{◌≡◌, ◌≢◌, ℕ, ◌+◌, ◌<◌,
 ghost use Rattle.std.specs.List.{AllByRecursion};
 ghost use Rattle.std.specs.Option.{IsSome, option_map};
 ghost use Rattle.qc_tiles.specs.declared.blocks.Block.{Block};
-ghost use Rattle.qc_index.specs.Filed.{in_slot, in_slots, IsFiled};
+ghost use Rattle.qc_chain.specs.Filed.{in_slot, in_slots, IsFiled};
 ghost use Rattle.qc_tiles.specs.Tiles.{moved};
 ghost use Rattle.qc_chain.specs.Views.{blocks_of, Appends, TakesFirst, Cuts};
 ghost use Rattle.qc_chain.specs.Listed.{place_home, is_at, blocks_at, moved_in};
 
-use qc_index::{Lists, Walk, all_free, bucket, empty_slots, mask_for};
+use crate::lists::{Lists, Walk};
+use crate::slot_lists::{all_free, bucket, empty_slots, mask_for};
 use qc_tiles::{Block, Move};
 use qc_types::NoMemory;
 use std::alloc::Global;
@@ -165,7 +166,7 @@ impl<'a> Model for BlockWalk<'a> {
     ghost use Rattle.std.specs.List.{AllByRecursion};
     ghost use Rattle.std.specs.Option.{IsSome};
     ghost use Rattle.qc_tiles.specs.declared.blocks.Block.{Block};
-    ghost use Rattle.qc_index.specs.Filed.{in_slot, in_slots};
+    ghost use Rattle.qc_chain.specs.Filed.{in_slot, in_slots};
 
     ghost Value = { List Block };
 

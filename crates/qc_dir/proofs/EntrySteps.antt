@@ -7,17 +7,17 @@ use Rattle.std.proofs.lemmas.List.{get_or_read}
 use Rattle.std.proofs.lemmas.Bool.{eq-eqb, ne_eqb}
 use Rattle.std.proofs.lemmas.Bool.Decides.{nat_tests}
 use Rattle.std.proofs.lemmas.List.Sorted.{IsPermutation-refl, IsPermutation-cons, IsPermutation-trans, IsPermutation-sym, IsPermutation-middle}
-use Rattle.qc_index.specs.Linked.{Linked, nodes_of}
-use Rattle.qc_index.specs.Counts.{count}
-use Rattle.qc_index.proofs.Counting.{total-append}
+use Rattle.qc_chain.specs.Linked.{Linked, nodes_of}
+use Rattle.qc_chain.specs.Counts.{count}
+use Rattle.qc_chain.proofs.Counting.{total-append}
 use Rattle.qc_dir.specs.declared.entries.Entry.{Entry}
 use Rattle.qc_dir.specs.declared.entry_slots.By.{By}
 use Rattle.qc_dir.specs.declared.entry_slots.By.TheVariants.{Serial, Hash, Place}
 use Rattle.qc_dir.specs.Directory.{has_serial, has_hash, serials_under}
 use Rattle.qc_dir.specs.Keys.{total, bit}
-use Rattle.qc_index.specs.Filed.{in_slot, in_slots, contents, IsFiled, AreFree, bucket_of}
+use Rattle.qc_chain.specs.Filed.{in_slot, in_slots, contents, IsFiled, AreFree, bucket_of}
 use Rattle.qc_dir.specs.Uses.{placed_text, number_by, number_home, is_numbered, having, IsEntrySlots}
-use Rattle.qc_index.proofs.FiledSteps.{weight, total-contents, total-in_slots, listed-all, moved, filed-moved, filed-still, free-filed, bucket-low}
+use Rattle.qc_chain.proofs.FiledSteps.{weight, total-contents, total-in_slots, listed-all, moved, filed-moved, filed-still, free-filed, bucket-low}
 
 -- what is read from a slot
 pub read : (slots now : List (Option Entry)) {i : ℕ} → i < length now → slots ≡ now → (s : Option Entry) → s ≡ get_or slots i s → s ≡ in_slot i now

@@ -4,13 +4,13 @@ use Rattle.std.specs.List.{AllByRecursion, slice_get}
 use Rattle.std.specs.Option.{is_some, option_to_list, MatchOption}
 use Rattle.std.proofs.lemmas.Bool.{eq-eqb, ne_eqb}
 use Rattle.std.proofs.lemmas.Bool.Decides.{nat_tests}
-use Rattle.qc_index.specs.declared.keys.Key.{Key}
-use Rattle.qc_index.specs.Counts.{count}
-use Rattle.qc_index.specs.Linked.{Linked, nodes_of}
-use Rattle.qc_index.proofs.Counting.{total-append, total-set}
-use Rattle.qc_index.specs.Filed.{in_slot, contents, IsFiled, bucket_of}
+use Rattle.qc_chain.specs.declared.keys.Key.{Key}
+use Rattle.qc_chain.specs.Counts.{count}
+use Rattle.qc_chain.specs.Linked.{Linked, nodes_of}
+use Rattle.qc_chain.proofs.Counting.{total-append, total-set}
+use Rattle.qc_chain.specs.Filed.{in_slot, contents, IsFiled, bucket_of}
 use Rattle.qc_dir.specs.Keys.{total, bit, times, same_key, pair_of, major_home, pair_home, is_key, minor_under, minors_under, IsKeySet, IsAnyUnder}
-use Rattle.qc_index.proofs.FiledSteps.{bucket-low, bucket-some, moved, listed-all, none-counts, filed-moved, first-home, room-moved}
+use Rattle.qc_chain.proofs.FiledSteps.{bucket-low, bucket-some, moved, listed-all, none-counts, filed-moved, first-home, room-moved}
 
 pub same_both : (a b : Key) → same_key a b ≡ true → a ≡ b
 same_both a b h =

@@ -9,7 +9,7 @@ use Rattle.std.proofs.lemmas.Bool.Decides.{nat_tests}
 use Rattle.std.proofs.lemmas.Bool.{or_parts, eq-eqb, lt-ltb, ltb-true, ltb-false}
 use Rattle.qc_types.specs.declared.names.TableName.{TableName}
 use Rattle.qc_sql.specs.Database.{same_table}
-use Rattle.qc_index.specs.declared.keys.Key.{Key}
+use Rattle.qc_chain.specs.declared.keys.Key.{Key}
 use Rattle.qc_dir.specs.declared.entries.Entry.{Entry}
 use Rattle.qc_dir.specs.declared.tables.TableBlock.{TableBlock}
 use Rattle.qc_dir.specs.Directory.{has_serial, entry_at, names_table, without}

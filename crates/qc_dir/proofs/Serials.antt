@@ -3,7 +3,7 @@ use Rattle.std.proofs.Common.{◌≡◌, ◌⊎◌, inl, inr, ℕ, ◌<◌, ◌�
 use Rattle.std.specs.List.Sorted.{IsPermutation}
 use Rattle.std.specs.Option.{IsSomeAnd, IfSome, MatchOption}
 use Rattle.std.proofs.lemmas.Bool.{eq-eqb, eqb-true, ne_eqb, and_parts, ltb-false, le-ltb, cases_eq, cases_lt}
-use Rattle.qc_index.specs.Counts.{count}
+use Rattle.qc_chain.specs.Counts.{count}
 use Rattle.qc_dir.specs.declared.entries.Entry.{Entry}
 use Rattle.qc_dir.specs.Directory.{has_serial, has_hash, entry_at, serials_under}
 use Rattle.qc_dir.specs.Keys.{bit, least_from}

@@ -7,8 +7,8 @@ use Rattle.std.proofs.lemmas.Bool.{false≢true, eq-eqb, ne_eqb}
 use Rattle.std.proofs.lemmas.Bool.Decides.{nat_tests}
 use Rattle.qc_types.specs.declared.names.TableName.{TableName}
 use Rattle.qc_tiles.specs.declared.blocks.Move.{Move}
-use Rattle.qc_index.specs.declared.keys.Key.{Key}
-use Rattle.qc_index.specs.Counts.{count}
+use Rattle.qc_chain.specs.declared.keys.Key.{Key}
+use Rattle.qc_chain.specs.Counts.{count}
 use Rattle.qc_dir.specs.declared.tables.TableBlock.{TableBlock}
 use Rattle.qc_dir.specs.Directory.{block_of, is_block_of}
 use Rattle.qc_dir.specs.Keys.{Keys, total, bit, times, same_key}

@@ -11,7 +11,7 @@ use Rattle.std.proofs.lemmas.Bool.Decides.{nat_tests}
 use Rattle.std.proofs.lemmas.Bool.{eq-eqb, ne_eqb}
 use Rattle.qc_dir.specs.declared.tables.TableBlock.{TableBlock}
 use Rattle.std.proofs.lemmas.List.{length-map}
-use Rattle.qc_index.specs.declared.keys.Key.{Key}
+use Rattle.qc_chain.specs.declared.keys.Key.{Key}
 use Rattle.qc_dir.specs.Keys.{Keys, total, bit, times, same_key}
 use Rattle.qc_dir.specs.Slots.{Numbered, IsSlots, IsInOrder, held_from, has_number, numbered_at, name_key, place_key}
 use Rattle.qc_dir.proofs.Totals.{total-append}

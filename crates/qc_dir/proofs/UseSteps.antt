@@ -6,16 +6,16 @@ use Rattle.std.specs.Option.{is_some, option_to_list, option_map, IsSome, IsSome
 use Rattle.std.proofs.lemmas.List.{length-set, set-get_or, append-nil}
 use Rattle.std.proofs.lemmas.Option.{none-some, same_Some}
 use Rattle.std.proofs.lemmas.Bool.{eq-eqb, ne_eqb, eqb-true, cases_eq}
-use Rattle.qc_index.specs.Counts.{count}
-use Rattle.qc_index.specs.Linked.{Linked, nodes_of, without as without_node}
-use Rattle.qc_index.proofs.Counting.{total-set, without-none, count-without, nodes-moved}
+use Rattle.qc_chain.specs.Counts.{count}
+use Rattle.qc_chain.specs.Linked.{Linked, nodes_of, without as without_node}
+use Rattle.qc_chain.proofs.Counting.{total-set, without-none, count-without, nodes-moved}
 use Rattle.qc_dir.specs.declared.entries.Entry.{Entry}
 use Rattle.qc_dir.specs.declared.entry_slots.By.TheVariants.{Place}
 use Rattle.qc_dir.specs.Directory.{has_serial, entry_at, serials_under, is_idle, oldest_idle, incomplete, without, changed, moved_to_end, after_touch, after_complete}
 use Rattle.qc_dir.specs.Keys.{total, bit}
-use Rattle.qc_index.specs.Filed.{in_slot, in_slots, contents, IsFiled, AreFree}
+use Rattle.qc_chain.specs.Filed.{in_slot, in_slots, contents, IsFiled, AreFree}
 use Rattle.qc_dir.specs.Uses.{Used, use_home, is_entry, is_numbered, is_missing, texts_at, IsUses}
-use Rattle.qc_index.proofs.FiledSteps.{weight, total-contents, total-in_slots, listed, listed-all, slot-counts, in-set, in-set_other, moved, filed-moved, room-moved, first-home, filed-still, free-filed, total-alike, slots-append, slots-set}
+use Rattle.qc_chain.proofs.FiledSteps.{weight, total-contents, total-in_slots, listed, listed-all, slot-counts, in-set, in-set_other, moved, filed-moved, room-moved, first-home, filed-still, free-filed, total-alike, slots-append, slots-set}
 use Rattle.qc_dir.proofs.EntrySteps.{hashed, under-same}
 use Rattle.qc_dir.proofs.EntryTotals.{with, none-counts as none-counted}
 

@@ -1,7 +1,7 @@
 -- What the indexes of the directory say of its entries and tables.
 use Rattle.std.specs.Prelude.{◌≡◌, ℕ, ◌+◌, ◌-◌, ◌*◌, ◌<◌, ◌≤◌, ◌&&◌, List, ◌∷◌, ◌++◌, map, length, Option, Some, None, if◌then◌else◌, nat_lt, ◌==◌, IsPermutation}
 use Rattle.qc_types.specs.declared.names.TableName.{TableName}
-use Rattle.qc_index.specs.declared.keys.Key.{Key}
+use Rattle.qc_chain.specs.declared.keys.Key.{Key}
 use Rattle.qc_dir.specs.declared.entries.Entry.{Entry}
 use Rattle.qc_dir.specs.declared.tables.TableBlock.{TableBlock}
 use Rattle.qc_dir.specs.Directory.{has_serial, names_table}

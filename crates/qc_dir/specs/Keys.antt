@@ -1,9 +1,9 @@
 -- Sets of keys, by how often a key stands in them.
 use Rattle.std.specs.Prelude.{◌≡◌, ℕ, ◌+◌, ◌*◌, ◌%◌, ◌<◌, ◌^◌, Bool, false, ◌&&◌, List, [], ◌∷◌, ◌++◌, Option, Some, None, MatchOption, min, nat_lt, ◌==◌, if◌then◌else◌}
-use Rattle.qc_index.specs.declared.keys.Key.{Key}
-use Rattle.qc_index.specs.Linked.{Linked}
-use Rattle.qc_index.specs.Filed.{in_slot, bucket_of, IsFiled}
-pub use Rattle.qc_index.specs.Counts.{total, bit}
+use Rattle.qc_chain.specs.declared.keys.Key.{Key}
+use Rattle.qc_chain.specs.Linked.{Linked}
+use Rattle.qc_chain.specs.Filed.{in_slot, bucket_of, IsFiled}
+pub use Rattle.qc_chain.specs.Counts.{total, bit}
 
 -- what contracts see of a set of keys: the keys in any order, and how many more there is room for
 pub record Keys : Type 0 where

@@ -5,7 +5,7 @@ use Rattle.qc_types.specs.declared.names.TableName.{TableName}
 use Rattle.qc_sql.specs.Database.{same_table}
 use Rattle.qc_key.specs.Hash.{hash, table_bytes}
 use Rattle.qc_tiles.specs.declared.blocks.Move.{Move}
-use Rattle.qc_index.specs.declared.keys.Key.{Key}
+use Rattle.qc_chain.specs.declared.keys.Key.{Key}
 use Rattle.qc_dir.specs.declared.tables.TableBlock.{TableBlock}
 use Rattle.qc_dir.specs.Directory.{moved_table}
 use Rattle.qc_dir.specs.Keys.{Keys, total, bit, times, same_key}

@@ -1,12 +1,12 @@
 -- Entries in slots, and lists of these: one in the order of use, and those of the numbers by which entries are looked up.
 use Rattle.std.specs.Prelude.{◌≡◌, ℕ, ◌<◌, ◌≤◌, ◌^◌, Bool, false, not, ◌+◌, List, length, Option, Some, None, is_some, ◌==◌}
 use Rattle.std.specs.List.{filter}
-use Rattle.qc_index.specs.Linked.{Linked}
+use Rattle.qc_chain.specs.Linked.{Linked}
 use Rattle.qc_dir.specs.declared.entries.Entry.{Entry}
 use Rattle.qc_dir.specs.declared.entry_slots.By.{By}
 use Rattle.qc_dir.specs.declared.entry_slots.By.TheVariants.{Serial, Hash, Place}
 use Rattle.qc_dir.specs.Keys.{total, bit}
-use Rattle.qc_index.specs.Filed.{in_slot, IsFiled, bucket_of}
+use Rattle.qc_chain.specs.Filed.{in_slot, IsFiled, bucket_of}
 
 -- what contracts see: the entries from the least to the most recently used, and how many more there is room for
 pub record Used : Type 0 where

@@ -3,11 +3,11 @@
 ghost use Rattle.std.specs.Prelude.{◌≡◌, ◌<◌, ◌∷◌, [], MatchOption, length};
 ghost use Rattle.std.specs.List.{AllByRecursion};
 ghost use Rattle.qc_dir.specs.Directory.{serials_under};
-ghost use Rattle.qc_index.specs.Filed.{in_slots};
+ghost use Rattle.qc_chain.specs.Filed.{in_slots};
 
 use crate::entries::{Entry, serial_in};
 use crate::entry_slots::{By, next_with};
-use qc_index::Walk;
+use qc_chain::Walk;
 use std::marker::Model;
 
 /// The serials of the entries under a hash that were not given yet. Contracts see their list.
@@ -22,7 +22,7 @@ impl<'a> Model for Candidates<'a> {
     ghost use Rattle.std.specs.Prelude.{ℕ, ◌<◌, List, length};
     ghost use Rattle.std.specs.List.{AllByRecursion};
     ghost use Rattle.qc_dir.specs.Directory.{serials_under};
-    ghost use Rattle.qc_index.specs.Filed.{in_slots};
+    ghost use Rattle.qc_chain.specs.Filed.{in_slots};
 
     ghost Value = { List ℕ };
 

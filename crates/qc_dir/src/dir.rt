@@ -3,7 +3,7 @@
 ghost use Rattle.std.specs.Prelude.{◌≡◌, ◌≢◌, ℕ, ◌+◌, ◌-◌, ◌*◌, ◌/◌, ◌<◌, ◌≤◌, ◌^◌, [], ◌∷◌, true, false, length, map, slice_get, Some, None, IfOk, IsSome, IfSome, IsSomeAnd, MatchOption, IsPermutation};
 ghost use Rattle.std.specs.List.{list_any, AllByRecursion};
 ghost use Rattle.std.specs.Option.{option_copied, option_map};
-ghost use Rattle.qc_index.specs.declared.keys.Key.{Key};
+ghost use Rattle.qc_chain.specs.declared.keys.Key.{Key};
 ghost use Rattle.qc_dir.specs.Directory.{IsDirectory, entry_at, serials_under, block_of, names_table, oldest_idle, incomplete, AreFresh, AddsEntry, after_touch, after_complete, after_enter, after_leave, with_entries, RemovesEntry, after_shift, moved_entry};
 ghost use Rattle.qc_types.specs.declared.names.TableName.{TableName};
 ghost use Rattle.qc_dir.specs.Keys.{times, least_from};
@@ -17,7 +17,7 @@ use crate::keys::KeySet;
 use crate::table_slots::TableSlots;
 use crate::tables::{TableBlock, TableBlocks};
 use crate::uses::Uses;
-use qc_index::Key;
+use qc_chain::Key;
 use qc_tiles::{Block, Move};
 use qc_types::{NoMemory, TableName};
 use std::alloc::Global;

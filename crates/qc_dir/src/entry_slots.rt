@@ -6,13 +6,13 @@ ghost use Rattle.std.specs.Option.{option_map};
 ghost use Rattle.qc_dir.specs.declared.entries.Entry.{Entry};
 ghost use Rattle.qc_dir.specs.declared.entry_slots.By.TheVariants.{Serial, Place};
 ghost use Rattle.qc_dir.specs.Directory.{serials_under};
-ghost use Rattle.qc_index.specs.Filed.{in_slot, contents};
+ghost use Rattle.qc_chain.specs.Filed.{in_slot, contents};
 ghost use Rattle.qc_dir.specs.Keys.{total, bit};
 ghost use Rattle.qc_dir.specs.Uses.{placed_text, number_by, is_numbered, having};
 
 use crate::candidates::Candidates;
 use crate::entries::Entry;
-use qc_index::{Lists, Walk, all_free, bucket, empty_slots, mask_for};
+use qc_chain::{Lists, Walk, all_free, bucket, empty_slots, mask_for};
 use qc_types::NoMemory;
 use std::alloc::Global;
 use std::marker::Model;

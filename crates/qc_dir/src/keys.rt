@@ -1,13 +1,13 @@
 //! Keys without values, found by their first number.
 
 ghost use Rattle.std.specs.Prelude.{◌≡◌, ℕ, ◌+◌, ◌<◌, ◌≤◌, ◌^◌, [], false, true, Some, IfOk, MatchOption, length};
-ghost use Rattle.qc_index.specs.declared.keys.Key.{Key};
-ghost use Rattle.qc_index.specs.Counts.{count};
-ghost use Rattle.qc_index.specs.Filed.{in_slot, contents, IsFiled};
+ghost use Rattle.qc_chain.specs.declared.keys.Key.{Key};
+ghost use Rattle.qc_chain.specs.Counts.{count};
+ghost use Rattle.qc_chain.specs.Filed.{in_slot, contents, IsFiled};
 ghost use Rattle.qc_dir.specs.Keys.{times, bit, same_key, IsAnyUnder, is_key, pair_of, pair_home};
 
 use crate::minors::Minors;
-use qc_index::{Key, Lists, all_free, bucket, empty_slots, mask_for};
+use qc_chain::{Key, Lists, all_free, bucket, empty_slots, mask_for};
 use qc_types::NoMemory;
 use std::alloc::Global;
 use std::marker::Model;
@@ -27,8 +27,8 @@ pub(crate) struct KeySet {
 
 impl Model for KeySet {
     ghost use Rattle.std.specs.Prelude.{◌<◌, ◌^◌, length};
-    ghost use Rattle.qc_index.specs.Linked.{nodes_of};
-    ghost use Rattle.qc_index.specs.Filed.{contents};
+    ghost use Rattle.qc_chain.specs.Linked.{nodes_of};
+    ghost use Rattle.qc_chain.specs.Filed.{contents};
     ghost use Rattle.qc_dir.specs.Keys.{Keys, IsKeySet};
 
     ghost Value = { Keys };

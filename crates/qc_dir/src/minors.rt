@@ -2,10 +2,10 @@
 
 ghost use Rattle.std.specs.Prelude.{◌≡◌, ◌<◌, ◌∷◌, [], MatchOption, length, option_to_list};
 ghost use Rattle.std.specs.List.{AllByRecursion};
-ghost use Rattle.qc_index.specs.Filed.{in_slot};
+ghost use Rattle.qc_chain.specs.Filed.{in_slot};
 ghost use Rattle.qc_dir.specs.Keys.{minor_under, minors_under};
 
-use qc_index::{Key, Walk};
+use qc_chain::{Key, Walk};
 use std::marker::Model;
 
 /// The second numbers of the keys with a first one that were not given yet. Contracts see their list.

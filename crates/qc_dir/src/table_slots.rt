@@ -8,7 +8,7 @@ ghost use Rattle.qc_dir.specs.Indexed.{holding};
 
 use crate::keys::KeySet;
 use crate::tables::TableBlock;
-use qc_index::Key;
+use qc_chain::Key;
 use qc_key::table_hash;
 use qc_sql::names::is_same_table;
 use qc_tiles::{Block, Move};

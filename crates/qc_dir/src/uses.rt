@@ -8,7 +8,7 @@ ghost use Rattle.qc_dir.specs.Uses.{entries_of, placed_text, texts_at};
 use crate::candidates::Candidates;
 use crate::entries::{Entry, idle_in, missing_in, serial_in};
 use crate::entry_slots::EntrySlots;
-use qc_index::{Lists, all_free};
+use qc_chain::{Lists, all_free};
 use qc_types::NoMemory;
 use std::alloc::Global;
 use std::marker::Model;
@@ -32,8 +32,8 @@ pub(crate) struct Uses {
 
 impl Model for Uses {
     ghost use Rattle.std.specs.Prelude.{length};
-    ghost use Rattle.qc_index.specs.Linked.{nodes_of};
-    ghost use Rattle.qc_index.specs.Filed.{in_slots};
+    ghost use Rattle.qc_chain.specs.Linked.{nodes_of};
+    ghost use Rattle.qc_chain.specs.Filed.{in_slots};
     ghost use Rattle.qc_dir.specs.Uses.{Used, IsUses};
 
     ghost Value = { Used };

@@ -1,5 +1,5 @@
 use Rattle.std.proofs.Common.{◌≡◌, take, count_by}
-use Rattle.qc_workload.specs.Counts.{is_commit}
+use Rattle.qc_app.specs.workload.Counts.{is_commit}
 use Rattle.qc_app.proofs.summary.commits_in.Given as goal
 
 abbrev pub invariant-loop-event : goal.invariant-loop-event

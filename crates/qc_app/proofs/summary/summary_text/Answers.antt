@@ -1,5 +1,5 @@
 use Rattle.std.proofs.Common.{◌∙◌, ◌++◌, ap, count_by}
-use Rattle.qc_workload.specs.Counts.{is_commit}
+use Rattle.qc_app.specs.workload.Counts.{is_commit}
 use Rattle.qc_app.specs.Summary.{summary_lines}
 use Rattle.qc_app.proofs.Counts.{counted}
 use Rattle.qc_app.proofs.summary.summary_text.Goals as goal

@@ -1,5 +1,5 @@
 use Rattle.std.proofs.Common.{◌≡◌, ◌+◌, map}
-use Rattle.qc_index.specs.Filed.{IsFiled}
+use Rattle.qc_chain.specs.Filed.{IsFiled}
 use Rattle.qc_chain.specs.Listed.{place_home, moved_in, blocks_at}
 use Rattle.qc_chain.proofs.block_lists.move_all.Given as goal
 

@@ -1,6 +1,6 @@
 use Rattle.std.proofs.Common.{◌∙◌, ap, set, arith}
 use Rattle.std.specs.Option.{option_map}
-use Rattle.qc_index.proofs.FiledSteps.{bucket-low}
+use Rattle.qc_chain.proofs.FiledSteps.{bucket-low}
 use Rattle.qc_tiles.specs.declared.blocks.Block.{Block}
 use Rattle.qc_chain.proofs.BlockSteps.{IsMoved, moved_one}
 use Rattle.qc_chain.proofs.block_lists.move_one.Goals.{After-put_last}

@@ -1,6 +1,6 @@
 use Rattle.std.proofs.Common.{◌≡◌, ◌<◌, false, length}
 use Rattle.std.specs.List.{AllByRecursion}
-use Rattle.qc_index.specs.Filed.{in_slot}
+use Rattle.qc_chain.specs.Filed.{in_slot}
 use Rattle.qc_chain.specs.Listed.{is_at}
 use Rattle.qc_chain.proofs.block_lists.slot_at.Given as goal
 

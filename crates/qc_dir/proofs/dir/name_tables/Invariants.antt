@@ -1,5 +1,5 @@
 use Rattle.std.proofs.Common.{◌≡◌, ◌+◌, drop}
-use Rattle.qc_index.specs.declared.keys.Key.{Key}
+use Rattle.qc_chain.specs.declared.keys.Key.{Key}
 use Rattle.qc_dir.specs.Keys.{times}
 use Rattle.qc_dir.specs.Indexed.{named_times}
 use Rattle.qc_dir.proofs.dir.name_tables.Given as goal

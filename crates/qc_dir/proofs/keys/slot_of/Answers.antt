@@ -1,6 +1,6 @@
 use Rattle.std.proofs.Common.{◌<◌, ◌∙◌, sym, subst, arith}
 use Rattle.std.specs.List.{AllByRecursion}
-use Rattle.qc_index.proofs.FiledSteps.{bucket-low}
+use Rattle.qc_chain.proofs.FiledSteps.{bucket-low}
 use Rattle.qc_dir.proofs.KeyCounts.{none-found}
 use Rattle.qc_dir.proofs.keys.slot_of.Goals as goal
 

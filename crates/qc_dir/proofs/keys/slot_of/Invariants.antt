@@ -1,6 +1,6 @@
 use Rattle.std.proofs.Common.{◌≡◌, ◌<◌, false, length}
 use Rattle.std.specs.List.{AllByRecursion}
-use Rattle.qc_index.specs.Filed.{in_slot}
+use Rattle.qc_chain.specs.Filed.{in_slot}
 use Rattle.qc_dir.specs.Keys.{is_key}
 use Rattle.qc_dir.proofs.keys.slot_of.Given as goal
 

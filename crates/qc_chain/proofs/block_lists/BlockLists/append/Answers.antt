@@ -1,6 +1,6 @@
 use Rattle.std.proofs.Common.{◌≡◌, ◌<◌, ◌-◌, ◌+◌, ◌∙◌, ap, set, length, Some, [], arith}
-use Rattle.qc_index.specs.Linked.{nodes_of}
-use Rattle.qc_index.proofs.FiledSteps.{bucket-low}
+use Rattle.qc_chain.specs.Linked.{nodes_of}
+use Rattle.qc_chain.proofs.FiledSteps.{bucket-low}
 use Rattle.qc_chain.specs.Listed.{Listed}
 use Rattle.qc_chain.proofs.BlockSteps.{IsAppended, appended, length-seen}
 use Rattle.qc_chain.proofs.block_lists.BlockLists.append.Goals.{In-Some, After-put_last-2}

@@ -1,7 +1,7 @@
 use Rattle.std.proofs.Common.{◌≡◌, ◌<◌, ◌+◌, ◌∙◌, ap, set, length, [], Some, None, arith}
 use Rattle.std.proofs.lemmas.List.{get_or_read}
-use Rattle.qc_index.specs.Linked.{nodes_of}
-use Rattle.qc_index.specs.Filed.{in_slot, in_slots}
+use Rattle.qc_chain.specs.Linked.{nodes_of}
+use Rattle.qc_chain.specs.Filed.{in_slot, in_slots}
 use Rattle.qc_tiles.specs.declared.blocks.Block.{Block}
 use Rattle.qc_chain.specs.Views.{blocks_of}
 use Rattle.qc_chain.specs.Listed.{Listed, lists_in}

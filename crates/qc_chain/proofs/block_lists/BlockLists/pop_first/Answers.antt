@@ -1,7 +1,7 @@
 use Rattle.std.proofs.Common.{◌≡◌, ◌<◌, ◌+◌, ◌∙◌, sym, ap, set, length, refl, Some, None, arith}
 use Rattle.std.proofs.lemmas.List.{get_or_read}
-use Rattle.qc_index.specs.Linked.{nodes_of}
-use Rattle.qc_index.specs.Filed.{in_slot, in_slots}
+use Rattle.qc_chain.specs.Linked.{nodes_of}
+use Rattle.qc_chain.specs.Filed.{in_slot, in_slots}
 use Rattle.qc_tiles.specs.declared.blocks.Block.{Block}
 use Rattle.qc_chain.specs.Listed.{Listed}
 use Rattle.qc_chain.proofs.BlockSteps.{IsTaken, taken, taken-told, seen, length-seen, none-first, some-in, first-behind, counts-first, room-fits}

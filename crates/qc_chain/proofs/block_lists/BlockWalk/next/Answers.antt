@@ -1,6 +1,6 @@
 use Rattle.std.proofs.Common.{◌≡◌, ◌++◌, ◌∙◌, sym, ap, Some}
 use Rattle.std.specs.Option.{option_to_list}
-use Rattle.qc_index.specs.Filed.{in_slot, in_slots}
+use Rattle.qc_chain.specs.Filed.{in_slot, in_slots}
 use Rattle.qc_chain.proofs.BlockSteps.{some-in}
 use Rattle.qc_chain.proofs.block_lists.BlockWalk.next.Goals as goal
 

@@ -3,7 +3,7 @@ use Rattle.std.specs.Option.{option_map}
 use Rattle.std.proofs.lemmas.List.{get_or_read}
 use Rattle.qc_dir.specs.declared.entries.Entry.{Entry}
 use Rattle.qc_dir.specs.Directory.{serials_under}
-use Rattle.qc_index.specs.Filed.{in_slots}
+use Rattle.qc_chain.specs.Filed.{in_slots}
 use Rattle.qc_dir.proofs.EntrySteps.{next-serial, no-serial}
 use Rattle.qc_dir.proofs.candidates.Candidates.next.Goals as goal
 

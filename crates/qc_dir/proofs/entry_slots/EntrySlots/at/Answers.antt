@@ -1,6 +1,6 @@
 use Rattle.std.proofs.Common.{◌∙◌, ap, length, None, arith}
 use Rattle.std.proofs.lemmas.List.{get_or_read}
-use Rattle.qc_index.specs.Filed.{in_slot}
+use Rattle.qc_chain.specs.Filed.{in_slot}
 use Rattle.qc_dir.proofs.entry_slots.EntrySlots.at.Goals as goal
 
 pub index-requires : goal.index-requires

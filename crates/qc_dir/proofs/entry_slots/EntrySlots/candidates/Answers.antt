@@ -1,6 +1,6 @@
 use Rattle.std.proofs.Common.{◌<◌, subst, arith}
 use Rattle.std.specs.List.{AllByRecursion}
-use Rattle.qc_index.proofs.FiledSteps.{bucket-low}
+use Rattle.qc_chain.proofs.FiledSteps.{bucket-low}
 use Rattle.qc_dir.proofs.EntrySteps.{candidates-are}
 use Rattle.qc_dir.proofs.entry_slots.EntrySlots.candidates.Goals as goal
 

@@ -1,7 +1,7 @@
 use Rattle.std.proofs.Common.{◌<◌, subst, arith}
 use Rattle.std.specs.List.{AllByRecursion}
 use Rattle.qc_dir.specs.declared.entry_slots.By.TheVariants.{Serial}
-use Rattle.qc_index.proofs.FiledSteps.{bucket-low}
+use Rattle.qc_chain.proofs.FiledSteps.{bucket-low}
 use Rattle.qc_dir.proofs.EntrySteps.{none-numbered}
 use Rattle.qc_dir.proofs.entry_slots.EntrySlots.find.Goals as goal
 

@@ -3,7 +3,7 @@ use Rattle.std.specs.Option.{IsSomeAnd}
 use Rattle.std.proofs.lemmas.List.{length-set}
 use Rattle.std.specs.Option.{option_map}
 use Rattle.qc_dir.specs.declared.entries.Entry.{Entry}
-use Rattle.qc_index.specs.Filed.{in_slot}
+use Rattle.qc_chain.specs.Filed.{in_slot}
 use Rattle.qc_dir.proofs.EntrySteps.{read, entries-altered}
 use Rattle.qc_dir.proofs.entry_slots.EntrySlots.leave.Goals as goal
 

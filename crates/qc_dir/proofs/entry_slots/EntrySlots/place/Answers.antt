@@ -2,9 +2,9 @@ use Rattle.std.proofs.Common.{◌<◌, ap, refl, sym, subst, length, List, Optio
 use Rattle.std.proofs.lemmas.List.{length-set}
 use Rattle.std.specs.Option.{option_map, IsSome}
 use Rattle.qc_dir.specs.declared.entries.Entry.{Entry}
-use Rattle.qc_index.specs.Filed.{in_slot}
+use Rattle.qc_chain.specs.Filed.{in_slot}
 use Rattle.qc_dir.specs.Uses.{placed_text}
-use Rattle.qc_index.proofs.FiledSteps.{bucket-low}
+use Rattle.qc_chain.proofs.FiledSteps.{bucket-low}
 use Rattle.qc_dir.proofs.EntrySteps.{read, entries-placed}
 use Rattle.qc_dir.proofs.entry_slots.EntrySlots.place.Goals as goal
 

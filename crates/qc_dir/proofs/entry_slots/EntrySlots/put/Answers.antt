@@ -1,6 +1,6 @@
 use Rattle.std.proofs.Common.{◌<◌, ap, length, set, Some, arith}
 use Rattle.std.proofs.lemmas.List.{length-set}
-use Rattle.qc_index.proofs.FiledSteps.{bucket-low}
+use Rattle.qc_chain.proofs.FiledSteps.{bucket-low}
 use Rattle.qc_dir.proofs.EntrySteps.{entries-put}
 use Rattle.qc_dir.proofs.entry_slots.EntrySlots.put.Goals as goal
 

@@ -1,6 +1,6 @@
 use Rattle.std.proofs.Common.{◌<◌, ◌∙◌, ap, length, set, None, arith}
 use Rattle.std.proofs.lemmas.List.{get_or_read, length-set}
-use Rattle.qc_index.specs.Filed.{in_slot}
+use Rattle.qc_chain.specs.Filed.{in_slot}
 use Rattle.qc_dir.proofs.EntrySteps.{entries-put}
 use Rattle.qc_dir.proofs.entry_slots.EntrySlots.take.Goals as goal
 

@@ -2,7 +2,7 @@ use Rattle.qc_dir.proofs.KeyCounts.{none-under, some-under}
 use Rattle.qc_dir.proofs.keys.KeySet.any_under.Goals as goal
 use Rattle.std.proofs.Common.{ℕ, List, ◌≡◌, [], ◌∷◌, Option, Some, None}
 use Rattle.std.specs.Option.{MatchOption}
-use Rattle.qc_index.specs.Counts.{count}
+use Rattle.qc_chain.specs.Counts.{count}
 use Rattle.qc_dir.specs.Keys.{Keys, times, IsAnyUnder}
 
 any : (major : ℕ) (keys : Keys) (minors rest : List ℕ) (o : Option ℕ) → ((n : ℕ) → count n minors ≡ times (record { major = major; minor = n }) keys.keys) → MatchOption o ((minors ≡ []) × (rest ≡ [])) (λ n. minors ≡ n ∷ rest) → IsAnyUnder major keys.keys o

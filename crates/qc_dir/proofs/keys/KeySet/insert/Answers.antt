@@ -1,9 +1,9 @@
 use Rattle.std.proofs.Common.{◌<◌, ◌∙◌, sym, ap, subst, length, set, Some, arith}
 use Rattle.std.specs.Option.{IfSome}
-use Rattle.qc_index.specs.declared.keys.Key.{Key}
-use Rattle.qc_index.specs.Linked.{nodes_of}
+use Rattle.qc_chain.specs.declared.keys.Key.{Key}
+use Rattle.qc_chain.specs.Linked.{nodes_of}
 use Rattle.qc_dir.specs.Keys.{Keys, times}
-use Rattle.qc_index.proofs.FiledSteps.{first-there, bucket-low}
+use Rattle.qc_chain.proofs.FiledSteps.{first-there, bucket-low}
 use Rattle.qc_dir.proofs.KeyCounts.{IsInserted, inserted}
 use Rattle.qc_dir.proofs.keys.KeySet.insert.Goals.{In-Some, After-put_last-2}
 use Rattle.qc_dir.proofs.keys.KeySet.insert.Goals as goal

@@ -1,6 +1,6 @@
 use Rattle.std.proofs.Common.{◌+◌, refl, sym, subst}
 use Rattle.qc_dir.specs.Keys.{IsKeySet, major_home, pair_home}
-use Rattle.qc_index.proofs.FiledSteps.{free-filed, contents-free}
+use Rattle.qc_chain.proofs.FiledSteps.{free-filed, contents-free}
 use Rattle.qc_dir.proofs.KeyCounts.{major-low, pair-low}
 use Rattle.qc_dir.proofs.keys.KeySet.new.Goals as goal
 

@@ -1,7 +1,7 @@
 use Rattle.std.proofs.Common.{◌<◌, ◌∙◌, ap, subst, arith}
 use Rattle.std.specs.List.{AllByRecursion}
 use Rattle.qc_dir.specs.Keys.{Keys, times}
-use Rattle.qc_index.proofs.FiledSteps.{bucket-low}
+use Rattle.qc_chain.proofs.FiledSteps.{bucket-low}
 use Rattle.qc_dir.proofs.KeyCounts.{minors-are}
 use Rattle.qc_dir.proofs.keys.KeySet.under.Goals as goal
 

@@ -3,7 +3,7 @@ use Rattle.std.specs.List.{slice_get}
 use Rattle.std.specs.List.Sorted.{IsPermutation}
 use Rattle.std.specs.Option.{IsSome}
 use Rattle.std.specs.Vec.{vec_capacity}
-use Rattle.qc_index.specs.declared.keys.Key.{Key}
+use Rattle.qc_chain.specs.declared.keys.Key.{Key}
 use Rattle.qc_dir.specs.Slots.{Tabled, Numbered, held_from, numbered_at, name_key, place_key}
 use Rattle.qc_dir.proofs.SlotSteps.{slot_of, get-within, slots-emptied, held-take, length-held}
 use Rattle.qc_dir.proofs.SlotCalls.{slot_item, slot_full, key_counts}

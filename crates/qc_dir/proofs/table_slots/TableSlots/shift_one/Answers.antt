@@ -2,7 +2,7 @@ use Rattle.std.proofs.Common.{ℕ, ◌≡◌, ◌<◌, ◌+◌, ◌==◌, map, s
 use Rattle.std.specs.List.{slice_get}
 use Rattle.std.specs.Vec.{vec_capacity}
 use Rattle.std.proofs.lemmas.Bool.Decides.{nat_tests}
-use Rattle.qc_index.specs.declared.keys.Key.{Key}
+use Rattle.qc_chain.specs.declared.keys.Key.{Key}
 use Rattle.qc_dir.specs.Keys.{times, bit, same_key}
 use Rattle.qc_dir.specs.Slots.{Tabled, held_from, place_key, moved_numbered, blocks_at}
 use Rattle.qc_dir.proofs.SlotSteps.{slot_of, get-within, slots-placed, held-map, total-set}

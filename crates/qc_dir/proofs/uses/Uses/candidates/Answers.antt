@@ -2,7 +2,7 @@ use Rattle.std.proofs.Common.{ap, subst}
 use Rattle.std.specs.List.Sorted.{IsPermutation}
 use Rattle.std.proofs.lemmas.List.Sorted.{IsPermutation-trans}
 use Rattle.qc_dir.specs.Directory.{serials_under}
-use Rattle.qc_index.specs.Filed.{contents}
+use Rattle.qc_chain.specs.Filed.{contents}
 use Rattle.qc_dir.specs.Uses.{entries_of}
 use Rattle.qc_dir.proofs.UseSteps.{used, used-candidates}
 use Rattle.qc_dir.proofs.uses.Uses.candidates.Goals as goal

@@ -1,8 +1,8 @@
 use Rattle.std.proofs.Common.{◌<◌, ◌-◌, ◌+◌, ◌∷◌, [], ◌++◌, ◌∙◌, sym, ap, subst, not, length, arith}
 use Rattle.std.specs.Option.{IfSome}
-use Rattle.qc_index.specs.Linked.{nodes_of}
+use Rattle.qc_chain.specs.Linked.{nodes_of}
 use Rattle.qc_dir.specs.Keys.{bit}
-use Rattle.qc_index.proofs.FiledSteps.{first-there}
+use Rattle.qc_chain.proofs.FiledSteps.{first-there}
 use Rattle.qc_dir.specs.Uses.{Used, entries_of}
 use Rattle.qc_dir.proofs.UseSteps.{IsNow, put-in, counts-fit}
 use Rattle.qc_dir.proofs.uses.Uses.insert.Goals.{In-Some, After-put}

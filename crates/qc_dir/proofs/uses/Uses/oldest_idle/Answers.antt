@@ -2,7 +2,7 @@ use Rattle.std.proofs.Common.{◌<◌, ◌∙◌, sym, ap, subst, refl, arith}
 use Rattle.std.specs.List.{AllByRecursion}
 use Rattle.std.specs.Option.{option_to_list}
 use Rattle.qc_dir.specs.Directory.{oldest_idle}
-use Rattle.qc_index.specs.Filed.{in_slot, in_slots}
+use Rattle.qc_chain.specs.Filed.{in_slot, in_slots}
 use Rattle.qc_dir.specs.Uses.{Used, entries_of}
 use Rattle.qc_dir.proofs.UseSteps.{first-idle, not-idle}
 use Rattle.qc_dir.proofs.uses.Uses.oldest_idle.Goals as goal

@@ -1,7 +1,7 @@
 use Rattle.std.proofs.Common.{◌≡◌, ◌<◌, length}
 use Rattle.std.specs.List.{AllByRecursion}
 use Rattle.qc_dir.specs.Directory.{oldest_idle}
-use Rattle.qc_index.specs.Filed.{in_slots}
+use Rattle.qc_chain.specs.Filed.{in_slots}
 use Rattle.qc_dir.proofs.uses.Uses.oldest_idle.Given as goal
 
 abbrev pub invariant-loop-slot : goal.invariant-loop-slot

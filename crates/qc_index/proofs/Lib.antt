@@ -1,4 +1,0 @@
-pub mod Counting
-pub mod FiledSteps
-pub mod Linking
-pub mod Walks

@@ -1,6 +1,0 @@
-use Rattle.std.proofs.Common.{◌≡◌, length, vec_capacity}
-use Rattle.qc_run.specs.Opens.{IsOpening}
-use Rattle.qc_run.proofs.opens.open_all.Given as goal
-
-abbrev pub invariant-loop-input : goal.invariant-loop-input
-invariant-loop-input g l = IsOpening l.turn l.options l.fn.first l.first l.fn.inputs.items l.slots.items (length l.yielded) × (vec_capacity l.slots ≡ vec_capacity l.fn.slots)

@@ -1,4 +1,0 @@
-use Rattle.qc_run.proofs.slots.Slot.serve.Given as goal
-
-abbrev pub ghosts-serve_input : goal.ghosts-serve_input
-ghosts-serve_input g a = record { name = a.blank.name; parts = a.blank.parts }

@@ -1,5 +1,0 @@
-pub mod Sound
-pub mod Ends
-pub mod Statements
-pub mod Forms
-pub mod Selects
