@@ -43,15 +43,15 @@ use Rattle.qc_turn.specs.declared.turn.Turn.{Turn}
 use Rattle.qc_turn.specs.Bytes.{bytes_of}
 use Rattle.qc_turn.specs.Seats.{view}
 use Rattle.qc_core.specs.contracts.server.ServerKept.TheImpl.{ghosts}
-use Rattle.qc_core.specs.declared.parts.Parts.{Parts}
+use Rattle.qc_core.specs.declared.server_state.ServerState.{ServerState}
 use Rattle.qc_core.proofs.Seeking.{own_serial}
 use Rattle.qc_flow.specs.declared.streams.Stream.{Stream}
 use Rattle.qc_flow.specs.Streams.{IsStreamOf}
-use Rattle.qc_steps.specs.Selects.{arrived_at}
-use Rattle.qc_steps.specs.Sound.{IsFitAt, IsFitIn, IsFitState, IsPast, arrived_snapshot_state}
-use Rattle.qc_steps.proofs.Looking.{place_at, same_wrote, stale_at}
-use Rattle.qc_steps.proofs.States.{fit_arrived, fit_more}
-use Rattle.qc_serve.specs.declared.looks.Found.{Found}
+use Rattle.qc_statements.specs.Selects.{arrived_at}
+use Rattle.qc_statements.specs.Sound.{IsFitAt, IsFitIn, IsFitState, IsPast, arrived_snapshot_state}
+use Rattle.qc_statements.proofs.Looking.{place_at, same_wrote, stale_at}
+use Rattle.qc_statements.proofs.States.{fit_arrived, fit_more}
+use Rattle.qc_serve.specs.declared.lookup.Found.{Found}
 use Rattle.qc_serve.specs.declared.session.Session.{Session}
 use Rattle.qc_serve.specs.declared.sinks.Piece.{Piece}
 use Rattle.qc_serve.specs.Asking.{takes_snapshot}
@@ -60,12 +60,13 @@ use Rattle.qc_serve.specs.Going.{DoesOne, IsAtRest, as_fixed, next_who, number_o
 use Rattle.qc_serve.specs.Logs.{logged}
 use Rattle.qc_serve.specs.Querying.{EndsStream, HasFound, seen_with}
 use Rattle.qc_serve.specs.Seats.{SeatRests}
-use Rattle.qc_serve.specs.Sent.{Sends, SendsFrontOf}
-use Rattle.qc_serve.specs.SentAt.{SendsAt}
+use Rattle.qc_serve.specs.Sent.{Adds, AreCut, NoneIsEmpty, Sends, SendsFrontOf, hit_size}
+use Rattle.qc_serve.specs.SentAt.{SendsAt, SendsFrontAt}
 use Rattle.qc_serve.proofs.Answering.{answers_event}
 use Rattle.qc_serve.proofs.Hitting.{from_map}
 use Rattle.qc_serve.proofs.Resting.{fit_taken}
-use Rattle.qc_serve.proofs.PiecesPut.{put_hit}
+use Rattle.qc_serve.proofs.PiecesPut.{put_hit, streamed_hit}
+use Rattle.qc_serve.proofs.Sending.{front_plain}
 
 -- ---- a select that may be kept names a table
 
@@ -132,7 +133,7 @@ same_bytes o a b h g = let both : Some a ≡ Some b = sym h ∙ g in cc
 
 -- ---- what the hit answers
 
-module _ (t : Turn Parts Event) (text : List ℕ) (old held : Session) (found : Found) (rest : IsAtRest t old) (f : HasFound t text old held found) where
+module _ (t : Turn ServerState Event) (text : List ℕ) (old held : Session) (found : Found) (rest : IsAtRest t old) (f : HasFound t text old held found) where
   abbrev n : ℕ
   n = found.hit.serial
 
@@ -284,16 +285,17 @@ module _ (t : Turn Parts Event) (text : List ℕ) (old held : Session) (found : 
         ap (own (number_of old)) seen_now ∙ (one_more (number_of old) I J [] [] e goes.none refl mine refl ∙ ap (λ (p : ℕ). own (number_of old) I ++ (p, e) ∷ []) at_place)
 
     -- the reply went out
-    pub hit_replied : (was_held out : Option (List Piece)) → SendsAt (task.Stream n) was_held out bytes → IsReplied t (command.Query text) old new was_held out
-    hit_replied was_held out sends = record { reply = bytes; does = does_hit; sends = plain was_held sends; at = put_hit old new new.place n _ was_held out bytes hit_grows sends }
+    pub hit_replied : (was_held out : Option (List Piece)) → SendsAt (task.Stream n) was_held out bytes → Adds was_held out (AreCut hit_size) → Adds was_held out NoneIsEmpty → IsReplied t (command.Query text) old new was_held out
+    unfolding does_hit
+    hit_replied was_held out sends cut some = record { reply = bytes; does = does_hit; sends = plain was_held sends; at = put_hit old new new.place n _ was_held out bytes hit_grows sends; cut = cut; some = some }
       where
         plain : (o : Option (List Piece)) → SendsAt (task.Stream n) o out bytes → Sends o out bytes
         plain None h = h
         plain (Some ps) h = (h.0, h.1, h.2.0)
 
     -- or a front of it
-    pub hit_ends : (was_held out : Option (List Piece)) → SendsFrontOf was_held out bytes → MustEnd t (command.Query text) old new was_held out
-    hit_ends was_held out front =
+    pub hit_ends : (was_held out : Option (List Piece)) → SendsFrontAt (task.Stream n) was_held out bytes → Adds was_held out (AreCut hit_size) → MustEnd t (command.Query text) old new was_held out
+    hit_ends was_held out front cut =
         let I : Journal = seen_by old in
         let goes = f.streams.decides.goes_on in
         let does = does_hit in
@@ -318,8 +320,10 @@ module _ (t : Turn Parts Event) (text : List ℕ) (old held : Session) (found : 
             sent = inr (
               l,
               subst (λ (o : Local). MatchOption o (HasEventLine whole_machine old.options (number_of old) (position_of old) (command.Query text) l (seen_by new)) (λ given. (l ≡ line old.place word.Local given.0) × (own (number_of old) (seen_by new) ≡ own (number_of old) (seen_by old)))) (sym no_local) event_line,
-              subst (λ (b : List ℕ). SendsFrontOf was_held out b) bytes_is front,
+              subst (λ (b : List ℕ). SendsFrontOf was_held out b) bytes_is (front_plain (task.Stream n) was_held out bytes front),
+              cut,
             );
+            at = streamed_hit old new new.place n _ was_held out bytes grows front;
           };
         }
 
@@ -333,7 +337,7 @@ pub has_put : (held seen mid : Session) (found : Found) → seen ≡ record held
 has_put held seen mid found sees is = is ∙ (λ i. record (sees i) { place = found.hit.place; log = mid.log })
 
 -- mid: the line was_held put; new: the stream has ended
-pub streamed : (t : Turn Parts Event) (text : List ℕ) (old held mid new : Session) (found : Found) (rest : IsAtRest t old) (f : HasFound t text old held found)
+pub streamed : (t : Turn ServerState Event) (text : List ℕ) (old held mid new : Session) (found : Found) (rest : IsAtRest t old) (f : HasFound t text old held found)
     → HasPut held mid found → mid.log.lines ≡ held.log.lines ++ logged found.hit.place word.Hit ∷ []
     → EndsStream t (number_of mid) mid.seat new.seat → new ≡ record mid { seat = new.seat } → Streamed t text old held found rest f new
 streamed t text old held mid new found rest f is lines ends same =
@@ -342,10 +346,10 @@ streamed t text old held mid new found rest f is lines ends same =
     let shares = f.streams.decides.is_so.1 in
     record {
       rests = subst (λ (k : ℕ). SeatRests t k new.seat) session ends.rests;
-      seen = ends.seen ∙ ap (λ (x : Seat Parts Event ghosts). (view x).seen) seat;
-      fixed = ends.fixed ∙ ap (λ (x : Seat Parts Event ghosts). (view x).fixed) seat;
-      registry = ends.registry ∙ ap (λ (x : Seat Parts Event ghosts). (view x).registry) seat;
-      room = ends.room ∙ ap (λ (x : Seat Parts Event ghosts). x.ranges.room) seat;
+      seen = ends.seen ∙ ap (λ (x : Seat ServerState Event ghosts). (view x).seen) seat;
+      fixed = ends.fixed ∙ ap (λ (x : Seat ServerState Event ghosts). (view x).fixed) seat;
+      registry = ends.registry ∙ ap (λ (x : Seat ServerState Event ghosts). (view x).registry) seat;
+      room = ends.room ∙ ap (λ (x : Seat ServerState Event ghosts). x.ranges.room) seat;
       state = ap (λ (x : Session). x.state) same ∙ (ap (λ (x : Session). x.state) is ∙ (ap (λ (x : Session). seen_with found.hit.place found.database (after_arrival x.state)) f.same ∙ seen_share found.hit.place shares.database found.database old.state shares.share));
       place = ap (λ (x : Session). x.place) same ∙ ap (λ (x : Session). x.place) is;
       lines = ap (λ (x : Session). x.log.lines) same ∙ (lines ∙ ap (λ (x : Session). x.log.lines ++ logged found.hit.place word.Hit ∷ []) f.same);
@@ -354,19 +358,19 @@ streamed t text old held mid new found rest f is lines ends same =
     }
 
 -- whatever became of the reply
-pub hit_replies : {X E : Type 0} (t : Turn Parts Event) (text : List ℕ) (old held mid new : Session) (found : Found) (r : Result X E) (was_held out : Option (List Piece)) (rest : IsAtRest t old) (f : HasFound t text old held found) → Streamed t text old held found rest f new → mid.seat ≡ held.seat
-    → OnOk r (SendsAt (task.Stream found.hit.serial) was_held out (take found.hit.bytes (bytes_of (view mid.seat).content))) → OnOk r (IsReplied t (command.Query text) old new was_held out)
-hit_replies t text old held mid new found (Ok x) was_held out rest f s seat sends = hit_replied t text old held found rest f new s was_held out (subst (λ (y : Seat Parts Event ghosts). SendsAt (task.Stream found.hit.serial) was_held out (take found.hit.bytes (bytes_of (view y).content))) seat sends)
-hit_replies t text old held mid new found (Err e) was_held out rest f s seat sends = tt
+pub hit_replies : {X E : Type 0} (t : Turn ServerState Event) (text : List ℕ) (old held mid new : Session) (found : Found) (r : Result X E) (was_held out : Option (List Piece)) (rest : IsAtRest t old) (f : HasFound t text old held found) → Streamed t text old held found rest f new → mid.seat ≡ held.seat
+    → OnOk r (SendsAt (task.Stream found.hit.serial) was_held out (take found.hit.bytes (bytes_of (view mid.seat).content))) → Adds was_held out (AreCut hit_size) → OnOk r (Adds was_held out NoneIsEmpty) → OnOk r (IsReplied t (command.Query text) old new was_held out)
+hit_replies t text old held mid new found (Ok x) was_held out rest f s seat sends cut some = hit_replied t text old held found rest f new s was_held out (subst (λ (y : Seat ServerState Event ghosts). SendsAt (task.Stream found.hit.serial) was_held out (take found.hit.bytes (bytes_of (view y).content))) seat sends) cut some
+hit_replies t text old held mid new found (Err e) was_held out rest f s seat sends cut some = tt
 
-pub hit_breaks : {X E : Type 0} (t : Turn Parts Event) (text : List ℕ) (old held mid new : Session) (found : Found) (r : Result X E) (was_held out : Option (List Piece)) (rest : IsAtRest t old) (f : HasFound t text old held found) → Streamed t text old held found rest f new → mid.seat ≡ held.seat
-    → OnErr r (SendsFrontOf was_held out (take found.hit.bytes (bytes_of (view mid.seat).content))) → OnErr r (MustEnd t (command.Query text) old new was_held out)
-hit_breaks t text old held mid new found (Ok x) was_held out rest f s seat front = tt
-hit_breaks t text old held mid new found (Err e) was_held out rest f s seat front = hit_ends t text old held found rest f new s was_held out (subst (λ (y : Seat Parts Event ghosts). SendsFrontOf was_held out (take found.hit.bytes (bytes_of (view y).content))) seat front)
+pub hit_breaks : {X E : Type 0} (t : Turn ServerState Event) (text : List ℕ) (old held mid new : Session) (found : Found) (r : Result X E) (was_held out : Option (List Piece)) (rest : IsAtRest t old) (f : HasFound t text old held found) → Streamed t text old held found rest f new → mid.seat ≡ held.seat
+    → OnErr r (SendsFrontAt (task.Stream found.hit.serial) was_held out (take found.hit.bytes (bytes_of (view mid.seat).content))) → Adds was_held out (AreCut hit_size) → OnErr r (MustEnd t (command.Query text) old new was_held out)
+hit_breaks t text old held mid new found (Ok x) was_held out rest f s seat front cut = tt
+hit_breaks t text old held mid new found (Err e) was_held out rest f s seat front cut = hit_ends t text old held found rest f new s was_held out (subst (λ (y : Seat ServerState Event ghosts). SendsFrontAt (task.Stream found.hit.serial) was_held out (take found.hit.bytes (bytes_of (view y).content))) seat front) cut
 
 -- what the stream asks
-pub may_stream : (t : Turn Parts Event) (text : List ℕ) (old held mid : Session) (found : Found) → HasFound t text old held found → HasPut held mid found
+pub may_stream : (t : Turn ServerState Event) (text : List ℕ) (old held mid : Session) (found : Found) → HasFound t text old held found → HasPut held mid found
     → (x : Stream) → x.serial ≡ found.hit.serial → x.bytes ≡ found.hit.bytes → IsStreamOf x (view mid.seat)
 may_stream t text old held mid found f is x serial size =
     let s = f.streams.streams in
-    subst (λ (y : Seat Parts Event ghosts). IsStreamOf x (view y)) (sym (ap (λ (z : Session). z.seat) is)) (s.streams x serial size)
+    subst (λ (y : Seat ServerState Event ghosts). IsStreamOf x (view y)) (sym (ap (λ (z : Session). z.seat) is)) (s.streams x serial size)

@@ -23,9 +23,9 @@ use Rattle.qc_model.specs.Session.{State, arrived}
 use Rattle.qc_laws.specs.runs.Runs.{Answers, HasItsEvent, HasNoEvent, Position, StartsWith, own, stand}
 use Rattle.qc_laws.proofs.runs.Steps.{before_it, one_more}
 use Rattle.qc_laws.proofs.runs.Whole.{own_count}
-use Rattle.qc_steps.proofs.Words.{others_end}
+use Rattle.qc_statements.proofs.Words.{others_end}
 use Rattle.qc_turn.specs.declared.turn.Turn.{Turn}
-use Rattle.qc_core.specs.declared.parts.Parts.{Parts}
+use Rattle.qc_core.specs.declared.server_state.ServerState.{ServerState}
 use Rattle.qc_serve.specs.declared.session.Session.{Session}
 use Rattle.qc_serve.specs.Going.{DoesOne, DoesStatement, GivesOut, IsEventOf, IsGivenBy, Stops, StopsStatement, TellsOut, next_who, number_of, position_of, seen_by}
 use Rattle.qc_serve.proofs.Givens.{used_own}
@@ -85,7 +85,7 @@ others_need options earlier key (event.Flush who) h = tt
 
 -- ---- a command was answered
 
-pub given_does : (t : Turn Parts Event) (c : Command) (old new : Session) (reply : List ℕ) (given : Journal → Given) → local old.state.state c ≡ None
+pub given_does : (t : Turn ServerState Event) (c : Command) (old new : Session) (reply : List ℕ) (given : Journal → Given) → local old.state.state c ≡ None
     → ((J : Journal) → Executes old.options (next_who old) old.state.state c J (given J).event (given J).reply (given J).next) → ((J : Journal) → (given J).next.session ≡ number_of old) → GivesOut t old new reply given → DoesOne t c old new reply
 given_does t c old new reply given none does session out =
     let I : Journal = seen_by old in
@@ -111,7 +111,7 @@ given_does t c old new reply given none does session out =
       rest = out.rest;
     }
 
-pub told_does : (t : Turn Parts Event) (c : Command) (old new : Session) (bytes : List ℕ) (r : Reply) (next : State) → local old.state.state c ≡ Some (r, next) → next.session ≡ number_of old → TellsOut t old new bytes r next → DoesOne t c old new bytes
+pub told_does : (t : Turn ServerState Event) (c : Command) (old new : Session) (bytes : List ℕ) (r : Reply) (next : State) → local old.state.state c ≡ Some (r, next) → next.session ≡ number_of old → TellsOut t old new bytes r next → DoesOne t c old new bytes
 told_does t c old new bytes r next is session out =
     let I : Journal = seen_by old in
     record {
@@ -129,33 +129,33 @@ told_does t c old new bytes r next is session out =
 
 -- ---- each command that is no query
 
-pub ping_does : (t : Turn Parts Event) (old new : Session) (bytes : List ℕ) → TellsOut t old new bytes (ok_reply old.state.state 0) old.state.state → DoesOne t command.Ping old new bytes
+pub ping_does : (t : Turn ServerState Event) (old new : Session) (bytes : List ℕ) → TellsOut t old new bytes (ok_reply old.state.state 0) old.state.state → DoesOne t command.Ping old new bytes
 ping_does t old new bytes out = told_does t command.Ping old new bytes (ok_reply old.state.state 0) old.state.state refl refl out
 
-pub unknown_does : (t : Turn Parts Event) (byte : ℕ) (old new : Session) (bytes : List ℕ) → TellsOut t old new bytes (refused unknown_command) old.state.state → DoesOne t (command.Unknown byte) old new bytes
+pub unknown_does : (t : Turn ServerState Event) (byte : ℕ) (old new : Session) (bytes : List ℕ) → TellsOut t old new bytes (refused unknown_command) old.state.state → DoesOne t (command.Unknown byte) old new bytes
 unknown_does t byte old new bytes out = told_does t (command.Unknown byte) old new bytes (refused unknown_command) old.state.state refl refl out
 
-pub empty_does : (t : Turn Parts Event) (old new : Session) (bytes : List ℕ) → TellsOut t old new bytes (refused unknown_command) old.state.state → DoesOne t command.Empty old new bytes
+pub empty_does : (t : Turn ServerState Event) (old new : Session) (bytes : List ℕ) → TellsOut t old new bytes (refused unknown_command) old.state.state → DoesOne t command.Empty old new bytes
 empty_does t old new bytes out = told_does t command.Empty old new bytes (refused unknown_command) old.state.state refl refl out
 
-pub choose_does : (t : Turn Parts Event) (name : Name) (old new : Session) (bytes : List ℕ) → GivesOut t old new bytes (λ journal. used (next_who old) old.state.state journal name) → DoesOne t (command.InitDb name) old new bytes
+pub choose_does : (t : Turn ServerState Event) (name : Name) (old new : Session) (bytes : List ℕ) → GivesOut t old new bytes (λ journal. used (next_who old) old.state.state journal name) → DoesOne t (command.InitDb name) old new bytes
 choose_does t name old new bytes out =
     given_does t (command.InitDb name) old new bytes (λ journal. used (next_who old) old.state.state journal name) refl (λ J. (refl, refl, refl)) (λ J. let g = used_own (next_who old) J old.state.state name in g.session) out
 
 -- ---- a statement was answered
 
-pub statement_given : (t : Turn Parts Event) (s : Statement) (old new : Session) (reply : List ℕ) (given : Journal → Given) → local_text old.state.state (Ok s) ≡ None
+pub statement_given : (t : Turn ServerState Event) (s : Statement) (old new : Session) (reply : List ℕ) (given : Journal → Given) → local_text old.state.state (Ok s) ≡ None
     → ((text : List ℕ) (J : Journal) → ExecutesStatement old.options (next_who old) (arrived (length J + 1) s old.state.state) text J s (given J).event (given J).reply (given J).next)
     → ((J : Journal) → (given J).next.session ≡ number_of old) → GivesOut t old new reply given → DoesStatement t s old new reply
 statement_given t s old new reply given no_local does session out = λ text is.
     given_does t (command.Query text) old new reply given (rw is no_local) (λ J. rw is (does text J)) session out
 
-pub statement_told : (t : Turn Parts Event) (s : Statement) (old new : Session) (bytes : List ℕ) (r : Reply) (next : State) → local_text old.state.state (Ok s) ≡ Some (r, next) → next.session ≡ number_of old
+pub statement_told : (t : Turn ServerState Event) (s : Statement) (old new : Session) (bytes : List ℕ) (r : Reply) (next : State) → local_text old.state.state (Ok s) ≡ Some (r, next) → next.session ≡ number_of old
     → TellsOut t old new bytes r next → DoesStatement t s old new bytes
 statement_told t s old new bytes r next local_is session out = λ text is.
     told_does t (command.Query text) old new bytes r next (rw is local_is) session out
 
-pub fault_told : (t : Turn Parts Event) (text : List ℕ) (fault : ParseFault) (old new : Session) (bytes : List ℕ) → meaning (trimmed text) old.state.state.ansi ≡ Err fault → TellsOut t old new bytes (refused (fault_error fault)) old.state.state
+pub fault_told : (t : Turn ServerState Event) (text : List ℕ) (fault : ParseFault) (old new : Session) (bytes : List ℕ) → meaning (trimmed text) old.state.state.ansi ≡ Err fault → TellsOut t old new bytes (refused (fault_error fault)) old.state.state
     → DoesOne t (command.Query text) old new bytes
 fault_told t text fault old new bytes is out = told_does t (command.Query text) old new bytes (refused (fault_error fault)) old.state.state (rw is refl) refl out
 
@@ -171,7 +171,7 @@ given_event c old given J e none does is = record {
   executes = subst (λ (x : Event). Executes old.options (next_who old) old.state.state c J x (given J).reply (given J).next) (sym is) does;
 }
 
-pub choose_stops : (t : Turn Parts Event) (name : Name) (old new : Session) → Stops t old new (IsGivenBy (λ journal. used (next_who old) old.state.state journal name)) → Stops t old new (IsEventOf (command.InitDb name) old)
+pub choose_stops : (t : Turn ServerState Event) (name : Name) (old new : Session) → Stops t old new (IsGivenBy (λ journal. used (next_who old) old.state.state journal name)) → Stops t old new (IsEventOf (command.InitDb name) old)
 choose_stops t name old new stops =
     let given : Journal → Given = λ journal. used (next_who old) old.state.state journal name in
     stops_as t old new (IsGivenBy given) (IsEventOf (command.InitDb name) old) (λ J e is. given_event (command.InitDb name) old given J e refl (refl, refl, refl) is) stops
@@ -181,7 +181,7 @@ pub statement_event : (text : List ℕ) (s : Statement) (old : Session) (given :
     → ExecutesStatement old.options (next_who old) (arrived (length J + 1) s old.state.state) text J s (given J).event (given J).reply (given J).next → IsGivenBy given J e → IsEventOf (command.Query text) old J e
 statement_event text s old given J e means no_local does is = given_event (command.Query text) old given J e (rw means no_local) (rw means does) is
 
-pub statement_stops : (t : Turn Parts Event) (s : Statement) (old new : Session) (given : Journal → Given) → local_text old.state.state (Ok s) ≡ None
+pub statement_stops : (t : Turn ServerState Event) (s : Statement) (old new : Session) (given : Journal → Given) → local_text old.state.state (Ok s) ≡ None
     → ((text : List ℕ) (J : Journal) → ExecutesStatement old.options (next_who old) (arrived (length J + 1) s old.state.state) text J s (given J).event (given J).reply (given J).next)
     → Stops t old new (IsGivenBy given) → StopsStatement t s old new
 statement_stops t s old new given no_local does stops = λ text means.

@@ -10,7 +10,7 @@ use Rattle.qc_model.specs.Journal.{Journal}
 use Rattle.qc_model.specs.Machine.{ended_with, ok_reply, other, set_autocommit}
 use Rattle.qc_model.specs.Session.{State, with_transaction}
 use Rattle.qc_model.specs.Settings.{is_autocommit, set_to, with}
-use Rattle.qc_steps.specs.Statements.{switched}
+use Rattle.qc_statements.specs.Statements.{switched}
 
 name_of : Setting → Name
 name_of (setting.Names w) = w

@@ -20,17 +20,17 @@ use Rattle.qc_model.specs.Session.{State, base, own_operations, snapshot_of}
 use Rattle.qc_trx.specs.SnapshotStates.{SnapshotState}
 use Rattle.qc_turn.specs.Seats.{Held}
 use Rattle.qc_core.specs.contracts.server.ServerKept.TheImpl.{ghosts}
-use Rattle.qc_core.specs.declared.parts.Parts.{Parts}
-use Rattle.qc_steps.specs.Sound.{IsFitState, IsPast, MayFollow}
-use Rattle.qc_steps.specs.Ends.{conflict_given, full_given}
-use Rattle.qc_steps.specs.Statements.{changes_rows}
+use Rattle.qc_core.specs.declared.server_state.ServerState.{ServerState}
+use Rattle.qc_statements.specs.Sound.{IsFitState, IsPast, MayFollow}
+use Rattle.qc_statements.specs.Ends.{conflict_given, full_given}
+use Rattle.qc_statements.specs.Statements.{changes_rows}
 use Rattle.qc_trx.specs.declared.conflict.Conflict.{Conflict}
-use Rattle.qc_steps.proofs.Choices.{view_is}
-use Rattle.qc_steps.proofs.Keeping.{effect_refused, rows_own}
+use Rattle.qc_statements.proofs.Choices.{view_is}
+use Rattle.qc_statements.proofs.Keeping.{effect_refused, rows_own}
 use Rattle.qc_trx.specs.SnapshotStates.{seen_on}
 use Rattle.qc_serve.specs.Ends.{FormsAs, IsGiven, RowsAs}
 use Rattle.qc_serve.specs.Seats.{IsReady, Pushes, PushesOne}
-use Rattle.qc_serve.specs.declared.forms.FormsEnd.TheVariants as forms
+use Rattle.qc_serve.specs.declared.schema.FormsEnd.TheVariants as forms
 use Rattle.qc_serve.specs.declared.rows.RowsEnd.TheVariants as rows
 use Rattle.qc_serve.proofs.Endings.{committed_none, committed_some, ready_makes}
 
@@ -42,7 +42,7 @@ is_given g h is = record { event = ap (λ (x : Given). x.event) is; reply = sym 
 -- ---- rows
 
 -- what the session sees on the server's database
-pub sees_base : (who : Who) (h : Held Parts Event ghosts) (x : SnapshotState) → IsReady who h → IsFitState h.value.journal.events x → seen_on h.value.database x ≡ base x.state h.value.journal.events
+pub sees_base : (who : Who) (h : Held ServerState Event ghosts) (x : SnapshotState) → IsReady who h → IsFitState h.value.journal.events x → seen_on h.value.database x ≡ base x.state h.value.journal.events
 sees_base who h x r fit = let m = ready_makes who h r in view_is h.value.journal.events h.value.database x m.1 fit
 
 base_closed : (J : Journal) (state : State) → state.transaction ≡ None → base state J ≡ present J
@@ -52,7 +52,7 @@ pub closed_past : (J : Journal) (state : State) → state.transaction ≡ None �
 closed_past J state closed = rw closed tt
 
 -- what a statement does on rows outside of a transaction may be carried out
-pub rows_may : (who : Who) (h : Held Parts Event ghosts) (st : Statement) (x : SnapshotState) (e : Effect) → IsReady who h → IsFitState h.value.journal.events x → changes_rows st ≡ true → is_short_statement st ≡ true → x.state.transaction ≡ None
+pub rows_may : (who : Who) (h : Held ServerState Event ghosts) (st : Statement) (x : SnapshotState) (e : Effect) → IsReady who h → IsFitState h.value.journal.events x → changes_rows st ≡ true → is_short_statement st ≡ true → x.state.transaction ≡ None
     → effect st (base x.state h.value.journal.events) x.state.db x.state.session ≡ Ok e → MayFollow e.operations h.value.database
 rows_may who h st x e r fit rows short closed is =
     let J = h.value.journal.events in
@@ -69,7 +69,7 @@ rows_changed who state st J e v closed is made =
     let given = is_given (record { event = committed who e.operations; reply = ok_reply state e.affected; next = state }) (changed_rows who state (Ok e)) (changed_closed who state e closed) in
     subst (λ (p : Event × Result Effect SqlError). IsGiven (changed_rows who state p.1) p.0 (ok_reply state e.affected) state) (λ i. (made i, sym is i)) given
 
-pub rows_committed : (who : Who) (h k : Held Parts Event ghosts) (st : Statement) (x : SnapshotState) (e : Effect) → x.state.transaction ≡ None → effect st (base x.state h.value.journal.events) x.state.db x.state.session ≡ Ok e → (length e.operations == 0) ≡ false
+pub rows_committed : (who : Who) (h k : Held ServerState Event ghosts) (st : Statement) (x : SnapshotState) (e : Effect) → x.state.transaction ≡ None → effect st (base x.state h.value.journal.events) x.state.db x.state.session ≡ Ok e → (length e.operations == 0) ≡ false
     → Pushes who (event.Commit who e.operations) h k → PushesOne who h k (λ J v. RowsAs who x.state st J v (rows.Changes e.affected))
 rows_committed who h k st x e closed is some pushes = record {
   event = event.Commit who e.operations;
@@ -77,7 +77,7 @@ rows_committed who h k st x e closed is some pushes = record {
   pushes = pushes;
 }
 
-pub rows_none : (who : Who) (h k : Held Parts Event ghosts) (st : Statement) (x : SnapshotState) (e : Effect) → x.state.transaction ≡ None → effect st (base x.state h.value.journal.events) x.state.db x.state.session ≡ Ok e → (length e.operations == 0) ≡ true
+pub rows_none : (who : Who) (h k : Held ServerState Event ghosts) (st : Statement) (x : SnapshotState) (e : Effect) → x.state.transaction ≡ None → effect st (base x.state h.value.journal.events) x.state.db x.state.session ≡ Ok e → (length e.operations == 0) ≡ true
     → Pushes who (event.Run who how.Other) h k → PushesOne who h k (λ J v. RowsAs who x.state st J v (rows.Changes e.affected))
 rows_none who h k st x e closed is none pushes = record {
   event = event.Run who how.Other;
@@ -86,7 +86,7 @@ rows_none who h k st x e closed is none pushes = record {
 }
 
 -- it was refused
-pub rows_refused : (who : Who) (h : Held Parts Event ghosts) (st : Statement) (x : SnapshotState) (e : SqlError) → IsReady who h → IsFitState h.value.journal.events x → is_short_statement st ≡ true
+pub rows_refused : (who : Who) (h : Held ServerState Event ghosts) (st : Statement) (x : SnapshotState) (e : SqlError) → IsReady who h → IsFitState h.value.journal.events x → is_short_statement st ≡ true
     → effect st (base x.state h.value.journal.events) x.state.db x.state.session ≡ Err e → RowsAs who x.state st h.value.journal.events (event.Run who how.Other) (rows.Refused e)
 rows_refused who h st x e r fit short is =
     let J = h.value.journal.events in
@@ -116,7 +116,7 @@ forms_committed who state st J e ops same is =
 pub more_some : (own ops : List RowOp) → 0 < length ops → 0 < length (own ++ ops)
 more_some own ops h = omega (arith, length-append own ops)
 
-pub forms_pushed : (who : Who) (h k : Held Parts Event ghosts) (state : State) (st : Statement) (e : Effect) (ops : List RowOp) → ops ≡ own_operations state ++ e.operations → form_given who state (own_operations state) (Ok e) ≡ changed_form who state h.value.journal.events st
+pub forms_pushed : (who : Who) (h k : Held ServerState Event ghosts) (state : State) (st : Statement) (e : Effect) (ops : List RowOp) → ops ≡ own_operations state ++ e.operations → form_given who state (own_operations state) (Ok e) ≡ changed_form who state h.value.journal.events st
     → Pushes who (event.Commit who ops) h k → PushesOne who h k (λ J v. FormsAs who state st J v (forms.Changes e.affected))
 forms_pushed who h k state st e ops same is pushes = record {
   event = event.Commit who ops;

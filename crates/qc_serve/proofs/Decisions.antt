@@ -1,6 +1,6 @@
 -- A SELECT is decided under the turn: what its seat then may go on with, and what was decided.
-use Rattle.std.proofs.Common.{◌≡◌, ℕ, ◌+◌, ◌*◌, ◌≤◌, Bool, true, false, cond, List, [], ◌∷◌, ◌++◌, refl, sym, ap, ◌∙◌, subst, arith}
-use Rattle.std.specs.Prelude.{◌==◌, Option, Some, None, option_map}
+use Rattle.std.proofs.Common.{◌≡◌, ℕ, ◌*◌, ◌≤◌, Bool, true, false, cond, List, [], ◌∷◌, ◌++◌, refl, sym, ap, ◌∙◌, subst, arith}
+use Rattle.std.specs.Prelude.{◌==◌, slice_index, Option, Some, None, option_map}
 use Rattle.std.specs.List.{list_any}
 use Rattle.std.proofs.lemmas.Option.{none-some}
 use Rattle.qc_types.specs.declared.names.TableName.{TableName}
@@ -31,25 +31,26 @@ use Rattle.qc_turn.specs.Seats.{Held, MayRelease, holder, taken, with_ranges}
 use Rattle.qc_turn.specs.Tasks.{listed_for, own}
 use Rattle.qc_turn.specs.Views.{base_of}
 use Rattle.qc_core.specs.contracts.server.ServerKept.TheImpl.{ghosts}
-use Rattle.qc_core.specs.declared.parts.Parts.{Parts}
-use Rattle.qc_core.specs.declared.starts.Begun.{Begun}
-use Rattle.qc_core.specs.declared.starts.Begun.TheVariants as begun
-use Rattle.qc_core.specs.Allocates.{PrunesMany}
-use Rattle.qc_core.specs.Reserved.{Reserved}
-use Rattle.qc_core.specs.Starts.{IsBegun, Takes, needs_of}
-use Rattle.qc_core.specs.Strikes.{rested}
-use Rattle.qc_core.specs.Sweeps.{Finds, swept}
+use Rattle.qc_core.specs.declared.server_state.ServerState.{ServerState}
+use Rattle.qc_core.specs.declared.entry_start.Begun.{Begun}
+use Rattle.qc_core.specs.declared.entry_start.Begun.TheVariants as begun
+use Rattle.qc_core.specs.Eviction.{PrunesMany}
+use Rattle.qc_core.specs.ListRoom.{Reserved}
+use Rattle.qc_core.specs.EntryStart.{IsBegun, Takes, needs_of}
+use Rattle.qc_core.specs.TaskEnd.{rested}
+use Rattle.qc_core.specs.EndedStreams.{Finds, swept}
 use Rattle.qc_core.specs.Whole.{tasks_of}
 use Rattle.qc_core.proofs.FillTasks.{pruned_after}
 use Rattle.qc_select.specs.declared.selected.Selected.{Selected}
 use Rattle.qc_select.specs.declared.selected.Selected.TheVariants as selected
 use Rattle.qc_select.specs.Selects.{Decided, Decides, Does, MayAsk, how_of, place_of, selected_tasks}
 use Rattle.qc_select.specs.Settled.{state_at}
-use Rattle.qc_steps.specs.Sound.{IsFitState}
-use Rattle.qc_steps.proofs.Looking.{place_by_fit}
-use Rattle.qc_steps.proofs.States.{stands_in}
-use Rattle.qc_serve.specs.Asking.{HasBegun, HasHeld, IsAsking, IsDecided, MaySelect, SelectsHeld, TurnsHeld, task_of}
+use Rattle.qc_statements.specs.Sound.{IsFitState}
+use Rattle.qc_statements.proofs.Looking.{place_by_fit}
+use Rattle.qc_statements.proofs.States.{stands_in}
+use Rattle.qc_serve.specs.Holding.{HasBegun, TurnsHeld}
 use Rattle.qc_serve.specs.Ends.{Makes}
+use Rattle.qc_serve.specs.Asking.{HasHeld, IsAsking, IsDecided, MaySelect, SelectsHeld, task_of}
 use Rattle.qc_serve.specs.Seats.{IsReady, IsSameSeat, SameBooks, next_of}
 use Rattle.qc_serve.proofs.Books.{more_books, rested_books, swept_books}
 use Rattle.qc_serve.proofs.Deciding.{fit_taken, ready_goes_on, ready_who}
@@ -59,39 +60,39 @@ use Rattle.qc_serve.proofs.Seating.{found_seat}
 
 -- ---- who is connected stays so
 
-many_connected : (tables : List TableName) (need count : ℕ) (s t : Parts) → PrunesMany tables need count s t → t.connected ≡ s.connected
+many_connected : (tables : List TableName) (need count : ℕ) (s t : ServerState) → PrunesMany tables need count s t → t.connected ≡ s.connected
 many_connected tables need count s t h = let after = pruned_after tables need count s t h in after.connected
 
-takes_connected : (tables : List TableName) (needs : List ℕ) (s : Parts) (bs : List Block) (t : Parts) → Takes tables needs s bs t → t.connected ≡ s.connected
-takes_connected tables [] s [] t h = ap (λ (x : Parts). x.connected) h
+takes_connected : (tables : List TableName) (needs : List ℕ) (s : ServerState) (bs : List Block) (t : ServerState) → Takes tables needs s bs t → t.connected ≡ s.connected
+takes_connected tables [] s [] t h = ap (λ (x : ServerState). x.connected) h
 takes_connected tables [] s (b ∷ bs) t h = absurd h
 takes_connected tables (need ∷ needs) s [] t h = absurd h
 takes_connected tables (need ∷ needs) s (b ∷ bs) t h =
     let one = h.1 in
-    takes_connected tables needs h.0 bs t h.2 ∙ (ap (λ (x : Parts). x.connected) one.server ∙ many_connected tables need one.count s one.mid one.prunes)
+    takes_connected tables needs h.0 bs t h.2 ∙ (ap (λ (x : ServerState). x.connected) one.server ∙ many_connected tables need one.count s one.mid one.prunes)
 
-begun_connected : (seat : ℕ) (who : Who) (key : List ℕ) (tables : List TableName) (s t : Parts) (before after : Ranged) (b : Begun) → IsBegun seat who key tables s t before after b → t.connected ≡ s.connected
-begun_connected seat who key tables s t before after (begun.Started b) h = let adds = h.adds in ap (λ (x : Parts). x.connected) adds.server ∙ takes_connected tables (needs_of s.options s.dir.tables tables key) s (h.blocks ++ h.first ∷ h.text ∷ []) h.mid h.takes
+begun_connected : (seat : ℕ) (who : Who) (key : List ℕ) (tables : List TableName) (s t : ServerState) (before after : Ranged) (b : Begun) → IsBegun seat who key tables s t before after b → t.connected ≡ s.connected
+begun_connected seat who key tables s t before after (begun.Started b) h = let adds = h.adds in ap (λ (x : ServerState). x.connected) adds.server ∙ takes_connected tables (needs_of s.options s.dir.tables tables key) s (h.blocks ++ h.first ∷ h.text ∷ []) h.mid h.takes
 begun_connected seat who key tables s t before after (begun.NoRoom need largest place) h =
     let short = h.short in
-    ap (λ (x : Parts). x.connected) h.server
-    ∙ (ap (λ (x : Parts). x.connected) short.server ∙ (many_connected tables short.need short.count short.mid short.last short.prunes ∙ takes_connected tables short.done s short.blocks short.mid short.takes))
+    ap (λ (x : ServerState). x.connected) h.server
+    ∙ (ap (λ (x : ServerState). x.connected) short.server ∙ (many_connected tables short.need short.count short.mid short.last short.prunes ∙ takes_connected tables short.done s short.blocks short.mid short.takes))
 
-swept_connected : (found : List FoundWord) (s : Parts) → (swept found s).connected ≡ s.connected
+swept_connected : (found : List FoundWord) (s : ServerState) → (swept found s).connected ≡ s.connected
 swept_connected found s = let b = swept_books found s in b.connected
 
-module _ (seat : ℕ) (who : Who) (key : List ℕ) (tables : List TableName) (s t : Parts) (before after : Ranged) (found : List FoundWord) where
+module _ (seat : ℕ) (who : Who) (key : List ℕ) (tables : List TableName) (s t : ServerState) (before after : Ranged) (found : List FoundWord) where
   does_connected : (x : Selected) → Does seat who key tables s t before after found x → t.connected ≡ s.connected
-  does_connected (selected.Hit hit) d = ap (λ (x : Parts). x.connected) d.1 ∙ hit_connected who hit.serial seat s
+  does_connected (selected.Hit hit) d = ap (λ (x : ServerState). x.connected) d.1 ∙ hit_connected who hit.serial seat s
   does_connected (selected.Start serial place plan) d = begun_connected seat who key tables (swept found s) t before after (begun.Started (record { serial = serial; place = place })) d.1 ∙ swept_connected found s
   does_connected (selected.Plain (reason.NoRoom need largest) place plan) d = begun_connected seat who key tables (swept found s) t before after (begun.NoRoom need largest place) d.1 ∙ swept_connected found s
-  does_connected (selected.Plain (reason.Error code) place plan) d = ap (λ (x : Parts). x.connected) d.1
-  does_connected (selected.Plain reason.Off place plan) d = ap (λ (x : Parts). x.connected) d.1
-  does_connected (selected.Plain reason.NotAsked place plan) d = ap (λ (x : Parts). x.connected) d.1
-  does_connected (selected.Plain (reason.Rule w) place plan) d = ap (λ (x : Parts). x.connected) d.1
-  does_connected (selected.Plain (reason.Written w) place plan) d = ap (λ (x : Parts). x.connected) d.1
-  does_connected (selected.Plain (reason.NotVisible w changed snapshot) place plan) d = ap (λ (x : Parts). x.connected) d.1
-  does_connected (selected.Plain (reason.Rival n) place plan) d = ap (λ (x : Parts). x.connected) d.1
+  does_connected (selected.Plain (reason.Error code) place plan) d = ap (λ (x : ServerState). x.connected) d.1
+  does_connected (selected.Plain reason.Off place plan) d = ap (λ (x : ServerState). x.connected) d.1
+  does_connected (selected.Plain reason.NotAsked place plan) d = ap (λ (x : ServerState). x.connected) d.1
+  does_connected (selected.Plain (reason.Rule w) place plan) d = ap (λ (x : ServerState). x.connected) d.1
+  does_connected (selected.Plain (reason.Written w) place plan) d = ap (λ (x : ServerState). x.connected) d.1
+  does_connected (selected.Plain (reason.NotVisible w changed snapshot) place plan) d = ap (λ (x : ServerState). x.connected) d.1
+  does_connected (selected.Plain (reason.Rival n) place plan) d = ap (λ (x : ServerState). x.connected) d.1
 
   -- the ranges keep their room
   does_room : (x : Selected) → Does seat who key tables s t before after found x → after.room ≡ before.room
@@ -138,7 +139,7 @@ options_are a b h =
 
 -- ---- the call
 
-module _ (session : ℕ) (who : Who) (key : List ℕ) (select : Select) (asked : Asked) (state : State) (h g k : Held Parts Event ghosts) (found : List FoundWord) (x : Selected) (a : IsAsking session h) (named : who.session ≡ session) (ready : IsReady who g)
+module _ (session : ℕ) (who : Who) (key : List ℕ) (select : Select) (asked : Asked) (state : State) (h g k : Held ServerState Event ghosts) (found : List FoundWord) (x : Selected) (a : IsAsking session h) (named : who.session ≡ session) (ready : IsReady who g)
     (same : IsSameSeat h g) (books : SameBooks h.value g.value) (stands : MayRelease k) (finds : Finds g (with_ranges k g.ranges) found) (d : Decided (holder g).number who key select asked state g.value k.value g.ranges k.ranges found x) where
   on : IsSameSeat g (with_ranges k g.ranges)
   on = found_seat g (with_ranges k g.ranges) found finds
@@ -154,7 +155,7 @@ module _ (session : ℕ) (who : Who) (key : List ℕ) (select : Select) (asked :
       let was = ready.stands in
       let was_taken = was.follows in
       let follows = stands.follows in
-      let base : taken k ≡ taken g = ap (λ (v : View Parts Event). base_of k.value v.holding) finds.holder in
+      let base : taken k ≡ taken g = ap (λ (v : View ServerState Event). base_of k.value v.holding) finds.holder in
       follows.fixed ∙ (ap ghosts.fixed base ∙ (sym was_taken.fixed ∙ ap (λ (o : Options). o.size ∷ o.limit ∷ o.unit ∷ o.kind ∷ []) books.options))
 
   connected : k.value.connected ≡ g.value.connected
@@ -181,11 +182,19 @@ module _ (session : ℕ) (who : Who) (key : List ℕ) (select : Select) (asked :
         };
         same = w;
         room = does_room (holder g).number who key (select_tables state.db select) d.room k.value g.ranges k.ranges found x d.does ∙ ap (λ (r : Ranged). r.room) same.ranges;
-        known = w.fixed ∙ (a.known ∙ sym fixed);
       }
 
+  pub still_known : (holder k).fixed ≡ ghosts.fixed k.value
+  still_known = let w = whole in w.fixed ∙ (a.known ∙ sym fixed)
+
+  pub still_room : k.value.options.size ≤ 512 * k.ranges.room
+  still_room =
+      let size : k.value.options.size ≡ h.value.options.size = ap (λ (l : List ℕ). slice_index l 0) fixed in
+      let room : k.ranges.room ≡ h.ranges.room = does_room (holder g).number who key (select_tables state.db select) d.room k.value g.ranges k.ranges found x d.does ∙ ap (λ (r : Ranged). r.room) same.ranges in
+      omega (arith, a.room, size, room)
+
 -- the hit has its stream in hand
-selected_hit : (who : Who) (key : List ℕ) (select : Select) (asked : Asked) (state : State) (g k : Held Parts Event ghosts) (found : List FoundWord) (x : Selected) → IsReady who g → MayRelease k → Finds g (with_ranges k g.ranges) found
+pub selected_hit : (who : Who) (key : List ℕ) (select : Select) (asked : Asked) (state : State) (g k : Held ServerState Event ghosts) (found : List FoundWord) (x : Selected) → IsReady who g → MayRelease k → Finds g (with_ranges k g.ranges) found
     → Decided (holder g).number who key select asked state g.value k.value g.ranges k.ranges found x → HasHeld key k x
 selected_hit who key select asked state g k found (selected.Hit hit) ready stands finds d =
     let n = hit.serial in
@@ -207,7 +216,7 @@ selected_hit who key select asked state g k found (selected.Start serial place p
 selected_hit who key select asked state g k found (selected.Plain why place plan) ready stands finds d = tt
 
 -- what was decided
-selected_so : (who : Who) (text key : List ℕ) (select : Select) (state : State) (h g k : Held Parts Event ghosts) (x : Selected) (database : Database) → who.session ≡ state.session → IsReady who g → IsSameSeat h g → SameBooks h.value g.value → Makes g.value.journal.events database → IsLawful h.value.options k.value.journal.events
+selected_so : (who : Who) (text key : List ℕ) (select : Select) (state : State) (h g k : Held ServerState Event ghosts) (x : Selected) (database : Database) → who.session ≡ state.session → IsReady who g → IsSameSeat h g → SameBooks h.value g.value → Makes g.value.journal.events database → IsLawful h.value.options k.value.journal.events
     → Decides who text key select state g.value k.value x → IsDecided state.session h.value.options text key select state (holder h).seen k.value.journal.events x database
 selected_so who text key select state h g k x database named ready same books makes lawful c =
     let J : Journal = g.value.journal.events in
@@ -227,7 +236,7 @@ selected_so who text key select state h g k x database named ready same books ma
       lawful = lawful;
     }
 
-pub selects_held : (who : Who) (text key : List ℕ) (select : Select) (asked : Asked) (state : State) (h g k : Held Parts Event ghosts) (found : List FoundWord) (x : Selected) (database : Database) → IsAsking state.session h → who.session ≡ state.session → IsReady who g → IsSameSeat h g
+pub selects_held : (who : Who) (text key : List ℕ) (select : Select) (asked : Asked) (state : State) (h g k : Held ServerState Event ghosts) (found : List FoundWord) (x : Selected) (database : Database) → IsAsking state.session h → who.session ≡ state.session → IsReady who g → IsSameSeat h g
     → SameBooks h.value g.value → Makes g.value.journal.events database → MayRelease k → Finds g (with_ranges k g.ranges) found → Decided (holder g).number who key select asked state g.value k.value g.ranges k.ranges found x → Decides who text key select state g.value k.value x
     → SelectsHeld text key select state h k x database
 selects_held who text key select asked state h g k found x database a named ready same books makes stands finds d c =
@@ -239,7 +248,7 @@ selects_held who text key select asked state h g k found x database a named read
 
 -- ---- what run_select asks
 
-pub may_ask : (who : Who) (h g : Held Parts Event ghosts) (x : SnapshotState) → IsSameSeat h g → who.session ≡ x.state.session → IsReady who g → MaySelect (holder h).seen x → MayAsk g.value.journal.events x
+pub may_ask : (who : Who) (h g : Held ServerState Event ghosts) (x : SnapshotState) → IsSameSeat h g → who.session ≡ x.state.session → IsReady who g → MaySelect (holder h).seen x → MayAsk g.value.journal.events x
 may_ask who h g x same named ready may =
     let fit : IsFitState g.value.journal.events x = fit_taken x.state.session who h g x same named ready may.past may.fit in
     record { keyed = may.keyed; stands = stands_in g.value.journal.events x fit; place = place_by_fit g.value.journal.events x fit }

@@ -19,21 +19,21 @@ use Rattle.qc_trx.specs.Endings.{meant}
 use Rattle.qc_trx.specs.declared.conflict.Conflict.{Conflict as Met}
 use Rattle.qc_turn.specs.Seats.{Held}
 use Rattle.qc_core.specs.contracts.server.ServerKept.TheImpl.{ghosts}
-use Rattle.qc_core.specs.declared.parts.Parts.{Parts}
-use Rattle.qc_steps.specs.Sound.{IsFitState, IsSound}
-use Rattle.qc_steps.specs.Ends.{MayTry}
-use Rattle.qc_steps.proofs.Endings.{commit_ends, conflict_ends, full_ends, own_full_fits, own_tries}
-use Rattle.qc_steps.proofs.Fitting.{has_room, is_full}
-use Rattle.qc_steps.proofs.States.{sound_of}
+use Rattle.qc_core.specs.declared.server_state.ServerState.{ServerState}
+use Rattle.qc_statements.specs.Sound.{IsFitState, IsSound}
+use Rattle.qc_statements.specs.Ends.{MayTry}
+use Rattle.qc_statements.proofs.Endings.{commit_ends, conflict_ends, full_ends, own_full_fits, own_tries}
+use Rattle.qc_statements.proofs.Fitting.{has_room, is_full}
+use Rattle.qc_statements.proofs.States.{sound_of}
 use Rattle.qc_laws.proofs.fits.Full.{within_is_not_full}
 use Rattle.qc_table.specs.Fitting.{fitting}
 use Rattle.qc_serve.specs.Ends.{EndsAs, Makes}
 use Rattle.qc_serve.specs.Seats.{IsReady, IsSameSeat, Pushes, PushesNone, PushesOne}
 use Rattle.qc_serve.proofs.Seating.{pushes_on, ready_rests}
-use Rattle.qc_serve.specs.declared.ends.Ended.TheVariants as ended
+use Rattle.qc_serve.specs.declared.transaction_end.Ended.TheVariants as ended
 
 -- the server's journal is sound, and makes its database
-pub ready_makes : (who : Who) (h : Held Parts Event ghosts) → IsReady who h → Makes h.value.journal.events h.value.database
+pub ready_makes : (who : Who) (h : Held ServerState Event ghosts) → IsReady who h → Makes h.value.journal.events h.value.database
 ready_makes who h r =
     let stands = r.stands in
     let whole = stands.sound.1 in
@@ -41,7 +41,7 @@ ready_makes who h r =
     let j = all.journal in
     (h.value.options, sound_of h.value.options h.value.journal.events h.value.database j.small j.lawful j.database)
 
-pub ready_present : (who : Who) (h : Held Parts Event ghosts) → IsReady who h → Makes h.value.journal.events (present h.value.journal.events)
+pub ready_present : (who : Who) (h : Held ServerState Event ghosts) → IsReady who h → Makes h.value.journal.events (present h.value.journal.events)
 ready_present who h r = let m = ready_makes who h r in (m.0, subst (λ (d : Database). IsSound m.0 h.value.journal.events d) m.1.database m.1)
 
 -- ---- how it ends
@@ -79,17 +79,17 @@ committed_some who [] h = absurd (true≢false h)
 committed_some who (o ∷ os) h = refl
 
 -- the transaction's own operations may be tried
-pub own_may : (who : Who) (h : Held Parts Event ghosts) (x : SnapshotState) (ops : List RowOp) → IsReady who h → IsFitState h.value.journal.events x → conflict_in x.state h.value.journal.events ≡ None → ops ≡ own_operations x.state → MayTry ops h.value.database
+pub own_may : (who : Who) (h : Held ServerState Event ghosts) (x : SnapshotState) (ops : List RowOp) → IsReady who h → IsFitState h.value.journal.events x → conflict_in x.state h.value.journal.events ≡ None → ops ≡ own_operations x.state → MayTry ops h.value.database
 own_may who h x ops r fit alone is =
     let m = ready_makes who h r in
     subst (λ (os : List RowOp). MayTry os h.value.database) (sym is)
     (subst (λ (d : Database). MayTry (own_operations x.state) d) (sym m.1.database) (own_tries h.value.journal.events x (ready_present who h r).1 fit alone))
 
-full_on : (who : Who) (h : Held Parts Event ghosts) (x : SnapshotState) (ops : List RowOp) (o : Option TableName) → IsReady who h → ops ≡ own_operations x.state → full_table (apply ops h.value.database) ≡ o → full_table (apply (own_operations x.state) (present h.value.journal.events)) ≡ o
+full_on : (who : Who) (h : Held ServerState Event ghosts) (x : SnapshotState) (ops : List RowOp) (o : Option TableName) → IsReady who h → ops ≡ own_operations x.state → full_table (apply ops h.value.database) ≡ o → full_table (apply (own_operations x.state) (present h.value.journal.events)) ≡ o
 full_on who h x ops o r is full = let m = ready_makes who h r in (λ i. full_table (apply (sym is i) (sym m.1.database i))) ∙ full
 
 -- they were committed
-pub own_committed : (who : Who) (h k : Held Parts Event ghosts) (x : SnapshotState) (ops : List RowOp) → IsReady who h → conflict_in x.state h.value.journal.events ≡ None → ops ≡ own_operations x.state → (length ops == 0) ≡ false
+pub own_committed : (who : Who) (h k : Held ServerState Event ghosts) (x : SnapshotState) (ops : List RowOp) → IsReady who h → conflict_in x.state h.value.journal.events ≡ None → ops ≡ own_operations x.state → (length ops == 0) ≡ false
     → fitting (apply ops h.value.database) ≡ Ok (apply ops h.value.database) → Pushes who (event.Commit who ops) h k → PushesOne who h k (λ J e. EndsAs who x.state J e ended.Commits)
 own_committed who h k x ops r alone is some fits pushes =
     let J : Journal = h.value.journal.events in
@@ -102,7 +102,7 @@ own_committed who h k x ops r alone is some fits pushes =
     }
 
 -- there were none
-none_full : (who : Who) (h : Held Parts Event ghosts) (ops : List RowOp) → IsReady who h → (length ops == 0) ≡ true → full_table (apply ops h.value.database) ≡ None
+none_full : (who : Who) (h : Held ServerState Event ghosts) (ops : List RowOp) → IsReady who h → (length ops == 0) ≡ true → full_table (apply ops h.value.database) ≡ None
 none_full who h [] r h0 = let m = ready_makes who h r in let orderly = m.1.orderly in within_is_not_full h.value.database orderly.within
 none_full who h (o ∷ os) r h0 = not_none o os h0
 
@@ -110,7 +110,7 @@ pub committed_none : (who : Who) (ops : List RowOp) → (length ops == 0) ≡ tr
 committed_none who [] h = refl
 committed_none who (o ∷ os) h = not_none o os h
 
-pub own_none : (who : Who) (h k : Held Parts Event ghosts) (x : SnapshotState) (ops : List RowOp) → IsReady who h → conflict_in x.state h.value.journal.events ≡ None → ops ≡ own_operations x.state → (length ops == 0) ≡ true
+pub own_none : (who : Who) (h k : Held ServerState Event ghosts) (x : SnapshotState) (ops : List RowOp) → IsReady who h → conflict_in x.state h.value.journal.events ≡ None → ops ≡ own_operations x.state → (length ops == 0) ≡ true
     → Pushes who (event.Run who how.Other) h k → PushesOne who h k (λ J e. EndsAs who x.state J e ended.Commits)
 own_none who h k x ops r alone is none pushes =
     let J : Journal = h.value.journal.events in
@@ -123,7 +123,7 @@ own_none who h k x ops r alone is none pushes =
     }
 
 -- a table would be too full with them
-pub own_full : (who : Who) (h k m : Held Parts Event ghosts) (x : SnapshotState) (ops : List RowOp) (t : TableName) → IsReady who h → IsFitState h.value.journal.events x → conflict_in x.state h.value.journal.events ≡ None → ops ≡ own_operations x.state
+pub own_full : (who : Who) (h k m : Held ServerState Event ghosts) (x : SnapshotState) (ops : List RowOp) (t : TableName) → IsReady who h → IsFitState h.value.journal.events x → conflict_in x.state h.value.journal.events ≡ None → ops ≡ own_operations x.state
     → fitting (apply ops h.value.database) ≡ Err t → IsSameSeat h k → k.value ≡ h.value → Pushes who (event.Run who how.Other) k m → PushesOne who h m (λ J e. EndsAs who x.state J e (ended.Full t))
 own_full who h k m x ops t r fit alone is fits same value pushes =
     let made = ready_makes who h r in
@@ -134,11 +134,11 @@ own_full who h k m x ops t r fit alone is fits same value pushes =
     }
 
 -- nothing was pushed
-pub none_pushed : (who : Who) (h k : Held Parts Event ghosts) → IsSameSeat h k → IsReady who k → k.value ≡ h.value → PushesNone h k
-none_pushed who h k same ready value = record { same = same; rest = ready_rests who k ready; events = ap (λ (x : Parts). x.journal.events) value }
+pub none_pushed : (who : Who) (h k : Held ServerState Event ghosts) → IsSameSeat h k → IsReady who k → k.value ≡ h.value → PushesNone h k
+none_pushed who h k same ready value = record { same = same; rest = ready_rests who k ready; events = ap (λ (x : ServerState). x.journal.events) value }
 
 -- it was rolled back for a conflict
-pub conflict_pushed : (who : Who) (h k : Held Parts Event ghosts) (state : State) (c : Met) → conflict_in state h.value.journal.events ≡ Some (meant c) → Pushes who (event.Run who (how.Conflict c.table c.key c.by)) h k → PushesOne who h k (λ J e. EndsAs who state J e ended.Conflict)
+pub conflict_pushed : (who : Who) (h k : Held ServerState Event ghosts) (state : State) (c : Met) → conflict_in state h.value.journal.events ≡ Some (meant c) → Pushes who (event.Run who (how.Conflict c.table c.key c.by)) h k → PushesOne who h k (λ J e. EndsAs who state J e ended.Conflict)
 conflict_pushed who h k state c met pushes = record {
   event = event.Run who (how.Conflict c.table c.key c.by);
   is_so = ends_in_conflict who state h.value.journal.events (meant c) met;

@@ -18,8 +18,8 @@ use Rattle.qc_model.specs.Conflicts.{Conflict}
 use Rattle.qc_model.specs.Journal.{Journal, decider, is_by, present}
 use Rattle.qc_model.specs.Machine.{Given, changed_form, changed_rows, committed, conflict_in, ended_with, ending, form_given, full_table, ok_reply, other, set_autocommit, used}
 use Rattle.qc_model.specs.Session.{State, Transaction, base, own_operations, with_transaction}
-use Rattle.qc_steps.proofs.Choices.{used_none, used_there}
-use Rattle.qc_steps.proofs.Endings.{commit_ends, conflict_ends, full_ends}
+use Rattle.qc_statements.proofs.Choices.{used_none, used_there}
+use Rattle.qc_statements.proofs.Endings.{commit_ends, conflict_ends, full_ends}
 
 -- the event of a command that is no SELECT, of this session and with this number
 pub record IsOf (who : Who) (e : Event) : Type 0 where

@@ -17,22 +17,25 @@ use Rattle.qc_model.specs.declared.events.Counters.{Counters}
 use Rattle.qc_model.specs.Cache.{counters}
 use Rattle.qc_model.specs.Machine.{Given, changed_form, changed_rows, ended_with, ok_reply, other, refused, status_reply}
 use Rattle.qc_model.specs.Session.{State, Transaction, arrived, base, opened, snapshot_taken, with_transaction}
-use Rattle.qc_steps.specs.Statements.{changes_rows}
-use Rattle.qc_serve.specs.declared.ends.Ended.{Ended}
-use Rattle.qc_serve.specs.declared.ends.Ended.TheVariants as ended
+use Rattle.qc_statements.specs.Statements.{changes_rows}
+use Rattle.qc_serve.specs.declared.transaction_end.Ended.{Ended}
+use Rattle.qc_serve.specs.declared.transaction_end.Ended.TheVariants as ended
 use Rattle.qc_serve.specs.declared.rows.RowsEnd.{RowsEnd}
 use Rattle.qc_serve.specs.declared.rows.RowsEnd.TheVariants as rows
-use Rattle.qc_serve.specs.declared.forms.FormsEnd.{FormsEnd}
-use Rattle.qc_serve.specs.declared.forms.FormsEnd.TheVariants as forms
+use Rattle.qc_serve.specs.declared.schema.FormsEnd.{FormsEnd}
+use Rattle.qc_serve.specs.declared.schema.FormsEnd.TheVariants as forms
 use Rattle.qc_serve.specs.Ends.{EndsAs, FormsAs, FormsFit, HasFittingError, IsGiven, RowsAs, RowsFit, ended_reply, forms_reply, forms_state, rows_reply}
 use Rattle.qc_trx.specs.SnapshotStates.{SnapshotState}
 use Rattle.qc_turn.specs.declared.turn.Turn.{Turn}
-use Rattle.qc_core.specs.declared.parts.Parts.{Parts}
+use Rattle.qc_core.specs.declared.server_state.ServerState.{ServerState}
+use Rattle.qc_serve.specs.declared.notes.Note.{Note}
+use Rattle.qc_serve.specs.declared.notes.Note.TheVariants as note
+use Rattle.qc_serve.specs.Notes.{noted}
 use Rattle.qc_serve.specs.declared.session.Session.{Session}
 use Rattle.qc_serve.specs.Going.{GivesOut, IsAtRest, IsGivenBy, Logs, Stops, event_given, next_who, number_of, rows_given, status_given}
 use Rattle.qc_serve.proofs.Givens.{IsOf, IsOwn, ended_own, forms_own, other_own, rows_own}
 use Rattle.qc_serve.proofs.Resting.{Meets, event_stops, gives_out, rest_ended, rest_same, same_gives, stops_as}
-use Rattle.qc_replies.proofs.Calls.{if_ok}
+use Rattle.qc_statements.proofs.Calls.{if_ok}
 
 -- ---- of any kind
 
@@ -140,14 +143,19 @@ forms_meet who state now s J e (forms.Changes n) bytes h reply is =
 -- ---- a command that changes nothing which a session sees
 
 -- it says nothing of what it did
-pub other_gives : (t : Turn Parts Event) (old new : Session) (bytes : List ℕ) (r : Reply) → Logs t old new (λ journal e. e ≡ event.Run (next_who old) how.Other) → IsAtRest t old → new.state ≡ old.state → bytes ≡ packets r
+pub other_gives : (t : Turn ServerState Event) (old new : Session) (bytes : List ℕ) (r : Reply) → Logs t old new (λ journal e. e ≡ event.Run (next_who old) how.Other) → IsAtRest t old → new.state ≡ old.state → bytes ≡ packets r
     → GivesOut t old new bytes (λ journal. other (next_who old) old.state.state r)
 other_gives t old new bytes r logs rest state reply =
     let d = logs.decides in
     same_gives t old new bytes (λ journal. other (next_who old) old.state.state r) (λ journal e. e ≡ event.Run (next_who old) how.Other) logs rest state (other_own (next_who old) old.state.state r) (record { event = d.is_so; reply = reply; state = refl })
 
 -- it has an event of its own kind, and answers OK
-pub event_gives : (t : Turn Parts Event) (old new : Session) (bytes : List ℕ) (e : Event) → Logs t old new (λ journal x. x ≡ e) → IsOf (next_who old) e → IsAtRest t old → new.state ≡ old.state → bytes ≡ packets (ok_reply old.state.state 0)
+pub noted_of : (n : Note) (who : Who) → IsOf who (noted n who)
+noted_of note.Flush who = record { other = refl; by = refl }
+noted_of note.Reset who = record { other = refl; by = refl }
+noted_of note.Other who = record { other = refl; by = refl }
+
+pub event_gives : (t : Turn ServerState Event) (old new : Session) (bytes : List ℕ) (e : Event) → Logs t old new (λ journal x. x ≡ e) → IsOf (next_who old) e → IsAtRest t old → new.state ≡ old.state → bytes ≡ packets (ok_reply old.state.state 0)
     → GivesOut t old new bytes (λ journal. event_given e old.state.state)
 event_gives t old new bytes e logs of rest state reply =
     let d = logs.decides in
@@ -160,7 +168,7 @@ IsStatus who t c J e = (e ≡ event.Run who (how.Status t)) × (c ≡ counters J
 pub status_of_it : (who : Who) (t : Totals) (c : Counters) (J : Journal) (e : Event) → IsStatus who t c J e → IsOf who e
 status_of_it who t c J e so = subst (IsOf who) (sym so.0) (record { other = refl; by = refl })
 
-pub status_gives : (t : Turn Parts Event) (old new : Session) (bytes : List ℕ) (x : Totals) (c : Counters) → Logs t old new (IsStatus (next_who old) x c) → IsAtRest t old → new.state ≡ old.state → bytes ≡ packets (status_reply new.state.state c x)
+pub status_gives : (t : Turn ServerState Event) (old new : Session) (bytes : List ℕ) (x : Totals) (c : Counters) → Logs t old new (IsStatus (next_who old) x c) → IsAtRest t old → new.state ≡ old.state → bytes ≡ packets (status_reply new.state.state c x)
     → GivesOut t old new bytes (status_given (next_who old) old.state.state x)
 status_gives t old new bytes x c logs rest state reply =
     let d = logs.decides in
@@ -169,7 +177,7 @@ status_gives t old new bytes x c logs rest state reply =
     (record { event = so.0; reply = reply ∙ (λ i. let y : SnapshotState = state i in packets (status_reply y.state (so.1 i) x)); state = refl })
 
 -- memory lacked behind it
-pub status_stop : (t : Turn Parts Event) (old new : Session) (x : Totals) (c : Counters) → Logs t old new (IsStatus (next_who old) x c) → number_of new ≡ number_of old
+pub status_stop : (t : Turn ServerState Event) (old new : Session) (x : Totals) (c : Counters) → Logs t old new (IsStatus (next_who old) x c) → number_of new ≡ number_of old
     → Stops t old new (λ journal e. (y : Totals) × IsGivenBy (status_given (next_who old) old.state.state y) journal e)
 status_stop t old new x c logs session =
     let d = logs.decides in
@@ -178,14 +186,14 @@ status_stop t old new x c logs session =
 
 -- ---- a command that decides
 
-pub ends_give : (t : Turn Parts Event) (old new : Session) (x : Ended) (next : State) (bytes : List ℕ) → Logs t old new (λ journal e. EndsAs (next_who old) old.state.state journal e x) → IsAtRest t new → next.session ≡ number_of old → bytes ≡ packets (ended_reply new.state.state x)
+pub ends_give : (t : Turn ServerState Event) (old new : Session) (x : Ended) (next : State) (bytes : List ℕ) → Logs t old new (λ journal e. EndsAs (next_who old) old.state.state journal e x) → IsAtRest t new → next.session ≡ number_of old → bytes ≡ packets (ended_reply new.state.state x)
     → new.state.state ≡ ended_state x old.state.state next → GivesOut t old new bytes (λ journal. ended_with (next_who old) old.state.state journal next)
 ends_give t old new x next bytes logs rest session reply state =
     let d = logs.decides in
     gives_out t old new bytes (λ journal. ended_with (next_who old) old.state.state journal next) (λ journal e. EndsAs (next_who old) old.state.state journal e x) logs rest (ended_own (next_who old) d.journal old.state.state next session)
     (ends_meet (next_who old) old.state.state next new.state.state d.journal d.event x bytes d.is_so reply state)
 
-pub rows_give : (t : Turn Parts Event) (old new : Session) (s : Statement) (x : RowsEnd) (bytes : List ℕ) → Logs t old new (λ journal e. RowsAs (next_who old) old.state.state s journal e x) → IsAtRest t old → new.state ≡ old.state → changes_rows s ≡ true
+pub rows_give : (t : Turn ServerState Event) (old new : Session) (s : Statement) (x : RowsEnd) (bytes : List ℕ) → Logs t old new (λ journal e. RowsAs (next_who old) old.state.state s journal e x) → IsAtRest t old → new.state ≡ old.state → changes_rows s ≡ true
     → old.state.state.transaction ≡ None → old.state.state.autocommit ≡ true → bytes ≡ packets (rows_reply old.state.state x) → GivesOut t old new bytes (rows_given (next_who old) old.state.state s)
 rows_give t old new s x bytes logs rest state kind closed auto reply =
     let d = logs.decides in
@@ -197,7 +205,7 @@ rows_give t old new s x bytes logs rest state kind closed auto reply =
     let own : IsOwn who now.session (rows_given who now s J) = subst (λ (y : State). IsOwn who y.session (rows_given who now s J)) at (rows_own who a (effect s (base a J) a.db a.session)) in
     same_gives t old new bytes (rows_given who now s) (λ journal e. RowsAs who now s journal e x) logs rest state own (rows_meet who now now s J d.event x bytes kind closed auto d.is_so reply refl)
 
-forms_rest : (t : Turn Parts Event) (old new : Session) (IsSo : Journal → Event → Type 0) (x : FormsEnd) → Logs t old new IsSo → IsAtRest t old → new.state ≡ forms_state x old.state → IsAtRest t new
+forms_rest : (t : Turn ServerState Event) (old new : Session) (IsSo : Journal → Event → Type 0) (x : FormsEnd) → Logs t old new IsSo → IsAtRest t old → new.state ≡ forms_state x old.state → IsAtRest t new
 forms_rest t old new IsSo forms.Conflict logs rest is = rest_ended t old new IsSo rest logs is
 forms_rest t old new IsSo (forms.Full n) logs rest is = rest_ended t old new IsSo rest logs is
 forms_rest t old new IsSo (forms.Refused e) logs rest is = rest_same t old new IsSo rest logs is
@@ -209,7 +217,7 @@ forms_left (forms.Full n) s = refl
 forms_left (forms.Refused e) s = refl
 forms_left (forms.Changes n) s = refl
 
-pub forms_give : (t : Turn Parts Event) (old new : Session) (s : Statement) (x : FormsEnd) (bytes : List ℕ) → Logs t old new (λ journal e. FormsAs (next_who old) old.state.state s journal e x) → IsAtRest t old → new.state ≡ forms_state x old.state
+pub forms_give : (t : Turn ServerState Event) (old new : Session) (s : Statement) (x : FormsEnd) (bytes : List ℕ) → Logs t old new (λ journal e. FormsAs (next_who old) old.state.state s journal e x) → IsAtRest t old → new.state ≡ forms_state x old.state
     → bytes ≡ packets (forms_reply new.state.state x) → GivesOut t old new bytes (λ journal. changed_form (next_who old) old.state.state journal s)
 forms_give t old new s x bytes logs rest state reply =
     let d = logs.decides in
@@ -226,13 +234,13 @@ forms_fit who state s J e (forms.Changes n) h = tt
 
 -- ---- the same of a reply that may fail
 
-pub rows_out : (t : Turn Parts Event) (old new : Session) (s : Statement) (x : RowsEnd) {F : Type 0} (r : Result (List ℕ) F) → Logs t old new (λ journal e. RowsAs (next_who old) old.state.state s journal e x) → IsAtRest t old → new.state ≡ old.state → changes_rows s ≡ true
+pub rows_out : (t : Turn ServerState Event) (old new : Session) (s : Statement) (x : RowsEnd) {F : Type 0} (r : Result (List ℕ) F) → Logs t old new (λ journal e. RowsAs (next_who old) old.state.state s journal e x) → IsAtRest t old → new.state ≡ old.state → changes_rows s ≡ true
     → old.state.state.transaction ≡ None → old.state.state.autocommit ≡ true → IfOk r (λ bytes. bytes ≡ packets (rows_reply new.state.state x)) → IfOk r (λ bytes. GivesOut t old new bytes (rows_given (next_who old) old.state.state s))
 rows_out t old new s x r logs rest state kind closed auto reply =
     if_ok (λ (bytes : List ℕ). bytes ≡ packets (rows_reply new.state.state x)) (λ (bytes : List ℕ). GivesOut t old new bytes (rows_given (next_who old) old.state.state s))
     (λ bytes h. rows_give t old new s x bytes logs rest state kind closed auto (h ∙ ap (λ (z : SnapshotState). packets (rows_reply z.state x)) state)) r reply
 
-pub rows_stop : (t : Turn Parts Event) (old new : Session) (s : Statement) (x : RowsEnd) → Logs t old new (λ journal e. RowsAs (next_who old) old.state.state s journal e x) → new.state ≡ old.state → changes_rows s ≡ true
+pub rows_stop : (t : Turn ServerState Event) (old new : Session) (s : Statement) (x : RowsEnd) → Logs t old new (λ journal e. RowsAs (next_who old) old.state.state s journal e x) → new.state ≡ old.state → changes_rows s ≡ true
     → old.state.state.transaction ≡ None → old.state.state.autocommit ≡ true → Stops t old new (IsGivenBy (rows_given (next_who old) old.state.state s))
 rows_stop t old new s x logs state kind closed auto =
     let d = logs.decides in
@@ -240,20 +248,20 @@ rows_stop t old new s x logs state kind closed auto =
     stops_as t old new IsSo (IsGivenBy (rows_given (next_who old) old.state.state s)) (λ J e h. rows_given_at (next_who old) old.state.state s J e x kind closed auto h)
     (event_stops t old new IsSo logs (rows_of (next_who old) old.state.state s d.journal d.event x d.is_so) (ap (λ (z : SnapshotState). z.state.session) state))
 
-pub forms_out : (t : Turn Parts Event) (old new : Session) (s : Statement) (x : FormsEnd) {F : Type 0} (r : Result (List ℕ) F) → Logs t old new (λ journal e. FormsAs (next_who old) old.state.state s journal e x) → IsAtRest t old → new.state ≡ forms_state x old.state
+pub forms_out : (t : Turn ServerState Event) (old new : Session) (s : Statement) (x : FormsEnd) {F : Type 0} (r : Result (List ℕ) F) → Logs t old new (λ journal e. FormsAs (next_who old) old.state.state s journal e x) → IsAtRest t old → new.state ≡ forms_state x old.state
     → IfOk r (λ bytes. bytes ≡ packets (forms_reply new.state.state x)) → IfOk r (λ bytes. GivesOut t old new bytes (λ journal. changed_form (next_who old) old.state.state journal s))
 forms_out t old new s x r logs rest state reply =
     if_ok (λ (bytes : List ℕ). bytes ≡ packets (forms_reply new.state.state x)) (λ (bytes : List ℕ). GivesOut t old new bytes (λ journal. changed_form (next_who old) old.state.state journal s))
     (λ bytes h. forms_give t old new s x bytes logs rest state h) r reply
 
-pub forms_fits : (t : Turn Parts Event) (old new : Session) (s : Statement) (x : FormsEnd) → Logs t old new (λ journal e. FormsAs (next_who old) old.state.state s journal e x) → FormsFit x
+pub forms_fits : (t : Turn ServerState Event) (old new : Session) (s : Statement) (x : FormsEnd) → Logs t old new (λ journal e. FormsAs (next_who old) old.state.state s journal e x) → FormsFit x
 forms_fits t old new s x logs = let d = logs.decides in forms_fit (next_who old) old.state.state s d.journal d.event x d.is_so
 
 rows_fit : (who : Who) (state : State) (s : Statement) (J : Journal) (e : Event) (x : RowsEnd) → RowsAs who state s J e x → RowsFit x
 rows_fit who state s J e (rows.Refused error) h = h.0
 rows_fit who state s J e (rows.Changes n) h = tt
 
-pub rows_fits : (t : Turn Parts Event) (old new : Session) (s : Statement) (x : RowsEnd) → Logs t old new (λ journal e. RowsAs (next_who old) old.state.state s journal e x) → RowsFit x
+pub rows_fits : (t : Turn ServerState Event) (old new : Session) (s : Statement) (x : RowsEnd) → Logs t old new (λ journal e. RowsAs (next_who old) old.state.state s journal e x) → RowsFit x
 rows_fits t old new s x logs = let d = logs.decides in rows_fit (next_who old) old.state.state s d.journal d.event x d.is_so
 
 forms_session : (x : FormsEnd) (s : SnapshotState) → (forms_state x s).state.session ≡ s.state.session
@@ -262,7 +270,7 @@ forms_session (forms.Full n) s = refl
 forms_session (forms.Refused e) s = refl
 forms_session (forms.Changes n) s = refl
 
-pub forms_stop : (t : Turn Parts Event) (old new : Session) (s : Statement) (x : FormsEnd) → Logs t old new (λ journal e. FormsAs (next_who old) old.state.state s journal e x) → new.state ≡ forms_state x old.state
+pub forms_stop : (t : Turn ServerState Event) (old new : Session) (s : Statement) (x : FormsEnd) → Logs t old new (λ journal e. FormsAs (next_who old) old.state.state s journal e x) → new.state ≡ forms_state x old.state
     → Stops t old new (IsGivenBy (λ journal. changed_form (next_who old) old.state.state journal s))
 forms_stop t old new s x logs state =
     let d = logs.decides in

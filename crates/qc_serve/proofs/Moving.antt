@@ -17,14 +17,15 @@ use Rattle.qc_turn.specs.declared.seat.Seat.{Seat}
 use Rattle.qc_turn.specs.declared.turn.Turn.{Turn}
 use Rattle.qc_turn.specs.Seats.{view}
 use Rattle.qc_core.specs.contracts.server.ServerKept.TheImpl.{ghosts}
-use Rattle.qc_core.specs.declared.parts.Parts.{Parts}
+use Rattle.qc_core.specs.declared.server_state.ServerState.{ServerState}
 use Rattle.qc_serve.specs.declared.session.Session.{Session}
 use Rattle.qc_serve.specs.declared.sinks.Piece.{Piece}
 use Rattle.qc_serve.specs.Asking.{LooksOn}
-use Rattle.qc_serve.specs.Executed.{ArePutBy, HasLine, IsReplied, MustEnd, SendsPart}
+use Rattle.qc_serve.specs.Executed.{ArePutBy, AreStreamedBy, HasLine, IsReplied, MustEnd, SendsPart}
 use Rattle.qc_serve.specs.Going.{DoesOne, IsAtRest, MayAnswer, number_of, position_of, seen_by}
 use Rattle.qc_serve.specs.Querying.{LooksAgain}
 use Rattle.qc_serve.proofs.Resting.{Follows, fit_later, past_later}
+use Rattle.qc_serve.proofs.Breaking.{none_streamed}
 use Rattle.qc_serve.proofs.Sending.{adds_so}
 
 -- what a command did, by the events that its session had seen and those in front of its last line
@@ -46,14 +47,13 @@ moved_answers m options s I J state place c l to (more, is) same within a =
       does = subst (Did m options s state place c l to) (λ i. (front i, same i)) a.does;
     }
 
-pub moved_does : (t : Turn Parts Event) (c : Command) (old mid new : Session) (reply : List ℕ) → IsAtRest t old → LooksAgain t old mid → DoesOne t c mid new reply → DoesOne t c old new reply
-moved_does t c old mid new reply rest looks does =
-    let d = subst (λ (x : Session). DoesOne t c x new reply) looks.same does in
-    let on = looks.seat.goes_on in
-    let again = looks.seat.again in
+does_in : (t : Turn ServerState Event) (c : Command) (old : Session) (seat : Seat ServerState Event ghosts) (new : Session) (reply : List ℕ) → IsAtRest t old → LooksOn t (number_of old) old.seat seat → DoesOne t c (record old { seat = seat }) new reply → DoesOne t c old new reply
+does_in t c old seat new reply rest looks d =
+    let on = looks.goes_on in
+    let again = looks.again in
     record {
       answered = d.answered;
-      answers = moved_answers whole_machine old.options (number_of old) (seen_by old) (seen_by mid) old.state.state old.place c d.answered (position_of new) on.begins on.none rest.reached d.answers;
+      answers = moved_answers whole_machine old.options (number_of old) (seen_by old) (view seat).seen old.state.state old.place c d.answered (position_of new) on.begins on.none rest.reached d.answers;
       reply = d.reply;
       lines = d.lines;
       options = d.options;
@@ -65,7 +65,7 @@ moved_does t c old mid new reply rest looks does =
 
 -- ---- it may answer
 
-moved_in : (t : Turn Parts Event) (old : Session) (seat : Seat Parts Event ghosts) → MayAnswer t old → LooksOn t (number_of old) old.seat seat → MayAnswer t (record old { seat = seat })
+moved_in : (t : Turn ServerState Event) (old : Session) (seat : Seat ServerState Event ghosts) → MayAnswer t old → LooksOn t (number_of old) old.seat seat → MayAnswer t (record old { seat = seat })
 moved_in t old seat may looks =
     let rest = may.rest in
     let again = looks.again in
@@ -85,23 +85,28 @@ moved_in t old seat may looks =
       room = may.room;
     }
 
-pub moved_may : (t : Turn Parts Event) (old mid : Session) → MayAnswer t old → LooksAgain t old mid → MayAnswer t mid
+pub moved_may : (t : Turn ServerState Event) (old mid : Session) → MayAnswer t old → LooksAgain t old mid → MayAnswer t mid
 moved_may t old mid may looks = subst (MayAnswer t) (sym looks.same) (moved_in t old mid.seat may looks.seat)
 
-moved_put : (t : Turn Parts Event) (old mid new : Session) (pieces : List Piece) → LooksAgain t old mid → ArePutBy mid new pieces → ArePutBy old new pieces
-moved_put t old mid new pieces looks put = λ place e is.
-    let on = looks.seat.goes_on in
-    let same : number_of mid ≡ number_of old = ap (λ (x : Session). x.state.state.session) looks.same in
-    let none : own (number_of mid) (seen_by mid) ≡ own (number_of old) (seen_by old) = ap (λ (n : ℕ). own n (seen_by mid)) same ∙ on.none in
-    put place e (ap (λ (n : ℕ). own n (seen_by new)) same ∙ (is ∙ ap (λ (xs : List (ℕ × Event)). xs ++ (place, e) ∷ []) (sym none)))
+put_in : (t : Turn ServerState Event) (old : Session) (seat : Seat ServerState Event ghosts) (new : Session) (pieces : List Piece) → LooksOn t (number_of old) old.seat seat → ArePutBy (record old { seat = seat }) new pieces → ArePutBy old new pieces
+put_in t old seat new pieces looks put = λ place e is.
+    let on = looks.goes_on in
+    put place e (is ∙ ap (λ (xs : List (ℕ × Event)). xs ++ (place, e) ∷ []) (sym on.none))
 
-pub moved_replied : (t : Turn Parts Event) (c : Command) (old mid new : Session) (held out : Option (List Piece)) → IsAtRest t old → LooksAgain t old mid → IsReplied t c mid new held out → IsReplied t c old new held out
-moved_replied t c old mid new held out rest looks replied = record {
+replied_in : (t : Turn ServerState Event) (c : Command) (old : Session) (seat : Seat ServerState Event ghosts) (new : Session) (held out : Option (List Piece)) → IsAtRest t old → LooksOn t (number_of old) old.seat seat
+    → IsReplied t c (record old { seat = seat }) new held out → IsReplied t c old new held out
+unfolding does_in
+replied_in t c old seat new held out rest looks replied = record {
   reply = replied.reply;
-  does = moved_does t c old mid new replied.reply rest looks replied.does;
+  does = does_in t c old seat new replied.reply rest looks replied.does;
   sends = replied.sends;
-  at = adds_so held out (ArePutBy mid new) (ArePutBy old new) (λ more put. moved_put t old mid new more looks put) replied.at;
+  at = adds_so held out (ArePutBy (record old { seat = seat }) new) (ArePutBy old new) (λ more put. put_in t old seat new more looks put) replied.at;
+  cut = replied.cut;
+  some = replied.some;
 }
+
+pub moved_replied : (t : Turn ServerState Event) (c : Command) (old mid new : Session) (held out : Option (List Piece)) → IsAtRest t old → LooksAgain t old mid → IsReplied t c mid new held out → IsReplied t c old new held out
+moved_replied t c old mid new held out rest looks replied = replied_in t c old mid.seat new held out rest looks.seat (subst (λ (x : Session). IsReplied t c x new held out) looks.same replied)
 
 -- ---- it ends
 
@@ -119,14 +124,14 @@ moved_line m options s I J state place c l seen (more, is) same within h =
     let front : take place J ≡ take place I = ap (take place) is ∙ take-append-le place I more within in
     subst (Told m options s state place c l seen) (λ i. (front i, same i)) h
 
-moved_sent : (t : Turn Parts Event) (c : Command) (old : Session) (seat : Seat Parts Event ghosts) (new : Session) (events : List (ℕ × Event)) (held out : Option (List Piece)) → IsAtRest t old → LooksOn t (number_of old) old.seat seat
+moved_sent : (t : Turn ServerState Event) (c : Command) (old : Session) (seat : Seat ServerState Event ghosts) (new : Session) (events : List (ℕ × Event)) (held out : Option (List Piece)) → IsAtRest t old → LooksOn t (number_of old) old.seat seat
     → ((events ≡ []) × (out ≡ held)) ⊎ SendsPart c (record old { seat = seat }) new held out → ((events ≡ []) × (out ≡ held)) ⊎ SendsPart c old new held out
 moved_sent t c old seat new events held out rest looks (inl none) = inl none
-moved_sent t c old seat new events held out rest looks (inr (l, has, front)) =
+moved_sent t c old seat new events held out rest looks (inr (l, has, front, cut)) =
     let on = looks.goes_on in
-    inr (l, moved_line whole_machine old.options (number_of old) (seen_by old) (view seat).seen old.state.state old.place c l (seen_by new) on.begins on.none rest.reached has, front)
+    inr (l, moved_line whole_machine old.options (number_of old) (seen_by old) (view seat).seen old.state.state old.place c l (seen_by new) on.begins on.none rest.reached has, front, cut)
 
-ends_in : (t : Turn Parts Event) (c : Command) (old : Session) (seat : Seat Parts Event ghosts) (new : Session) (held out : Option (List Piece)) → IsAtRest t old → LooksOn t (number_of old) old.seat seat
+ends_in : (t : Turn ServerState Event) (c : Command) (old : Session) (seat : Seat ServerState Event ghosts) (new : Session) (held out : Option (List Piece)) → IsAtRest t old → LooksOn t (number_of old) old.seat seat
     → MustEnd t c (record old { seat = seat }) new held out → MustEnd t c old new held out
 ends_in t c old seat new held out rest looks must =
     let on = looks.goes_on in
@@ -145,14 +150,15 @@ ends_in t c old seat new held out rest looks must =
         session = b.session;
         standing = b.standing ∙ (λ i. (again.fixed i, again.registry i));
         sent = moved_sent t c old seat new b.events held out rest looks b.sent;
+        at = adds_so held out (AreStreamedBy (record old { seat = seat }) new) (AreStreamedBy old new) (λ more streamed. λ place e is. streamed place e (is ∙ ap (λ (xs : List (ℕ × Event)). xs ++ (place, e) ∷ []) (sym on.none))) b.at;
       };
     }
 
-pub moved_ends : (t : Turn Parts Event) (c : Command) (old mid new : Session) (held out : Option (List Piece)) → IsAtRest t old → LooksAgain t old mid → MustEnd t c mid new held out → MustEnd t c old new held out
+pub moved_ends : (t : Turn ServerState Event) (c : Command) (old mid new : Session) (held out : Option (List Piece)) → IsAtRest t old → LooksAgain t old mid → MustEnd t c mid new held out → MustEnd t c old new held out
 moved_ends t c old mid new held out rest looks must = ends_in t c old mid.seat new held out rest looks.seat (subst (λ (x : Session). MustEnd t c x new held out) looks.same must)
 
 -- memory lacked before anything was done
-looks_end_in : (t : Turn Parts Event) (c : Command) (old : Session) (seat : Seat Parts Event ghosts) (held : Option (List Piece)) → LooksOn t (number_of old) old.seat seat → MustEnd t c old (record old { seat = seat }) held held
+looks_end_in : (t : Turn ServerState Event) (c : Command) (old : Session) (seat : Seat ServerState Event ghosts) (held : Option (List Piece)) → LooksOn t (number_of old) old.seat seat → MustEnd t c old (record old { seat = seat }) held held
 looks_end_in t c old seat held looks =
     let again = looks.again in
     let on = looks.goes_on in
@@ -167,11 +173,12 @@ looks_end_in t c old seat held looks =
         session = refl;
         standing = λ i. (again.fixed i, again.registry i);
         sent = inl (refl, refl);
+        at = none_streamed old (record old { seat = seat }) held;
       };
     }
 
-pub looks_end : (t : Turn Parts Event) (c : Command) (old mid : Session) (held : Option (List Piece)) → LooksAgain t old mid → MustEnd t c old mid held held
+pub looks_end : (t : Turn ServerState Event) (c : Command) (old mid : Session) (held : Option (List Piece)) → LooksAgain t old mid → MustEnd t c old mid held held
 looks_end t c old mid held looks = subst (λ (x : Session). MustEnd t c old x held held) (sym looks.same) (looks_end_in t c old mid.seat held looks.seat)
 
-pub moved_lines : (t : Turn Parts Event) (old mid : Session) → LooksAgain t old mid → mid.log.lines ≡ old.log.lines
+pub moved_lines : (t : Turn ServerState Event) (old mid : Session) → LooksAgain t old mid → mid.log.lines ≡ old.log.lines
 moved_lines t old mid looks = ap (λ (x : Session). x.log.lines) looks.same

@@ -25,16 +25,16 @@ use Rattle.qc_model.specs.Machine.{ExecutesStatement, ExecutesText, Gives, Given
 use Rattle.qc_model.specs.Session.{State, arrived, base, with_transaction}
 use Rattle.qc_model.specs.Settings.{set_to}
 use Rattle.qc_laws.specs.runs.Runs.{HasItsEvent, HasNoEvent, Position, own}
-use Rattle.qc_steps.proofs.Words.{ended_is_other, forms_is_other, rows_is_other, set_is_other, used_is_other}
+use Rattle.qc_statements.proofs.Words.{ended_is_other, forms_is_other, rows_is_other, set_is_other, used_is_other}
 use Rattle.qc_turn.specs.declared.turn.Turn.{Turn}
-use Rattle.qc_core.specs.declared.parts.Parts.{Parts}
+use Rattle.qc_core.specs.declared.server_state.ServerState.{ServerState}
 use Rattle.qc_serve.specs.declared.log.Logged.{Logged}
 use Rattle.qc_serve.specs.declared.session.Session.{Session}
 use Rattle.qc_serve.specs.declared.sinks.Piece.{Piece}
-use Rattle.qc_serve.specs.Executed.{ArePutBy, IsReplied, MustEnd}
+use Rattle.qc_serve.specs.Executed.{ArePutBy, IsReplied, MustEnd, size_by}
 use Rattle.qc_serve.specs.Going.{DoesOne, IsAtRest, Stops, number_of, position_of, seen_by}
 use Rattle.qc_serve.specs.Logs.{DropsLocal, kept_line, logged, logged_event, logged_line}
-use Rattle.qc_serve.specs.Sent.{Sends, bytes_of}
+use Rattle.qc_serve.specs.Sent.{Adds, AreCut, NoneIsEmpty, Sends, bytes_of, packet_size}
 use Rattle.qc_serve.specs.Stage.{is_select}
 use Rattle.qc_serve.proofs.Breaking.{untouched}
 use Rattle.qc_serve.proofs.Sending.{adds_so}
@@ -104,7 +104,7 @@ module _ (options : Options) (s : ℕ) (from to : Position) (text : List ℕ) (l
       absurd cc
 
 -- the line of its answer is no hit's
-pub answered_other : (t : Turn Parts Event) (text : List ℕ) (old mid : Session) (bytes : List ℕ) → IsOther (meaning (trimmed text) old.state.state.ansi) → (does : DoesOne t (command.Query text) old mid bytes) → does.answered.how ≡ word.Hit → ⊥
+pub answered_other : (t : Turn ServerState Event) (text : List ℕ) (old mid : Session) (bytes : List ℕ) → IsOther (meaning (trimmed text) old.state.state.ansi) → (does : DoesOne t (command.Query text) old mid bytes) → does.answered.how ≡ word.Hit → ⊥
 answered_other t text old mid bytes free does h =
     let answers = does.answers in
     not_hit old.options (number_of old) (position_of old) (position_of mid) text does.answered free (whole_machine.without_event old.state.state (take old.place (seen_by old)) (command.Query text)) answers.does h
@@ -127,13 +127,13 @@ kept_other xs place word.Plain l h never is = let same = last_same xs (logged pl
 kept_other xs place word.Other l h never is = let same = last_same xs (logged place word.Other) l h in let both : word.Other ≡ word.Hit = ap (λ (x : Logged). x.how) same ∙ is in absurd cc
 
 -- its reply went out, or it didn't
-pub replied_other : (t : Turn Parts Event) (text : List ℕ) (old mid : Session) (bytes : List ℕ) (lines : List Logged) (l : Logged) → IsOther (meaning (trimmed text) old.state.state.ansi) → DoesOne t (command.Query text) old mid bytes
+pub replied_other : (t : Turn ServerState Event) (text : List ℕ) (old mid : Session) (bytes : List ℕ) (lines : List Logged) (l : Logged) → IsOther (meaning (trimmed text) old.state.state.ansi) → DoesOne t (command.Query text) old mid bytes
     → lines ≡ mid.log.lines → lines ≡ old.log.lines ++ l ∷ [] → l.how ≡ word.Hit → ⊥
 replied_other t text old mid bytes lines l free does same is how_is =
     let here = last_same old.log.lines (logged_line does.answered) l (sym does.lines ∙ (sym same ∙ is)) in
     answered_other t text old mid bytes free does (ap (λ (x : Logged). x.how) here ∙ how_is)
 
-pub dropped_other : (t : Turn Parts Event) (text : List ℕ) (old mid : Session) (bytes : List ℕ) (lines : List Logged) (l : Logged) → IsOther (meaning (trimmed text) old.state.state.ansi) → DoesOne t (command.Query text) old mid bytes
+pub dropped_other : (t : Turn ServerState Event) (text : List ℕ) (old mid : Session) (bytes : List ℕ) (lines : List Logged) (l : Logged) → IsOther (meaning (trimmed text) old.state.state.ansi) → DoesOne t (command.Query text) old mid bytes
     → DropsLocal mid.log.lines lines → lines ≡ old.log.lines ++ l ∷ [] → l.how ≡ word.Hit → ⊥
 dropped_other t text old mid bytes lines l free does drops is how_is =
     let a = does.answered in
@@ -149,7 +149,7 @@ stopped_by xs (x ∷ []) l few all h is =
 stopped_by xs (x ∷ y ∷ more) l few all h is = absurd (omega (arith, few))
 
 -- memory lacked
-pub stopped_other : (t : Turn Parts Event) (old new : Session) {IsSo : Journal → Event → Type 0} (l : Logged) → Stops t old new IsSo → new.log.lines ≡ old.log.lines ++ l ∷ [] → l.how ≡ word.Hit → ⊥
+pub stopped_other : (t : Turn ServerState Event) (old new : Session) {IsSo : Journal → Event → Type 0} (l : Logged) → Stops t old new IsSo → new.log.lines ≡ old.log.lines ++ l ∷ [] → l.how ≡ word.Hit → ⊥
 stopped_other t old new l stops is how_is = stopped_by old.log.lines stops.events l stops.few stops.others (sym stops.lines ∙ is) how_is
 
 pub none_logged : {P : Type 0} (old new : Session) (l : Logged) → new.log.lines ≡ old.log.lines → new.log.lines ≡ old.log.lines ++ l ∷ [] → P
@@ -157,12 +157,15 @@ none_logged old new l same is = never_longer old.log.lines l (sym same ∙ is)
 
 -- ---- it was replied
 
-pub does_replies : (t : Turn Parts Event) (c : Command) (old mid new : Session) (bytes : List ℕ) (held out : Option (List Piece)) → DoesOne t c old mid bytes → ((pieces : List Piece) → ArePutBy old mid pieces) → new ≡ mid → Sends held out bytes → IsReplied t c old new held out
-does_replies t c old mid new bytes held out does put same sends = subst (λ (x : Session). IsReplied t c old x held out) (sym same) (record {
+pub does_replies : (t : Turn ServerState Event) (c : Command) (old mid new : Session) (bytes : List ℕ) (held out : Option (List Piece)) (does : DoesOne t c old mid bytes) → ((pieces : List Piece) → ArePutBy old mid pieces) → size_by does.answered.how ≡ packet_size
+    → Adds held out (AreCut packet_size) → new ≡ mid → Sends held out bytes → Adds held out NoneIsEmpty → IsReplied t c old new held out
+does_replies t c old mid new bytes held out does put size cut same sends some = subst (λ (x : Session). IsReplied t c old x held out) (sym same) (record {
   reply = bytes;
   does = does;
   sends = sends;
   at = adds_so held out (λ more. bytes_of more ≡ bytes) (ArePutBy old mid) (λ more is. put more) sends;
+  cut = subst (λ (f : List ℕ → ℕ). Adds held out (AreCut f)) (sym size) cut;
+  some = some;
 })
 
 -- ---- where a call answers
@@ -178,6 +181,10 @@ on_oks (Err e) f p q = tt
 pub on_all : {A E P Q R S : Type 0} (r : Result A E) → (P → Q → R → S) → OnOk r P → OnOk r Q → OnOk r R → OnOk r S
 on_all (Ok x) f p q s = f p q s
 on_all (Err e) f p q s = tt
+
+pub on_four : {A E P Q R S T : Type 0} (r : Result A E) → (P → Q → R → S → T) → OnOk r P → OnOk r Q → OnOk r R → OnOk r S → OnOk r T
+on_four (Ok x) f p q s u = f p q s u
+on_four (Err e) f p q s u = tt
 
 pub by_result : {A E P Q R : Type 0} (r : Result A E) → (P → R) → (Q → R) → OnOk r P → OnErr r Q → R
 by_result (Ok x) f g p q = f p
@@ -197,5 +204,5 @@ pub fault_other : (text : List ℕ) (ansi : Bool) (fault : ParseFault) → meani
 fault_other text ansi fault means = subst IsOther (sym means) tt
 
 -- nothing was done
-pub ends_same : (t : Turn Parts Event) (c : Command) (old new : Session) (held : Option (List Piece)) → IsAtRest t old → new ≡ old → MustEnd t c old new held held
+pub ends_same : (t : Turn ServerState Event) (c : Command) (old new : Session) (held : Option (List Piece)) → IsAtRest t old → new ≡ old → MustEnd t c old new held held
 ends_same t c old new held rest same = subst (λ (x : Session). MustEnd t c old x held held) (sym same) (untouched t c old old.log held rest.rests refl)

@@ -46,23 +46,23 @@ use Rattle.qc_trx.specs.SnapshotStates.{SnapshotState, after_arrival, after_sigh
 use Rattle.qc_turn.specs.declared.turn.Turn.{Turn}
 use Rattle.qc_turn.specs.Seats.{view}
 use Rattle.qc_turn.proofs.Tasks.{starts_trans}
-use Rattle.qc_core.specs.declared.parts.Parts.{Parts}
+use Rattle.qc_core.specs.declared.server_state.ServerState.{ServerState}
 use Rattle.qc_select.specs.declared.selected.Selected.{Selected}
 use Rattle.qc_select.specs.declared.selected.Selected.TheVariants as selected
 use Rattle.qc_select.specs.Selects.{HasPlan, given, how_of, place_of}
 use Rattle.qc_select.specs.Settled.{state_at}
 use Rattle.qc_select.proofs.Arriving as arriving
 use Rattle.qc_select.proofs.Pruned.{present_stays}
-use Rattle.qc_steps.specs.Sound.{IsFitAt, IsFitIn, IsFitState, IsPast, IsSound}
-use Rattle.qc_steps.proofs.States.{fit_arrived, fit_more}
+use Rattle.qc_statements.specs.Sound.{IsFitAt, IsFitIn, IsFitState, IsPast, IsSound}
+use Rattle.qc_statements.proofs.States.{fit_arrived, fit_more}
 use Rattle.qc_serve.specs.declared.session.Session.{Session}
 use Rattle.qc_serve.specs.declared.sinks.Piece.{Piece}
-use Rattle.qc_serve.specs.Executed.{HasEventLine, MustEnd}
+use Rattle.qc_serve.specs.Executed.{AreStreamedBy, HasEventLine, MustEnd, size_by}
 use Rattle.qc_serve.specs.Going.{DoesOne, IsAtRest, as_fixed, next_who, number_of, position_of, seen_by}
 use Rattle.qc_serve.specs.Logs.{logged}
 use Rattle.qc_serve.specs.Querying.{HasDecided, arrives, arrives_at, word_of_selected}
 use Rattle.qc_serve.specs.Seats.{GoesOn, SeatRests, next_of}
-use Rattle.qc_serve.specs.Sent.{SendsFrontOf}
+use Rattle.qc_serve.specs.Sent.{Adds, AreCut, SendsFrontOf}
 use Rattle.qc_serve.proofs.Resting.{Follows, fit_later, past_later}
 use Rattle.qc_serve.proofs.Selecting.{arrives_session, arrives_with}
 
@@ -97,7 +97,7 @@ pub record Placed (old : Session) (text : List ℕ) (select : Select) (key : Lis
   pub fit : IsFitState (journal ++ prunes) (arrives_at select (length (journal ++ prunes) + 1) database old.state)
 
 -- The session behind the event, whose seat rests and has seen the journal up to it, or more.
-pub record IsBehind (t : Turn Parts Event) (select : Select) (old new : Session) (now : Journal) (d : Database) (x : Selected) : Type 0 where
+pub record IsBehind (t : Turn ServerState Event) (select : Select) (old new : Session) (now : Journal) (d : Database) (x : Selected) : Type 0 where
   pub on : GoesOn (number_of old) now (seen_by new)
   pub rests : SeatRests t (number_of old) new.seat
   pub fixed : (view new.seat).fixed ≡ (view old.seat).fixed
@@ -211,7 +211,7 @@ needs_alike options earlier k l e same h = tt
 follows_by : (I J q : Journal) → StartsWith J I → Follows I (J ++ q)
 follows_by I J q g = record { more = g.0 ++ q; is = ap (λ (j : Journal). j ++ q) g.1 ∙ append_assoc I g.0 q }
 
-pub placed : (t : Turn Parts Event) (text : List ℕ) (select : Select) (old mid : Session) (x : Selected) → IsAtRest t old → (d : HasDecided t text select old mid x) → Placed old text select d.key (seen_by mid) x d.database
+pub placed : (t : Turn ServerState Event) (text : List ℕ) (select : Select) (old mid : Session) (x : Selected) → IsAtRest t old → (d : HasDecided t text select old mid x) → Placed old text select d.key (seen_by mid) x d.database
 placed t text select old mid x rest d =
     let se = d.selects in
     let s : State = old.state.state in
@@ -261,7 +261,7 @@ placed t text select old mid x rest d =
 
 -- ---- the event is in the journal that the seat has seen
 
-word_is : (who : Who) (key : List ℕ) (tables : List TableName) (x : Selected) → word_of_selected x ≡ word_of (event.Run who (how_of key tables x))
+pub word_is : (who : Who) (key : List ℕ) (tables : List TableName) (x : Selected) → word_of_selected x ≡ word_of (event.Run who (how_of key tables x))
 word_is who key tables (selected.Hit hit) = refl
 word_is who key tables (selected.Start serial place plan) = refl
 word_is who key tables (selected.Plain why place plan) = refl
@@ -275,7 +275,7 @@ pub record Came (text : List ℕ) (old new : Session) (n : ℕ) (e : Event) (r :
   pub needs : HasOwnNeeds old.options (before n (seen_by new)) (key_of_text old.state.state text) e
   pub session : number_of new ≡ number_of old
 
-module _ (t : Turn Parts Event) (text : List ℕ) (select : Select) (old new : Session) (key : List ℕ) (now : Journal) (x : Selected) (d : Database)
+module _ (t : Turn ServerState Event) (text : List ℕ) (select : Select) (old new : Session) (key : List ℕ) (now : Journal) (x : Selected) (d : Database)
     (means : meaning (trimmed text) old.state.state.ansi ≡ Ok (statement.Select select)) (p : Placed old text select key now x d) (b : IsBehind t select old new now d x) where
   pub came : Came text old new (place_of x) (event_in old key p.tables x) (reply_in old select (p.journal ++ p.prunes))
   came =
@@ -365,9 +365,16 @@ module _ (t : Turn Parts Event) (text : List ℕ) (select : Select) (old new : S
         rest = rests_behind rest;
       }
 
+  -- by the word of its event
+  pub does_how : (bytes : List ℕ) (rest : IsAtRest t old) (reply : bytes ≡ packets (reply_in old select (p.journal ++ p.prunes))) (ends : fill_ends (seen_by new) (event_in old key p.tables x) ≡ true)
+      → (select_does bytes rest reply ends).answered.how ≡ word_of (event_in old key p.tables x)
+  unfolding select_does
+  does_how bytes rest reply ends = refl
+
   -- a front of its reply went out
-  pub select_ends : (bytes : List ℕ) (held out : Option (List Piece)) → bytes ≡ packets (reply_in old select (p.journal ++ p.prunes)) → SendsFrontOf held out bytes → MustEnd t (command.Query text) old new held out
-  select_ends bytes held out reply front =
+  pub select_ends : (bytes : List ℕ) (held out : Option (List Piece)) → bytes ≡ packets (reply_in old select (p.journal ++ p.prunes)) → SendsFrontOf held out bytes → Adds held out (AreStreamedBy old new)
+      → Adds held out (AreCut (size_by (word_of_selected x))) → MustEnd t (command.Query text) old new held out
+  select_ends bytes held out reply front streamed cut =
       let c = came in
       let n : ℕ = place_of x in
       let e : Event = event_in old key p.tables x in
@@ -389,6 +396,8 @@ module _ (t : Turn Parts Event) (text : List ℕ) (select : Select) (old new : S
             subst (λ (o : Local). MatchOption o (HasEventLine whole_machine old.options (number_of old) from (command.Query text) l (seen_by new)) (λ given. (l ≡ line from.place word.Local given.0) × (own (number_of old) (seen_by new) ≡ own (number_of old) from.seen))) (sym c.without)
                 (e, r, new.state.state, c.grows, c.does, refl, c.needs),
             subst (SendsFrontOf held out) reply front,
+            subst (λ (w : Word). Adds held out (AreCut (size_by w))) (word_is (next_who old) key p.tables x) cut,
           );
+          at = streamed;
         };
       }

@@ -21,7 +21,7 @@ use Rattle.qc_laws.specs.runs.Runs.{Position, Runs, own}
 use Rattle.qc_laws.proofs.runs.Composes.{compose, answered, nothing}
 use Rattle.qc_laws.proofs.runs.Cutting.{cuts_none, cuts_one, takes_all, takes_more, takes_one}
 use Rattle.qc_turn.specs.declared.turn.Turn.{Turn}
-use Rattle.qc_core.specs.declared.parts.Parts.{Parts}
+use Rattle.qc_core.specs.declared.server_state.ServerState.{ServerState}
 use Rattle.qc_wire.specs.Commands.{ReadsCommand}
 use Rattle.qc_serve.specs.declared.ending.End.{End}
 use Rattle.qc_serve.specs.declared.ending.End.TheVariants as end
@@ -81,7 +81,7 @@ serves_more old middle new cs ds ls ks held between out small a b = record {
   session = b.session ∙ a.session;
 }
 
-serves_one : (t : Turn Parts Event) (c : Command) (old new : Session) (held out : Option (List Piece)) → old.place ≤ length (seen_by old) → IsReplied t c old new held out → (l : ReportLine) × HasServed old new (c ∷ []) (l ∷ []) held out
+serves_one : (t : Turn ServerState Event) (c : Command) (old new : Session) (held out : Option (List Piece)) → old.place ≤ length (seen_by old) → IsReplied t c old new held out → (l : ReportLine) × HasServed old new (c ∷ []) (l ∷ []) held out
 serves_one t c old new held out small replied =
     let does = replied.does in
     let l : ReportLine = does.answered in (
@@ -97,7 +97,7 @@ serves_one t c old new held out small replied =
     )
 
 -- the seat leaves, and nothing goes out
-pub serves_quietly : (t : Turn Parts Event) (old new : Session) (e : End) (held : Option (List Piece)) → Leaves t old new e → HasServed old new [] [] held held
+pub serves_quietly : (t : Turn ServerState Event) (old new : Session) (e : End) (held : Option (List Piece)) → Leaves t old new e → HasServed old new [] [] held held
 serves_quietly t old new e held leaves =
     let on = leaves.seen in
     let begins = on.begins in
@@ -158,10 +158,10 @@ all_taken (Some input) (Some left) cs e takes is = takes_all input left cs e tak
 
 -- ---- the loop
 
-pub serving_begins : (t : Turn Parts Event) (s : Session) (input : Option (List ℕ)) (held : Option (List Piece)) → IsAtRest t s → s.end ≡ None → IsServing t s s input input held held
+pub serving_begins : (t : Turn ServerState Event) (s : Session) (input : Option (List ℕ)) (held : Option (List Piece)) → IsAtRest t s → s.end ≡ None → IsServing t s s input input held held
 serving_begins t s input held rest going = record { commands = []; answered = []; served = serves_none s held; takes = takes_none input; rest = rest; going = going }
 
-serving_goes_on : (t : Turn Parts Event) (old middle new : Session) (input left rest : Option (List ℕ)) (held between out : Option (List Piece)) (c : Command) → old.place ≤ length (seen_by old) → IsServing t old middle input left held between
+serving_goes_on : (t : Turn ServerState Event) (old middle new : Session) (input left rest : Option (List ℕ)) (held between out : Option (List Piece)) (c : Command) → old.place ≤ length (seen_by old) → IsServing t old middle input left held between
     → ReadsCommand (Ok c) left rest → (c ≡ command.Quit → ⊥) → IsReplied t c middle new between out → IsServing t old new input rest held out
 serving_goes_on t old middle new input left rest held between out c small serving read ne replied =
     let calm = serving.rest in
@@ -178,7 +178,7 @@ serving_goes_on t old middle new input left rest held between out c small servin
 
 -- ---- its end
 
-serves_all : (t : Turn Parts Event) (old middle new : Session) (input left : Option (List ℕ)) (held out : Option (List Piece)) (e : End) (ending : Ending) → old.place ≤ length (seen_by old) → IsServing t old middle input left held out
+serves_all : (t : Turn ServerState Event) (old middle new : Session) (input left : Option (List ℕ)) (held out : Option (List Piece)) (e : End) (ending : Ending) → old.place ≤ length (seen_by old) → IsServing t old middle input left held out
     → Leaves t middle new e → IfSome left (λ bytes. commands_of bytes ≡ ([], ending)) → ServesAll old new input held out ending
 serves_all t old middle new input left held out e ending small serving leaves is =
     let more = serves_more old middle new serving.commands [] serving.answered [] held out out small serving.served (serves_quietly t middle new e out leaves) in
@@ -189,13 +189,13 @@ serves_all t old middle new input left held out e ending small serving leaves is
       all = all_taken input left serving.commands ending serving.takes is;
     }
 
-left_as : (t : Turn Parts Event) (old middle new : Session) (input left : Option (List ℕ)) (held between : Option (List Piece)) → IsServing t old middle input left held between → HasLeft t (number_of middle) new.seat → HasLeft t (number_of old) new.seat
+left_as : (t : Turn ServerState Event) (old middle new : Session) (input left : Option (List ℕ)) (held between : Option (List Piece)) → IsServing t old middle input left held between → HasLeft t (number_of middle) new.seat → HasLeft t (number_of old) new.seat
 left_as t old middle new input left held between serving has = let served = serving.served in subst (λ (n : ℕ). HasLeft t n new.seat) served.session has
 
-kept_while : (t : Turn Parts Event) (old middle : Session) (input left : Option (List ℕ)) (held between : Option (List Piece)) → IsServing t old middle input left held between → standing_of middle ≡ standing_of old
+kept_while : (t : Turn ServerState Event) (old middle : Session) (input left : Option (List ℕ)) (held between : Option (List Piece)) → IsServing t old middle input left held between → standing_of middle ≡ standing_of old
 kept_while t old middle input left held between serving = let served = serving.served in served.standing
 
-ends_all : (t : Turn Parts Event) (old middle new : Session) (input left : Option (List ℕ)) (held out : Option (List Piece)) (e : End) (ending : Ending) → old.place ≤ length (seen_by old) → IsServing t old middle input left held out
+ends_all : (t : Turn ServerState Event) (old middle new : Session) (input left : Option (List ℕ)) (held out : Option (List Piece)) (e : End) (ending : Ending) → old.place ≤ length (seen_by old) → IsServing t old middle input left held out
     → Leaves t middle new e → ending_at e ≡ Some ending → IfSome left (λ bytes. commands_of bytes ≡ ([], ending)) → IsServed t old new input held out e
 ends_all t old middle new input left held out e ending small serving leaves at is = record {
   end = ap (λ (s : Session). s.end) leaves.same;
@@ -204,7 +204,7 @@ ends_all t old middle new input left held out e ending small serving leaves at i
   served = subst (λ (o : Option Ending). MatchOption o (ServesSome t old new input held out e) (ServesAll old new input held out)) (sym at) (serves_all t old middle new input left held out e ending small serving leaves is);
 }
 
-ends_some : (t : Turn Parts Event) (old middle new : Session) (input left : Option (List ℕ)) (held out : Option (List Piece)) (e : End) → IsServing t old middle input left held out → Leaves t middle new e → ending_at e ≡ None → IsServed t old new input held out e
+ends_some : (t : Turn ServerState Event) (old middle new : Session) (input left : Option (List ℕ)) (held out : Option (List Piece)) (e : End) → IsServing t old middle input left held out → Leaves t middle new e → ending_at e ≡ None → IsServed t old new input held out e
 ends_some t old middle new input left held out e serving leaves at = record {
   end = ap (λ (s : Session). s.end) leaves.same;
   left = left_as t old middle new input left held out serving leaves.left;
@@ -214,7 +214,7 @@ ends_some t old middle new input left held out e serving leaves at = record {
 }
 
 -- no command is left, or none can be read
-read_ends : (t : Turn Parts Event) (old middle new : Session) (input left rest : Option (List ℕ)) (held out : Option (List Piece)) (e : Or CommandEnd) → old.place ≤ length (seen_by old) → IsServing t old middle input left held out
+read_ends : (t : Turn ServerState Event) (old middle new : Session) (input left rest : Option (List ℕ)) (held out : Option (List Piece)) (e : Or CommandEnd) → old.place ≤ length (seen_by old) → IsServing t old middle input left held out
     → ReadsCommand (Err e) left rest → Leaves t middle new (reading_end e) → IsServed t old new input held out (reading_end e)
 read_ends t old middle new input left rest held out or.Memory small serving read leaves = ends_some t old middle new input left held out end.Memory serving leaves refl
 read_ends t old middle new input left rest held out (or.Other why.EndOfInput) small serving read leaves =
@@ -228,7 +228,7 @@ read_ends t old middle new input left rest held out (or.Other (why.BadSequence f
 read_ends t old middle new input left rest held out (or.Other why.Failed) small serving read leaves = ends_some t old middle new input left held out end.ReadFault serving leaves refl
 
 -- the command was COM_QUIT
-quit_ends : (t : Turn Parts Event) (old middle new : Session) (input left rest : Option (List ℕ)) (held between out : Option (List Piece)) (c : Command) → old.place ≤ length (seen_by old) → IsServing t old middle input left held between
+quit_ends : (t : Turn ServerState Event) (old middle new : Session) (input left rest : Option (List ℕ)) (held between out : Option (List Piece)) (c : Command) → old.place ≤ length (seen_by old) → IsServing t old middle input left held between
     → ReadsCommand (Ok c) left rest → c ≡ command.Quit → Leaves t middle new end.Quit → out ≡ between → IsServed t old new input held out end.Quit
 quit_ends t old middle new input left rest held between out c small serving read is leaves same =
     subst (λ (o : Option (List Piece)). IsServed t old new input held o end.Quit) (sym same)
@@ -250,7 +250,7 @@ is_next (Some left) None c takes = absurd takes
 is_next (Some left) (Some rest) c takes = (rest, takes)
 
 -- the session ended at the command
-command_ends : (t : Turn Parts Event) (old middle new : Session) (input left rest : Option (List ℕ)) (held between out : Option (List Piece)) (c : Command) (e : End) (before now : ℕ) → IsServing t old middle input left held between
+command_ends : (t : Turn ServerState Event) (old middle new : Session) (input left rest : Option (List ℕ)) (held between out : Option (List Piece)) (c : Command) (e : End) (before now : ℕ) → IsServing t old middle input left held between
     → ReadsCommand (Ok c) left rest → (c ≡ command.Quit → ⊥) → HasEnded t c middle new between out e × MayFail before now e → IsServed t old new input held out e
 command_ends t old middle new input left rest held between out c e before now serving read ne has = record {
   end = has.0.end;
@@ -267,7 +267,7 @@ with_end : (o : Option End) (e : End) (IsSo : End → Type 0) → o ≡ Some e �
 with_end o e IsSo is so = subst (λ (x : Option End). IfSome x IsSo × IsSome x) (sym is) (so, refl)
 
 -- no command could be read, and the session has left
-pub ended_reading : (t : Turn Parts Event) (old middle new : Session) (input left rest : Option (List ℕ)) (held out : Option (List Piece)) (e : Or CommandEnd) → old.place ≤ length (seen_by old) → IsServing t old middle input left held out
+pub ended_reading : (t : Turn ServerState Event) (old middle new : Session) (input left rest : Option (List ℕ)) (held out : Option (List Piece)) (e : Or CommandEnd) → old.place ≤ length (seen_by old) → IsServing t old middle input left held out
     → ReadsCommand (Err e) left rest → Leaves t middle new (reading_end e) → IfSome new.end (IsServed t old new input held out) × IsSome new.end
 ended_reading t old middle new input left rest held out e small serving read leaves =
     with_end new.end (reading_end e) (IsServed t old new input held out) (ap (λ (s : Session). s.end) leaves.same) (read_ends t old middle new input left rest held out e small serving read leaves)
@@ -282,11 +282,11 @@ is_quit (command.Unknown byte) = inr (λ h. absurd cc)
 is_quit command.Empty = inr (λ h. absurd cc)
 
 -- what `execute` tells
-pub record IsExecuted (t : Turn Parts Event) (c : Command) (middle new : Session) (between out : Option (List Piece)) (before now : ℕ) (r : Executed) : Type 0 where
+pub record IsExecuted (t : Turn ServerState Event) (c : Command) (middle new : Session) (between out : Option (List Piece)) (before now : ℕ) (r : Executed) : Type 0 where
   pub executes : c ≢ command.Quit → Executes t c middle new between out before now r
   pub quits : c ≡ command.Quit → Quits t middle new between out r
 
-ended_by : (t : Turn Parts Event) (old middle new : Session) (input left rest : Option (List ℕ)) (held between out : Option (List Piece)) (c : Command) (before now : ℕ) (r : Executed) (e : End) → old.place ≤ length (seen_by old) → IsServing t old middle input left held between
+ended_by : (t : Turn ServerState Event) (old middle new : Session) (input left rest : Option (List ℕ)) (held between out : Option (List Piece)) (c : Command) (before now : ℕ) (r : Executed) (e : End) → old.place ≤ length (seen_by old) → IsServing t old middle input left held between
     → ReadsCommand (Ok c) left rest → IsExecuted t c middle new between out before now r → r ≡ executed.Ended e → (c ≡ command.Quit) ⊎ (c ≢ command.Quit) → IfSome new.end (IsServed t old new input held out) × IsSome new.end
 ended_by t old middle new input left rest held between out c before now r e small serving read done is (inl quit) =
     let quits = done.quits quit in
@@ -297,19 +297,19 @@ ended_by t old middle new input left rest held between out c before now r e smal
     with_end new.end e (IsServed t old new input held out) has.0.end (command_ends t old middle new input left rest held between out c e before now serving read other has)
 
 -- the session ended at the command
-pub ended_here : (t : Turn Parts Event) (old middle new : Session) (input left rest : Option (List ℕ)) (held between out : Option (List Piece)) (c : Command) (before now : ℕ) (r : Executed) (e : End) → old.place ≤ length (seen_by old) → IsServing t old middle input left held between
+pub ended_here : (t : Turn ServerState Event) (old middle new : Session) (input left rest : Option (List ℕ)) (held between out : Option (List Piece)) (c : Command) (before now : ℕ) (r : Executed) (e : End) → old.place ≤ length (seen_by old) → IsServing t old middle input left held between
     → ReadsCommand (Ok c) left rest → IsExecuted t c middle new between out before now r → r ≡ executed.Ended e → IfSome new.end (IsServed t old new input held out) × IsSome new.end
 ended_here t old middle new input left rest held between out c before now r e small serving read done is =
     ended_by t old middle new input left rest held between out c before now r e small serving read done is (is_quit c)
 
-goes_on_by : (t : Turn Parts Event) (old middle new : Session) (input left rest : Option (List ℕ)) (held between out : Option (List Piece)) (c : Command) (before now : ℕ) (r : Executed) → old.place ≤ length (seen_by old) → IsServing t old middle input left held between
+goes_on_by : (t : Turn ServerState Event) (old middle new : Session) (input left rest : Option (List ℕ)) (held between out : Option (List Piece)) (c : Command) (before now : ℕ) (r : Executed) → old.place ≤ length (seen_by old) → IsServing t old middle input left held between
     → ReadsCommand (Ok c) left rest → IsExecuted t c middle new between out before now r → r ≡ executed.Replied → (c ≡ command.Quit) ⊎ (c ≢ command.Quit) → IsServing t old new input rest held out
 goes_on_by t old middle new input left rest held between out c before now r small serving read done is (inl quit) = let quits = done.quits quit in let not : executed.Replied ≡ executed.Ended end.Quit = sym is ∙ quits.0 in absurd cc
 goes_on_by t old middle new input left rest held between out c before now r small serving read done is (inr other) =
     serving_goes_on t old middle new input left rest held between out c small serving read other (subst (Executes t c middle new between out before now) is (done.executes other))
 
 -- it was answered
-pub goes_on_here : (t : Turn Parts Event) (old middle new : Session) (input left rest : Option (List ℕ)) (held between out : Option (List Piece)) (c : Command) (before now : ℕ) (r : Executed) → old.place ≤ length (seen_by old) → IsServing t old middle input left held between
+pub goes_on_here : (t : Turn ServerState Event) (old middle new : Session) (input left rest : Option (List ℕ)) (held between out : Option (List Piece)) (c : Command) (before now : ℕ) (r : Executed) → old.place ≤ length (seen_by old) → IsServing t old middle input left held between
     → ReadsCommand (Ok c) left rest → IsExecuted t c middle new between out before now r → r ≡ executed.Replied → IsServing t old new input rest held out
 goes_on_here t old middle new input left rest held between out c before now r small serving read done is =
     goes_on_by t old middle new input left rest held between out c before now r small serving read done is (is_quit c)

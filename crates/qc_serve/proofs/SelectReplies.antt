@@ -21,6 +21,7 @@ use Rattle.qc_sql.specs.Rules.{asks, select_tables}
 use Rattle.qc_model.specs.declared.events.Event.{Event}
 use Rattle.qc_model.specs.declared.events.How.TheVariants as how
 use Rattle.qc_model.specs.declared.events.Reason.{Reason}
+use Rattle.qc_model.specs.declared.reports.Word.{Word}
 use Rattle.qc_model.specs.declared.reports.Word.TheVariants as word
 use Rattle.qc_model.specs.Agrees.{fill_ends}
 use Rattle.qc_model.specs.Cache.{Entry, cache}
@@ -42,29 +43,31 @@ use Rattle.qc_turn.specs.declared.task.Task.TheVariants as task
 use Rattle.qc_turn.specs.declared.turn.Turn.{Turn}
 use Rattle.qc_turn.specs.Seats.{view}
 use Rattle.qc_core.specs.contracts.server.ServerKept.TheImpl.{ghosts}
-use Rattle.qc_core.specs.declared.hits.Hit.{Hit}
-use Rattle.qc_core.specs.declared.parts.Parts.{Parts}
+use Rattle.qc_core.specs.declared.hit_stream.Hit.{Hit}
+use Rattle.qc_core.specs.declared.server_state.ServerState.{ServerState}
 use Rattle.qc_select.specs.declared.selected.Selected.{Selected}
 use Rattle.qc_select.specs.declared.selected.Selected.TheVariants as selected
 use Rattle.qc_select.specs.Selects.{place_of, planned}
 use Rattle.qc_select.proofs.NoReasons.{found_test, no_reason}
-use Rattle.qc_steps.proofs.Looking.{place_by_fit}
-use Rattle.qc_steps.proofs.States.{orderly_base}
+use Rattle.qc_statements.proofs.Looking.{place_by_fit}
+use Rattle.qc_statements.proofs.States.{orderly_base}
 use Rattle.qc_serve.specs.declared.log.Logged.{Logged}
 use Rattle.qc_serve.specs.declared.session.Session.{Session}
-use Rattle.qc_serve.specs.Asking.{HasTask, task_of}
+use Rattle.qc_serve.specs.Asking.{task_of}
+use Rattle.qc_serve.specs.Holding.{HasTask}
 use Rattle.qc_serve.specs.declared.sinks.Piece.{Piece}
-use Rattle.qc_serve.specs.Executed.{IsReplied, MustEnd}
+use Rattle.qc_serve.specs.Executed.{IsReplied, MustEnd, size_by}
 use Rattle.qc_serve.specs.Going.{IsAtRest, as_fixed, next_who, number_of, seen_by}
 use Rattle.qc_serve.specs.Logs.{logged}
 use Rattle.qc_serve.specs.Querying.{EndsWith, HasDecided, HasEndedFill, IsPlanned, LacksMemory, MaySend, arrives, arrives_at, bytes_for, is_hit, plan_packets, word_of_selected}
 use Rattle.qc_serve.specs.Seats.{GoesOn, SeatRests}
-use Rattle.qc_serve.specs.Sent.{Sends, SendsFrontOf}
+use Rattle.qc_serve.specs.Sent.{Adds, AreCut, NoneIsEmpty, Sends}
+use Rattle.qc_serve.proofs.Breaking.{none_streamed}
 use Rattle.qc_serve.proofs.Parsing.{last_same}
-use Rattle.qc_serve.proofs.Placing.{IsBehind, Placed, arrived_with, came, event_in, given_in, placed, reply_in, select_does, select_ends, state_in, state_is}
+use Rattle.qc_serve.proofs.Placing.{IsBehind, Placed, arrived_with, came, does_how, event_in, given_in, placed, reply_in, select_does, select_ends, state_in, state_is, word_is}
 use Rattle.qc_serve.proofs.Selecting.{arrives_session, arrives_with, keyed_with}
-use Rattle.qc_serve.proofs.PiecesPut.{lawful_seen, put_selected}
-use Rattle.qc_serve.specs.SentAt.{SendsAs}
+use Rattle.qc_serve.proofs.PiecesPut.{front_of_selected, lawful_seen, put_selected, streamed_selected}
+use Rattle.qc_serve.specs.SentAt.{SendsAs, SendsFrontAs}
 
 -- ---- what is allowed of an event
 
@@ -210,7 +213,7 @@ plan_error (Err x) e h = cc
 
 -- ---- as the session sends it
 
-module _ (t : Turn Parts Event) (text : List ℕ) (select : Select) (old mid : Session) (x : Selected) (rest : IsAtRest t old) (means : meaning (trimmed text) old.state.state.ansi ≡ Ok (statement.Select select)) (d : HasDecided t text select old mid x)
+module _ (t : Turn ServerState Event) (text : List ℕ) (select : Select) (old mid : Session) (x : Selected) (rest : IsAtRest t old) (means : meaning (trimmed text) old.state.state.ansi ≡ Ok (statement.Select select)) (d : HasDecided t text select old mid x)
     (p : Placed old text select d.key (seen_by mid) x d.database) where
   abbrev J : Journal
   J = p.journal ++ p.prunes
@@ -267,7 +270,7 @@ module _ (t : Turn Parts Event) (text : List ℕ) (select : Select) (old mid : S
   refused_fits : (e : SqlError) → is_short_select select ≡ true → ◌≡◌ {A = Result PlanView SqlError} (Err e) (planned (given_in old select J)) → FitsError e
   refused_fits e short is = error_fits text select old d.key (seen_by mid) x d.database means p e short (plan_error (given_in old select J) e is)
 
-start_sends : (t : Turn Parts Event) (text : List ℕ) (select : Select) (old mid : Session) (serial place : ℕ) (plan : PlanView) → IsAtRest t old → is_short_select select ≡ true → meaning (trimmed text) old.state.state.ansi ≡ Ok (statement.Select select)
+start_sends : (t : Turn ServerState Event) (text : List ℕ) (select : Select) (old mid : Session) (serial place : ℕ) (plan : PlanView) → IsAtRest t old → is_short_select select ≡ true → meaning (trimmed text) old.state.state.ansi ≡ Ok (statement.Select select)
     → (d : HasDecided t text select old mid (selected.Start serial place plan)) → Placed old text select d.key (seen_by mid) (selected.Start serial place plan) d.database → MaySend t mid (selected.Start serial place plan)
 start_sends t text select old mid serial place plan rest short means d p =
     let x : Selected = selected.Start serial place plan in
@@ -293,7 +296,7 @@ start_sends t text select old mid serial place plan rest short means d p =
     )
 
 -- the seat may send what was decided
-pub may_send : (t : Turn Parts Event) (text : List ℕ) (select : Select) (old mid : Session) (x : Selected) → IsAtRest t old → is_short_select select ≡ true → meaning (trimmed text) old.state.state.ansi ≡ Ok (statement.Select select)
+pub may_send : (t : Turn ServerState Event) (text : List ℕ) (select : Select) (old mid : Session) (x : Selected) → IsAtRest t old → is_short_select select ≡ true → meaning (trimmed text) old.state.state.ansi ≡ Ok (statement.Select select)
     → HasDecided t text select old mid x → MaySend t mid x
 may_send t text select old mid (selected.Hit hit) rest short means d =
     let p = placed t text select old mid (selected.Hit hit) rest d in
@@ -311,7 +314,7 @@ may_send t text select old mid (selected.Plain why place (Err e)) rest short mea
     (selected_rests t text select old mid x rest means d p refl, refused_fits t text select old mid x rest means d p e short p.plan)
 
 -- its bytes are the packets of what the select gives
-bytes_are : (t : Turn Parts Event) (text : List ℕ) (select : Select) (old mid : Session) (x : Selected) → IsAtRest t old → meaning (trimmed text) old.state.state.ansi ≡ Ok (statement.Select select) → (d : HasDecided t text select old mid x)
+bytes_are : (t : Turn ServerState Event) (text : List ℕ) (select : Select) (old mid : Session) (x : Selected) → IsAtRest t old → meaning (trimmed text) old.state.state.ansi ≡ Ok (statement.Select select) → (d : HasDecided t text select old mid x)
     → (p : Placed old text select d.key (seen_by mid) x d.database) → bytes_for mid x ≡ packets (reply_in old select (p.journal ++ p.prunes))
 bytes_are t text select old mid (selected.Hit hit) rest means d p =
     let x : Selected = selected.Hit hit in
@@ -335,7 +338,7 @@ bytes_are t text select old mid (selected.Plain why place (Err e)) rest means d 
 -- ---- it went out
 
 -- the session behind what was sent, whose seat may have seen more
-behind : (t : Turn Parts Event) (text : List ℕ) (select : Select) (old mid new : Session) (x : Selected) → IsAtRest t old → meaning (trimmed text) old.state.state.ansi ≡ Ok (statement.Select select) → (d : HasDecided t text select old mid x)
+behind : (t : Turn ServerState Event) (text : List ℕ) (select : Select) (old mid new : Session) (x : Selected) → IsAtRest t old → meaning (trimmed text) old.state.state.ansi ≡ Ok (statement.Select select) → (d : HasDecided t text select old mid x)
     → Placed old text select d.key (seen_by mid) x d.database → EndsWith t (number_of mid) mid.seat new.seat → new ≡ record mid { seat = new.seat } → IsBehind t select old new (seen_by mid) d.database x
 behind t text select old mid new x rest means d p ends is =
     let se = d.selects in
@@ -354,34 +357,42 @@ behind t text select old mid new x rest means d p ends is =
       end = ap (λ (z : Session). z.end) is ∙ ap (λ (z : Session). z.end) d.same;
     }
 
-fill_ended : (old : Session) (key : List ℕ) (tables : List TableName) (x : Selected) (seat : Seat Parts Event ghosts) → HasEndedFill seat x → fill_ends (view seat).seen (event_in old key tables x) ≡ true
+fill_ended : (old : Session) (key : List ℕ) (tables : List TableName) (x : Selected) (seat : Seat ServerState Event ghosts) → HasEndedFill seat x → fill_ends (view seat).seen (event_in old key tables x) ≡ true
 fill_ended old key tables (selected.Hit hit) seat h = refl
 fill_ended old key tables (selected.Start serial place plan) seat h = h.ended
 fill_ended old key tables (selected.Plain why place plan) seat h = refl
 
-pub sent_replies : (t : Turn Parts Event) (text : List ℕ) (select : Select) (old mid new : Session) (x : Selected) (held out : Option (List Piece)) → IsAtRest t old → meaning (trimmed text) old.state.state.ansi ≡ Ok (statement.Select select) → HasDecided t text select old mid x
-    → EndsWith t (number_of mid) mid.seat new.seat → new ≡ record mid { seat = new.seat } → HasEndedFill new.seat x → Sends held out (bytes_for mid x) → SendsAs x (seen_by new) held out (bytes_for mid x) → IsReplied t (command.Query text) old new held out
-sent_replies t text select old mid new x held out rest means d ends is filled sends as_it =
+pub sent_replies : (t : Turn ServerState Event) (text : List ℕ) (select : Select) (old mid new : Session) (x : Selected) (held out : Option (List Piece)) → IsAtRest t old → meaning (trimmed text) old.state.state.ansi ≡ Ok (statement.Select select) → HasDecided t text select old mid x
+    → EndsWith t (number_of mid) mid.seat new.seat → new ≡ record mid { seat = new.seat } → HasEndedFill new.seat x → Sends held out (bytes_for mid x) → SendsAs x (seen_by new) held out (bytes_for mid x)
+    → Adds held out (AreCut (size_by (word_of_selected x))) → Adds held out NoneIsEmpty → IsReplied t (command.Query text) old new held out
+sent_replies t text select old mid new x held out rest means d ends is filled sends as_it cut some =
     let p = placed t text select old mid x rest d in
     let b = behind t text select old mid new x rest means d p ends is in
     let c = came t text select old new d.key (seen_by mid) x d.database means p b in
     let lawful = lawful_seen t new.seat ends.rests.seated in
+    let is_reply = bytes_are t text select old mid x rest means d p in
+    let over = fill_ended old d.key p.tables x new.seat filled in
+    let how_is = does_how t text select old new d.key (seen_by mid) x d.database means p b (bytes_for mid x) rest is_reply over in
     record {
       reply = bytes_for mid x;
-      does = select_does t text select old new d.key (seen_by mid) x d.database means p b (bytes_for mid x) rest (bytes_are t text select old mid x rest means d p) (fill_ended old d.key p.tables x new.seat filled);
+      does = select_does t text select old new d.key (seen_by mid) x d.database means p b (bytes_for mid x) rest is_reply over;
       sends = sends;
       at = put_selected old new (place_of x) d.key p.tables x lawful.0 held out (bytes_for mid x) c.grows lawful.1 sends as_it;
+      cut = subst (λ (w : Word). Adds held out (AreCut (size_by w))) (word_is (next_who old) d.key p.tables x ∙ sym how_is) cut;
+      some = some;
     }
 
-pub sent_ends : (t : Turn Parts Event) (text : List ℕ) (select : Select) (old mid new : Session) (x : Selected) (held out : Option (List Piece)) → IsAtRest t old → meaning (trimmed text) old.state.state.ansi ≡ Ok (statement.Select select) → HasDecided t text select old mid x
-    → EndsWith t (number_of mid) mid.seat new.seat → new ≡ record mid { seat = new.seat } → SendsFrontOf held out (bytes_for mid x) → MustEnd t (command.Query text) old new held out
-sent_ends t text select old mid new x held out rest means d ends is front =
+pub sent_ends : (t : Turn ServerState Event) (text : List ℕ) (select : Select) (old mid new : Session) (x : Selected) (held out : Option (List Piece)) → IsAtRest t old → meaning (trimmed text) old.state.state.ansi ≡ Ok (statement.Select select) → HasDecided t text select old mid x
+    → EndsWith t (number_of mid) mid.seat new.seat → new ≡ record mid { seat = new.seat } → SendsFrontAs x held out (bytes_for mid x) → Adds held out (AreCut (size_by (word_of_selected x))) → MustEnd t (command.Query text) old new held out
+sent_ends t text select old mid new x held out rest means d ends is front cut =
     let p = placed t text select old mid x rest d in
     let b = behind t text select old mid new x rest means d p ends is in
-    select_ends t text select old new d.key (seen_by mid) x d.database means p b (bytes_for mid x) held out (bytes_are t text select old mid x rest means d p) front
+    let c = came t text select old new d.key (seen_by mid) x d.database means p b in
+    select_ends t text select old new d.key (seen_by mid) x d.database means p b (bytes_for mid x) held out (bytes_are t text select old mid x rest means d p) (front_of_selected x held out (bytes_for mid x) front)
+    (streamed_selected old new (place_of x) d.key p.tables x held out (bytes_for mid x) c.grows front) cut
 
 -- memory lacked before its event
-pub lacks_ends : (t : Turn Parts Event) (c : Command) (old new : Session) (held : Option (List Piece)) → LacksMemory t old new → MustEnd t c old new held held
+pub lacks_ends : (t : Turn ServerState Event) (c : Command) (old new : Session) (held : Option (List Piece)) → LacksMemory t old new → MustEnd t c old new held held
 lacks_ends t c old new held lacks =
     let seat = lacks.seat in
     let again = seat.again in
@@ -397,6 +408,7 @@ lacks_ends t c old new held lacks =
         session = lacks.session;
         standing = λ i. (again.fixed i, again.registry i);
         sent = inl (refl, refl);
+        at = none_streamed old new held;
       };
     }
 
@@ -407,7 +419,7 @@ word_hits (selected.Hit hit) h = refl
 word_hits (selected.Start serial place plan) h = absurd cc
 word_hits (selected.Plain why place plan) h = absurd cc
 
-pub logged_hits : (t : Turn Parts Event) (text : List ℕ) (select : Select) (old mid new : Session) (x : Selected) (l : Logged) → HasDecided t text select old mid x → new ≡ record mid { seat = new.seat } → new.log.lines ≡ old.log.lines ++ l ∷ [] → l.how ≡ word.Hit → is_hit x ≡ true
+pub logged_hits : (t : Turn ServerState Event) (text : List ℕ) (select : Select) (old mid new : Session) (x : Selected) (l : Logged) → HasDecided t text select old mid x → new ≡ record mid { seat = new.seat } → new.log.lines ≡ old.log.lines ++ l ∷ [] → l.how ≡ word.Hit → is_hit x ≡ true
 logged_hits t text select old mid new x l d is lines how_is =
     let one : old.log.lines ++ l ∷ [] ≡ old.log.lines ++ logged (place_of x) (word_of_selected x) ∷ [] = sym lines ∙ (ap (λ (z : Session). z.log.lines) is ∙ d.lines) in
     let same = last_same old.log.lines l (logged (place_of x) (word_of_selected x)) one in

@@ -14,12 +14,12 @@ use Rattle.qc_trx.specs.SnapshotStates.{SnapshotState, after_arrival}
 use Rattle.qc_turn.specs.declared.seat.Seat.{Seat}
 use Rattle.qc_turn.specs.declared.turn.Turn.{Turn}
 use Rattle.qc_core.specs.contracts.server.ServerKept.TheImpl.{ghosts}
-use Rattle.qc_core.specs.declared.parts.Parts.{Parts}
+use Rattle.qc_core.specs.declared.server_state.ServerState.{ServerState}
 use Rattle.qc_model.specs.declared.events.Event.{Event}
 use Rattle.qc_select.specs.declared.selected.Selected.{Selected}
 use Rattle.qc_select.specs.Selects.{place_of}
-use Rattle.qc_steps.specs.Sound.{IsFitIn, IsFitState, IsPast}
-use Rattle.qc_steps.proofs.Looking.{keyed_by}
+use Rattle.qc_statements.specs.Sound.{IsFitIn, IsFitState, IsPast}
+use Rattle.qc_statements.proofs.Looking.{keyed_by}
 use Rattle.qc_serve.specs.declared.session.Session.{Session}
 use Rattle.qc_serve.specs.Asking.{LooksOn, MayAskAt, MaySelect, Selects}
 use Rattle.qc_serve.specs.Going.{IsAtRest, number_of, seen_by}
@@ -78,12 +78,12 @@ arrives_past J select x past = by (uses_rows (statement.Select select))
 -- ---- it may be decided
 
 -- a session in which the select has arrived may ask
-pub record MayDecide (t : Turn Parts Event) (select : Select) (text : List ℕ) (mid : Session) : Type 0 where
+pub record MayDecide (t : Turn ServerState Event) (select : Select) (text : List ℕ) (mid : Session) : Type 0 where
   pub asks : MayAskAt t (number_of mid) mid.seat
   pub may : MaySelect (seen_by mid) mid.state
   pub means : meaning (trimmed text) mid.state.state.ansi ≡ Ok (statement.Select select)
 
-may_in : (t : Turn Parts Event) (select : Select) (text : List ℕ) (old : Session) → IsAtRest t old → (arrives select old.state).state.row_limit < 2 ^ 64
+may_in : (t : Turn ServerState Event) (select : Select) (text : List ℕ) (old : Session) → IsAtRest t old → (arrives select old.state).state.row_limit < 2 ^ 64
     → meaning (trimmed text) old.state.state.ansi ≡ Ok (statement.Select select) → MayDecide t select text (record old { state = arrives select old.state })
 may_in t select text old rest limit means =
     let x : SnapshotState = old.state in
@@ -100,13 +100,13 @@ may_in t select text old rest limit means =
       means = ap (meaning (trimmed text)) (arrives_ansi select x) ∙ means;
     }
 
-pub may_decide : (t : Turn Parts Event) (select : Select) (text : List ℕ) (old mid : Session) → mid ≡ record old { state = arrives select old.state } → IsAtRest t old → mid.state.state.row_limit < 2 ^ 64
+pub may_decide : (t : Turn ServerState Event) (select : Select) (text : List ℕ) (old mid : Session) → mid ≡ record old { state = arrives select old.state } → IsAtRest t old → mid.state.state.row_limit < 2 ^ 64
     → meaning (trimmed text) old.state.state.ansi ≡ Ok (statement.Select select) → MayDecide t select text mid
 may_decide t select text old mid is rest limit means = subst (MayDecide t select text) (sym is) (may_in t select text old rest (subst (λ (s : Session). s.state.state.row_limit < 2 ^ 64) is limit) means)
 
 -- ---- it was decided
 
-decided_in : (t : Turn Parts Event) (text : List ℕ) (select : Select) (old new : Session) (key : List ℕ) (d : Database) (x : Selected) (seat : Seat Parts Event ghosts)
+decided_in : (t : Turn ServerState Event) (text : List ℕ) (select : Select) (old new : Session) (key : List ℕ) (d : Database) (x : Selected) (seat : Seat ServerState Event ghosts)
     → key ≡ key_of_text (arrives select old.state).state text → CanBeKeyed (arrives select old.state).state → Selects t text key select (arrives select old.state).state old.seat seat x d
     → new ≡ record old { seat = seat; state = arrives_at select (place_of x) d old.state; place = place_of x; log = new.log } → new.log.lines ≡ old.log.lines ++ logged (place_of x) (word_of_selected x) ∷ [] → HasDecided t text select old new x
 decided_in t text select old new key d x seat key_is keyed selects is lines =
@@ -117,28 +117,28 @@ decided_in t text select old new key d x seat key_is keyed selects is lines =
       key_is = key_is;
       keyed = keyed;
       database = d;
-      selects = subst (λ (s : Seat Parts Event ghosts). Selects t text key select (arrives select old.state).state old.seat s x d) at selects;
+      selects = subst (λ (s : Seat ServerState Event ghosts). Selects t text key select (arrives select old.state).state old.seat s x d) at selects;
       state = state;
       lines = lines;
       same = is ∙ (λ i. record old { seat = at i; state = sym state i; place = place_of x; log = new.log });
     }
 
 -- mid: the select has arrived; seen: it has seen the database at its place
-pub decided : (t : Turn Parts Event) (text : List ℕ) (select : Select) (old mid seen new : Session) (key : List ℕ) (d : Database) (x : Selected) (seat : Seat Parts Event ghosts) (place : ℕ) (word : Word) → mid ≡ record old { state = arrives select old.state }
+pub decided : (t : Turn ServerState Event) (text : List ℕ) (select : Select) (old mid seen new : Session) (key : List ℕ) (d : Database) (x : Selected) (seat : Seat ServerState Event ghosts) (place : ℕ) (word : Word) → mid ≡ record old { state = arrives select old.state }
     → key ≡ key_of_text mid.state.state text → CanBeKeyed mid.state.state → Selects t text key select mid.state.state mid.seat seat x d → place ≡ place_of x → word ≡ word_of_selected x
     → seen ≡ record mid { seat = seat; state = sees_at select place d mid.state } → new ≡ record seen { place = place; log = new.log } → new.log.lines ≡ seen.log.lines ++ logged place word ∷ [] → HasDecided t text select old new x
 decided t text select old mid seen new key d x seat place word arrived key_is keyed selects at how sees is lines =
     let state : mid.state ≡ arrives select old.state = ap (λ (s : Session). s.state) arrived in
     let sat : mid.seat ≡ old.seat = ap (λ (s : Session). s.seat) arrived in
     decided_in t text select old new key d x seat (key_is ∙ ap (λ (y : SnapshotState). key_of_text y.state text) state) (subst (λ (y : SnapshotState). CanBeKeyed y.state) state keyed)
-    (subst (λ (p : SnapshotState × Seat Parts Event ghosts). Selects t text key select p.0.state p.1 seat x d) (λ i. (state i, sat i)) selects)
+    (subst (λ (p : SnapshotState × Seat ServerState Event ghosts). Selects t text key select p.0.state p.1 seat x d) (λ i. (state i, sat i)) selects)
     (is ∙ (λ i. record (sees i) { place = at i; log = new.log }) ∙ (λ i. record (arrived i) { seat = seat; state = sees_at select (at i) d (state i); place = place_of x; log = new.log }))
     (lines ∙ (λ i. (sees i).log.lines ++ logged (at i) (how i) ∷ []) ∙ ap (λ (s : Session). s.log.lines ++ logged (place_of x) (word_of_selected x) ∷ []) arrived)
 
 -- ---- memory lacked
 
 -- no turn was taken
-pub key_lacks : (t : Turn Parts Event) (select : Select) (old mid : Session) → IsAtRest t old → mid ≡ record old { state = arrives select old.state } → LacksMemory t old mid
+pub key_lacks : (t : Turn ServerState Event) (select : Select) (old mid : Session) → IsAtRest t old → mid ≡ record old { state = arrives select old.state } → LacksMemory t old mid
 key_lacks t select old mid rest is =
     let at : old.seat ≡ mid.seat = sym (ap (λ (s : Session). s.seat) is) in
     let stays : LooksOn t (number_of old) old.seat old.seat = record {
@@ -152,12 +152,12 @@ key_lacks t select old mid rest is =
     }
 
 -- a turn was taken
-pub turn_lacks : (t : Turn Parts Event) (select : Select) (old mid : Session) (seat : Seat Parts Event ghosts) → mid ≡ record old { state = arrives select old.state } → LooksOn t (number_of mid) mid.seat seat → LacksMemory t old (record mid { seat = seat })
+pub turn_lacks : (t : Turn ServerState Event) (select : Select) (old mid : Session) (seat : Seat ServerState Event ghosts) → mid ≡ record old { state = arrives select old.state } → LooksOn t (number_of mid) mid.seat seat → LacksMemory t old (record mid { seat = seat })
 turn_lacks t select old mid seat is looks =
     let sat : mid.seat ≡ old.seat = ap (λ (s : Session). s.seat) is in
     let session : number_of mid ≡ number_of old = ap number_of is ∙ arrives_session select old.state in
     record {
-      seat = subst (λ (p : ℕ × Seat Parts Event ghosts). LooksOn t p.0 p.1 seat) (λ i. (session i, sat i)) looks;
+      seat = subst (λ (p : ℕ × Seat ServerState Event ghosts). LooksOn t p.0 p.1 seat) (λ i. (session i, sat i)) looks;
       session = session;
       same = (λ i. record (is i) { seat = seat }) ∙ (λ i. record old { seat = seat; state = sym (ap (λ (s : Session). s.state) is) i });
     }

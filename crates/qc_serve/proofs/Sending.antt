@@ -1,19 +1,21 @@
 -- Pieces go out one after another, while the seat has a task.
-use Rattle.std.proofs.Common.{◌≡◌, ℕ, ◌+◌, ◌-◌, ◌<◌, ◌≤◌, Bool, true, false, List, [], ◌∷◌, ◌++◌, length, take, drop, refl, sym, ap, ◌∙◌, subst, arith, append-nil, append_assoc, length-drop, Option, Some, None}
+use Rattle.std.proofs.Common.{◌≡◌, ℕ, ◌+◌, ◌-◌, ◌<◌, ◌≤◌, Bool, true, false, List, [], ◌∷◌, ◌++◌, length, take, drop, refl, sym, ap, ◌∙◌, subst, arith, append-nil, append_assoc, length-drop, Option, Some, None, inl, inr}
 use Rattle.std.specs.Prelude.{OnErr, Result, Ok, Err, min, nat_lt}
 use Rattle.std.proofs.lemmas.Bool.Decides.{nat_tests}
 use Rattle.std.proofs.lemmas.Grind.{flat_map-append}
 use Rattle.std.proofs.lemmas.List.{drop_all, drop-drop, take-append-drop}
 use Rattle.std.proofs.lemmas.List.Elements.{All-append, All-cons, All-nil}
+use Rattle.qc_types.specs.declared.streams.PutStep.{PutStep}
+use Rattle.qc_types.specs.declared.streams.PutStep.TheVariants as put
 use Rattle.qc_types.specs.Streams.{BeginsWith}
-use Rattle.qc_replies.specs.RowPackets.{GivesPacket}
+use Rattle.qc_statements.specs.RowPackets.{GivesPacket}
 use Rattle.qc_turn.specs.declared.task.Task.{Task}
 use Rattle.qc_serve.specs.declared.ending.End.{End}
 use Rattle.qc_serve.specs.declared.ending.End.TheVariants as end
 use Rattle.qc_serve.specs.declared.sinks.Piece.{Piece}
 use Rattle.qc_serve.specs.Executed.{AllAt, MayFail}
-use Rattle.qc_serve.specs.Sent.{Adds, Sends, SendsFrontOf, bytes_of, piece}
-use Rattle.qc_serve.specs.SentAt.{SendsAt}
+use Rattle.qc_serve.specs.Sent.{Adds, IsPartOf, PutsPart, PutsPiece, Sends, SendsFrontOf, bytes_of, piece}
+use Rattle.qc_serve.specs.SentAt.{SendsAt, SendsFrontAt}
 
 -- ---- what was added, and then more
 
@@ -60,6 +62,24 @@ front_on x y next rest all before (r, is) = (
 pub front_now : (x : List Piece) (rest all : List ℕ) → bytes_of x ++ rest ≡ all → BeginsWith all (bytes_of x)
 front_now x rest all is = (rest, sym is)
 
+-- ---- a put that didn't succeed
+
+part_of : (held : List Piece) (out : Option (List Piece)) (bytes : List ℕ) (at : Task) → PutsPart held out bytes at → Adds (Some held) out (IsPartOf bytes at)
+part_of held out bytes at (inl is) = ([], is ∙ ap (λ (ps : List Piece). Some ps) (sym (append-nil held)), inl refl)
+part_of held out bytes at (inr (prefix, begins, is)) = (piece prefix at ∷ [], is, inr (prefix, begins, refl))
+
+pub part_failed : (held out : Option (List Piece)) (bytes : List ℕ) (at : Task) → PutsPiece put.Failed held out bytes at → Adds held out (IsPartOf bytes at)
+part_failed None out bytes at puts = puts
+part_failed (Some held) out bytes at puts = part_of held out bytes at puts
+
+pub part_lacking : (held out : Option (List Piece)) (bytes : List ℕ) (at : Task) → PutsPiece put.Memory held out bytes at → Adds held out (IsPartOf bytes at)
+part_lacking None out bytes at puts = puts
+part_lacking (Some held) out bytes at puts = part_of held out bytes at puts
+
+pub part_bytes : (bytes : List ℕ) (at : Task) (more : List Piece) → IsPartOf bytes at more → BeginsWith bytes (bytes_of more)
+part_bytes bytes at more (inl is) = subst (λ (ps : List Piece). BeginsWith bytes (bytes_of ps)) (sym is) (bytes, refl)
+part_bytes bytes at more (inr (prefix, begins, is)) = subst (λ (ps : List Piece). BeginsWith bytes (bytes_of ps)) (sym is) (subst (BeginsWith bytes) (sym (one_bytes prefix at)) begins)
+
 -- ---- what went out so far
 
 -- of these bytes only the rest is left
@@ -76,10 +96,10 @@ went_more before held out all next rest at went puts =
     (λ x y p q. bytes_on x y next rest all p (ap bytes_of q ∙ one_bytes next at))
 
 -- a front of it
-pub went_front : (before held out : Option (List Piece)) (all next rest : List ℕ) → Went all (next ++ rest) before held → SendsFrontOf held out next → SendsFrontOf before out all
-went_front before held out all next rest went puts =
-    adds_both before held out (λ more. bytes_of more ++ (next ++ rest) ≡ all) (λ more. BeginsWith next (bytes_of more)) (λ more. BeginsWith all (bytes_of more)) went puts
-    (λ x y p q. front_on x y next rest all p q)
+pub went_front : (before held out : Option (List Piece)) (all next rest : List ℕ) (at : Task) → Went all (next ++ rest) before held → Adds held out (IsPartOf next at) → SendsFrontOf before out all
+went_front before held out all next rest at went puts =
+    adds_both before held out (λ more. bytes_of more ++ (next ++ rest) ≡ all) (IsPartOf next at) (λ more. BeginsWith all (bytes_of more)) went puts
+    (λ x y p q. front_on x y next rest all p (part_bytes next at y q))
 
 -- the rest in two parts
 pub went_split : (before held : Option (List Piece)) (all rest next behind : List ℕ) (n : ℕ) → next ≡ take n rest → behind ≡ drop n rest → Went all rest before held → Went all (next ++ behind) before held
@@ -104,6 +124,10 @@ none_at t = All-nil (λ (p : Piece). p.task ≡ t)
 pub both_at : (t : Task) (x y : List Piece) → AllAt t x → AllAt t y → AllAt t (x ++ y)
 both_at t x y h k = All-append (λ (p : Piece). p.task ≡ t) x y h k
 
+pub part_at : (bytes : List ℕ) (at t : Task) (more : List Piece) → at ≡ t → IsPartOf bytes at more → AllAt t more
+part_at bytes at t more same (inl is) = subst (AllAt t) (sym is) (none_at t)
+part_at bytes at t more same (inr (prefix, begins, is)) = subst (AllAt t) (sym is) (one_at prefix at t same)
+
 -- of these bytes only the rest is left, and the seat had the task at each piece
 abbrev pub Gone : Task → (all rest : List ℕ) (before held : Option (List Piece)) → Type 0
 Gone t all rest before held = Adds before held (λ more. (bytes_of more ++ rest ≡ all) × AllAt t more)
@@ -119,6 +143,15 @@ gone_more before held out all next rest at t is went puts =
       bytes_on x y next rest all p.0 (ap bytes_of q ∙ one_bytes next at),
       both_at t x y p.1 (subst (AllAt t) (sym q) (one_at next at t is)),
     ))
+
+-- a front of it
+pub gone_front : (before held out : Option (List Piece)) (all next rest : List ℕ) (at t : Task) → at ≡ t → Gone t all (next ++ rest) before held → Adds held out (IsPartOf next at) → SendsFrontAt t before out all
+gone_front before held out all next rest at t is went puts =
+    adds_both before held out (λ more. (bytes_of more ++ (next ++ rest) ≡ all) × AllAt t more) (IsPartOf next at) (λ more. BeginsWith all (bytes_of more) × AllAt t more) went puts
+    (λ x y p q. (front_on x y next rest all p.0 (part_bytes next at y q), both_at t x y p.1 (part_at next at t y is q)))
+
+pub front_plain : (t : Task) (held out : Option (List Piece)) (bytes : List ℕ) → SendsFrontAt t held out bytes → SendsFrontOf held out bytes
+front_plain t held out bytes front = adds_so held out (λ more. BeginsWith bytes (bytes_of more) × AllAt t more) (λ more. BeginsWith bytes (bytes_of more)) (λ x p. p.0) front
 
 pub gone_went : (t : Task) (all rest : List ℕ) (before held : Option (List Piece)) → Gone t all rest before held → Went all rest before held
 gone_went t all rest before held gone = adds_so before held (λ more. (bytes_of more ++ rest ≡ all) × AllAt t more) (λ more. bytes_of more ++ rest ≡ all) (λ x p. p.0) gone

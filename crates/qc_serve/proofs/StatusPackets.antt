@@ -8,8 +8,8 @@ use Rattle.qc_laws.proofs.sizes.Decimals.{decimal_few}
 use Rattle.qc_model.specs.declared.events.Counters.{Counters}
 use Rattle.qc_model.specs.Machine.{status_column, status_reply, status_row}
 use Rattle.qc_model.specs.Session.{State, flags_of, status_of}
-use Rattle.qc_replies.specs.Answers.{Appends}
-use Rattle.qc_replies.proofs.Packets.{all_put, one_more, then_more}
+use Rattle.qc_statements.specs.Answers.{Appends}
+use Rattle.qc_statements.proofs.Packets.{all_put, one_more, then_more}
 use Rattle.qc_serve.specs.StatusReply.{head_of, rows_of}
 
 -- ---- they fit

@@ -20,20 +20,20 @@ use Rattle.qc_model.specs.Licence.{ops_fit}
 use Rattle.qc_model.specs.Machine.{Given, changed_rows, full_table, ok_reply, refused, used}
 use Rattle.qc_model.specs.Session.{State, Transaction, arrived, base, opened, own_operations, snapshot_of, snapshot_taken}
 use Rattle.qc_trx.specs.SnapshotStates.{MayAdd, SnapshotState, added, in_database, seen_on, with_operations}
-use Rattle.qc_steps.specs.Sound.{AreOwn, IsFitAt, IsFitIn, IsFitState, IsPast, arrived_snapshot_state}
-use Rattle.qc_steps.specs.Statements.{changes_rows, chosen}
-use Rattle.qc_steps.proofs.Choices.{chosen_fits, not_chosen, view_is}
-use Rattle.qc_steps.proofs.Keeping.{added_room, effect_refused, rows_own as rows_are_own}
-use Rattle.qc_steps.proofs.States.{base_is, fit_added, fit_arrived, fit_more}
+use Rattle.qc_statements.specs.Sound.{AreOwn, IsFitAt, IsFitIn, IsFitState, IsPast, arrived_snapshot_state}
+use Rattle.qc_statements.specs.Statements.{changes_rows, chosen}
+use Rattle.qc_statements.proofs.Choices.{chosen_fits, not_chosen, view_is}
+use Rattle.qc_statements.proofs.Keeping.{added_room, effect_refused, rows_own as rows_are_own}
+use Rattle.qc_statements.proofs.States.{base_is, fit_added, fit_arrived, fit_more}
 use Rattle.qc_turn.specs.declared.turn.Turn.{Turn}
-use Rattle.qc_core.specs.declared.parts.Parts.{Parts}
+use Rattle.qc_core.specs.declared.server_state.ServerState.{ServerState}
 use Rattle.qc_serve.specs.declared.session.Session.{Session}
 use Rattle.qc_serve.specs.Ends.{Makes}
 use Rattle.qc_serve.specs.Going.{GivesOut, IsAtRest, IsGivenBy, Logs, Stops, next_who, number_of, rows_given, runs_in_transaction, seen_by}
 use Rattle.qc_serve.proofs.Givens.{IsOf, IsOwn, changed_run, rows_own, used_own, used_run}
 use Rattle.qc_serve.proofs.Meeting.{run_of}
 use Rattle.qc_serve.proofs.Resting.{decided_on, event_of, event_stops, fit_taken, gives_out, journal_of, logs_moved, past_later, rest_with, stops_as}
-use Rattle.qc_replies.proofs.Calls.{if_ok}
+use Rattle.qc_statements.proofs.Calls.{if_ok}
 
 -- what is so of the event of such a command
 abbrev pub IsShared : Who → Database → Journal → Event → Type 0
@@ -43,14 +43,14 @@ pub shared_of : (who : Who) (d : Database) (J : Journal) (e : Event) → IsShare
 shared_of who d J e so = run_of who e so.0
 
 -- a state that fits the journal as it was taken fits the journal with the event
-pub fit_behind : (t : Turn Parts Event) (old new : Session) (d : Database) (logs : Logs t old new (IsShared (next_who old) d)) (x : SnapshotState) → IsFitState (journal_of t old new (IsShared (next_who old) d) logs) x → IsFitState (seen_by new) x
+pub fit_behind : (t : Turn ServerState Event) (old new : Session) (d : Database) (logs : Logs t old new (IsShared (next_who old) d)) (x : SnapshotState) → IsFitState (journal_of t old new (IsShared (next_who old) d) logs) x → IsFitState (seen_by new) x
 fit_behind t old new d logs x fit =
     let g = logs.decides in
     let so = g.is_so in
     subst (λ (j : Journal). IsFitState j x) (sym g.events) (fit_more g.journal g.event x (ap operations so.0) fit)
 
 -- memory lacked behind it
-pub shared_stop : (t : Turn Parts Event) (old mid new : Session) (d : Database) (given : Journal → Given) → ((J : Journal) → (given J).event ≡ event.Run (next_who old) how.Other) → Logs t old mid (IsShared (next_who old) d) → new ≡ record mid { state = new.state }
+pub shared_stop : (t : Turn ServerState Event) (old mid new : Session) (d : Database) (given : Journal → Given) → ((J : Journal) → (given J).event ≡ event.Run (next_who old) how.Other) → Logs t old mid (IsShared (next_who old) d) → new ≡ record mid { state = new.state }
     → number_of new ≡ number_of old → Stops t old new (IsGivenBy given)
 shared_stop t old mid new d given run logs is session =
     let IsSo : Journal → Event → Type 0 = IsShared (next_who old) d in
@@ -60,11 +60,11 @@ shared_stop t old mid new d given run logs is session =
 
 -- ---- USE
 
-use_past : (t : Turn Parts Event) (old new : Session) (IsSo : Journal → Event → Type 0) → IsAtRest t old → Logs t old new IsSo → IsPast (seen_by new) (snapshot_of old.state.state)
+use_past : (t : Turn ServerState Event) (old new : Session) (IsSo : Journal → Event → Type 0) → IsAtRest t old → Logs t old new IsSo → IsPast (seen_by new) (snapshot_of old.state.state)
 use_past t old new IsSo rest logs = past_later (seen_by old) (seen_by new) (snapshot_of old.state.state) (decided_on (number_of old) (seen_by old) (seen_by new) IsSo logs.decides) rest.past
 
 -- the database is seen
-pub use_gives : (t : Turn Parts Event) (old new : Session) (d : Database) (name : Name) (bytes : List ℕ) → IsAtRest t old → Logs t old new (IsShared (next_who old) d) → chosen name d old.state ≡ Ok new.state → bytes ≡ packets (ok_reply new.state.state 0)
+pub use_gives : (t : Turn ServerState Event) (old new : Session) (d : Database) (name : Name) (bytes : List ℕ) → IsAtRest t old → Logs t old new (IsShared (next_who old) d) → chosen name d old.state ≡ Ok new.state → bytes ≡ packets (ok_reply new.state.state 0)
     → GivesOut t old new bytes (λ journal. used (next_who old) old.state.state journal name)
 use_gives t old new d name bytes rest logs is reply =
     let IsSo : Journal → Event → Type 0 = IsShared (next_who old) d in
@@ -81,7 +81,7 @@ use_gives t old new d name bytes rest logs is reply =
     (record { event = so.0 ∙ ap (λ (x : Given). x.event) c.given; reply = reply ∙ ap (λ (x : Given). packets x.reply) c.given; state = ap (λ (x : Given). x.next) c.given })
 
 -- it isn't
-pub use_refused : (t : Turn Parts Event) (old new : Session) (d : Database) (name : Name) (e : SqlError) (bytes : List ℕ) → IsAtRest t old → Logs t old new (IsShared (next_who old) d) → chosen name d old.state ≡ Err e → new.state ≡ old.state → bytes ≡ packets (refused e)
+pub use_refused : (t : Turn ServerState Event) (old new : Session) (d : Database) (name : Name) (e : SqlError) (bytes : List ℕ) → IsAtRest t old → Logs t old new (IsShared (next_who old) d) → chosen name d old.state ≡ Err e → new.state ≡ old.state → bytes ≡ packets (refused e)
     → GivesOut t old new bytes (λ journal. used (next_who old) old.state.state journal name)
 use_refused t old new d name e bytes rest logs is state reply =
     let IsSo : Journal → Event → Type 0 = IsShared (next_who old) d in
@@ -98,7 +98,7 @@ use_refused t old new d name e bytes rest logs is state reply =
     (record { event = so.0 ∙ ap (λ (x : Given). x.event) given; reply = reply ∙ ap (λ (x : Given). packets x.reply) given; state = ap (λ (x : SnapshotState). x.state) state ∙ ap (λ (x : Given). x.next) given })
 
 -- and the refusal fits a packet
-pub use_fits : (t : Turn Parts Event) (old new : Session) (d : Database) (name : Name) (e : SqlError) → IsAtRest t old → Logs t old new (IsShared (next_who old) d) → new.state ≡ old.state → chosen name d new.state ≡ Err e → FitsError e
+pub use_fits : (t : Turn ServerState Event) (old new : Session) (d : Database) (name : Name) (e : SqlError) → IsAtRest t old → Logs t old new (IsShared (next_who old) d) → new.state ≡ old.state → chosen name d new.state ≡ Err e → FitsError e
 use_fits t old new d name e rest logs same refusal =
     let is : chosen name d old.state ≡ Err e = ap (chosen name d) (sym same) ∙ refusal in
     let g = logs.decides in
@@ -118,13 +118,13 @@ pub kept_session : (old mid : Session) (x : SnapshotState) → mid.state ≡ old
 kept_session old mid x same is = ap (λ (y : SnapshotState). y.state.session) (is ∙ same)
 
 -- memory lacked
-pub use_stops : (t : Turn Parts Event) (old mid : Session) (d : Database) (name : Name) (x : SnapshotState) → Logs t old mid (IsShared (next_who old) d) → x.state.session ≡ number_of old
+pub use_stops : (t : Turn ServerState Event) (old mid : Session) (d : Database) (name : Name) (x : SnapshotState) → Logs t old mid (IsShared (next_who old) d) → x.state.session ≡ number_of old
     → Stops t old (record mid { state = x }) (IsGivenBy (λ journal. used (next_who old) old.state.state journal name))
 use_stops t old mid d name x logs session =
     shared_stop t old mid (record mid { state = x }) d (λ journal. used (next_who old) old.state.state journal name) (λ J. used_run (next_who old) J old.state.state name) logs refl session
 
 -- the same of the session as it is when the event has come, whose state is then changed
-pub use_give : (t : Turn Parts Event) (old mid : Session) (d : Database) (name : Name) (x : SnapshotState) {E : Type 0} (r : Result (List ℕ) E) → IsAtRest t old → Logs t old mid (IsShared (next_who old) d) → mid.state ≡ old.state → chosen name d mid.state ≡ Ok x
+pub use_give : (t : Turn ServerState Event) (old mid : Session) (d : Database) (name : Name) (x : SnapshotState) {E : Type 0} (r : Result (List ℕ) E) → IsAtRest t old → Logs t old mid (IsShared (next_who old) d) → mid.state ≡ old.state → chosen name d mid.state ≡ Ok x
     → IfOk r (λ bytes. bytes ≡ packets (ok_reply x.state 0)) → IfOk r (λ bytes. GivesOut t old (record mid { state = x }) bytes (λ journal. used (next_who old) old.state.state journal name))
 use_give t old mid d name x r rest logs same is reply =
     let IsSo : Journal → Event → Type 0 = IsShared (next_who old) d in
@@ -133,7 +133,7 @@ use_give t old mid d name x r rest logs same is reply =
     if_ok (λ (bytes : List ℕ). bytes ≡ packets (ok_reply x.state 0)) (λ (bytes : List ℕ). GivesOut t old new bytes (λ journal. used (next_who old) old.state.state journal name))
     (λ bytes e. use_gives t old new d name bytes rest (logs_moved t old mid new IsSo logs refl) there e) r reply
 
-pub use_refuse : (t : Turn Parts Event) (old mid : Session) (d : Database) (name : Name) (x : SnapshotState) (e : SqlError) {E : Type 0} (r : Result (List ℕ) E) → IsAtRest t old → Logs t old mid (IsShared (next_who old) d) → mid.state ≡ old.state → chosen name d mid.state ≡ Err e
+pub use_refuse : (t : Turn ServerState Event) (old mid : Session) (d : Database) (name : Name) (x : SnapshotState) (e : SqlError) {E : Type 0} (r : Result (List ℕ) E) → IsAtRest t old → Logs t old mid (IsShared (next_who old) d) → mid.state ≡ old.state → chosen name d mid.state ≡ Err e
     → x ≡ mid.state → IfOk r (λ bytes. bytes ≡ packets (refused e)) → IfOk r (λ bytes. GivesOut t old (record mid { state = x }) bytes (λ journal. used (next_who old) old.state.state journal name))
 use_refuse t old mid d name x e r rest logs same is unchanged reply =
     let IsSo : Journal → Event → Type 0 = IsShared (next_who old) d in
@@ -208,7 +208,7 @@ changed_in : (who : Who) (x : SnapshotState) (o : IsOpened x) (e : Effect)
 changed_in who x o e = rw o.is refl
 
 -- the journal behind a transaction's statement, and its state
-pub own_past : (t : Turn Parts Event) (old new : Session) (d : Database) (logs : Logs t old new (IsShared (next_who old) d)) (p : Option ℕ) → IsPast (journal_of t old new (IsShared (next_who old) d) logs ++ event_of t old new (IsShared (next_who old) d) logs ∷ []) p → IsPast (seen_by new) p
+pub own_past : (t : Turn ServerState Event) (old new : Session) (d : Database) (logs : Logs t old new (IsShared (next_who old) d)) (p : Option ℕ) → IsPast (journal_of t old new (IsShared (next_who old) d) logs ++ event_of t old new (IsShared (next_who old) d) logs ∷ []) p → IsPast (seen_by new) p
 own_past t old new d logs p h = let g = logs.decides in subst (λ (j : Journal). IsPast j p) (sym g.events) h
 
 past_at : (J : Journal) (e : Event) (x : Transaction) (origin : Option Database) → IsFitIn J origin (Some x) → IsPast (J ++ e ∷ []) x.snapshot
@@ -243,20 +243,20 @@ own_run who state s J kind runs =
     changed_run who a o.transaction (effect s (base a J) a.db a.session) (ap (λ (y : State). y.transaction) (sym (arrived_is n [] s x kind)) ∙ o.is)
 
 -- memory lacked behind it
-pub own_stop : (t : Turn Parts Event) (old mid new : Session) (d : Database) (s : Statement) → Logs t old mid (IsShared (next_who old) d) → changes_rows s ≡ true → runs_in_transaction old.state.state ≡ true → new ≡ record mid { state = new.state } → number_of new ≡ number_of old
+pub own_stop : (t : Turn ServerState Event) (old mid new : Session) (d : Database) (s : Statement) → Logs t old mid (IsShared (next_who old) d) → changes_rows s ≡ true → runs_in_transaction old.state.state ≡ true → new ≡ record mid { state = new.state } → number_of new ≡ number_of old
     → Stops t old new (IsGivenBy (rows_given (next_who old) old.state.state s))
 own_stop t old mid new d s logs kind runs is session =
     shared_stop t old mid new d (rows_given (next_who old) old.state.state s) (λ J. own_run (next_who old) old.state.state s J kind runs) logs is session
 
 -- the state when it has arrived: what it is, that it fits, and what it sees
-pub record HasArrived (t : Turn Parts Event) (old new : Session) (d : Database) (logs : Logs t old new (IsShared (next_who old) d)) (x : SnapshotState) : Type 0 where
+pub record HasArrived (t : Turn ServerState Event) (old new : Session) (d : Database) (logs : Logs t old new (IsShared (next_who old) d)) (x : SnapshotState) : Type 0 where
   pub is : x ≡ arrived_snapshot_state (length (journal_of t old new (IsShared (next_who old) d) logs) + 1) d old.state
   pub fit : IsFitState (journal_of t old new (IsShared (next_who old) d) logs) x
   pub view : seen_on d x ≡ base x.state (journal_of t old new (IsShared (next_who old) d) logs)
   pub opened : IsOpened x
   pub there : is_some x.origin ≡ true
 
-pub has_arrived : (t : Turn Parts Event) (old new : Session) (d : Database) (logs : Logs t old new (IsShared (next_who old) d)) (x : SnapshotState) → IsAtRest t old → runs_in_transaction old.state.state ≡ true → x ≡ arrived_snapshot_state new.place d old.state → HasArrived t old new d logs x
+pub has_arrived : (t : Turn ServerState Event) (old new : Session) (d : Database) (logs : Logs t old new (IsShared (next_who old) d)) (x : SnapshotState) → IsAtRest t old → runs_in_transaction old.state.state ≡ true → x ≡ arrived_snapshot_state new.place d old.state → HasArrived t old new d logs x
 has_arrived t old new d logs x rest runs is =
     let g = logs.decides in
     let J : Journal = g.journal in
@@ -272,7 +272,7 @@ session_there : (place : ℕ) (d : Database) (x : SnapshotState) → (arrived_sn
 session_there place d x = refl
 
 -- what it does is added
-pub added_gives : (t : Turn Parts Event) (old new : Session) (d : Database) (s : Statement) (logs : Logs t old new (IsShared (next_who old) d)) (x : SnapshotState) (e : Effect) (bytes : List ℕ) → IsAtRest t old → changes_rows s ≡ true → HasArrived t old new d logs x
+pub added_gives : (t : Turn ServerState Event) (old new : Session) (d : Database) (s : Statement) (logs : Logs t old new (IsShared (next_who old) d)) (x : SnapshotState) (e : Effect) (bytes : List ℕ) → IsAtRest t old → changes_rows s ≡ true → HasArrived t old new d logs x
     → effect s (base x.state (journal_of t old new (IsShared (next_who old) d) logs)) x.state.db x.state.session ≡ Ok e → AreOwn e.operations (base x.state (journal_of t old new (IsShared (next_who old) d) logs))
     → new.state ≡ added e.operations x → bytes ≡ packets (ok_reply new.state.state e.affected) → GivesOut t old new bytes (rows_given (next_who old) old.state.state s)
 added_gives t old new d s logs x e bytes rest rows a is own state reply =
@@ -299,7 +299,7 @@ added_gives t old new d s logs x e bytes rest rows a is own state reply =
     })
 
 -- it is refused
-pub refused_gives : (t : Turn Parts Event) (old new : Session) (d : Database) (s : Statement) (logs : Logs t old new (IsShared (next_who old) d)) (x : SnapshotState) (e : SqlError) (bytes : List ℕ) → IsAtRest t old → changes_rows s ≡ true → HasArrived t old new d logs x
+pub refused_gives : (t : Turn ServerState Event) (old new : Session) (d : Database) (s : Statement) (logs : Logs t old new (IsShared (next_who old) d)) (x : SnapshotState) (e : SqlError) (bytes : List ℕ) → IsAtRest t old → changes_rows s ≡ true → HasArrived t old new d logs x
     → effect s (base x.state (journal_of t old new (IsShared (next_who old) d) logs)) x.state.db x.state.session ≡ Err e → new.state ≡ x → bytes ≡ packets (refused e) → GivesOut t old new bytes (rows_given (next_who old) old.state.state s)
 refused_gives t old new d s logs x e bytes rest rows a is state reply =
     let IsSo : Journal → Event → Type 0 = IsShared (next_who old) d in
@@ -325,12 +325,12 @@ refused_gives t old new d s logs x e bytes rest rows a is state reply =
 -- ---- the same, from the session as it is when the event has come
 
 -- what is known when the statement has arrived
-pub record Sees (t : Turn Parts Event) (old new : Session) (d : Database) (s : Statement) (x : SnapshotState) : Type 0 where
+pub record Sees (t : Turn ServerState Event) (old new : Session) (d : Database) (s : Statement) (x : SnapshotState) : Type 0 where
   pub logs : Logs t old new (IsShared (next_who old) d)
   pub arrived : HasArrived t old new d logs x
   pub sound : Makes (journal_of t old new (IsShared (next_who old) d) logs) d
 
-pub sees : (t : Turn Parts Event) (old mid new : Session) (d : Database) (s : Statement) (x : SnapshotState) → IsAtRest t old → Logs t old mid (IsShared (next_who old) d) → mid.state ≡ old.state → runs_in_transaction old.state.state ≡ true
+pub sees : (t : Turn ServerState Event) (old mid new : Session) (d : Database) (s : Statement) (x : SnapshotState) → IsAtRest t old → Logs t old mid (IsShared (next_who old) d) → mid.state ≡ old.state → runs_in_transaction old.state.state ≡ true
     → x ≡ arrived_snapshot_state mid.place d mid.state → new ≡ record mid { state = new.state } → Sees t old new d s x
 sees t old mid new d s x rest logs same runs is moved =
     let IsSo : Journal → Event → Type 0 = IsShared (next_who old) d in
@@ -340,7 +340,7 @@ sees t old mid new d s x rest logs same runs is moved =
     let so : IsSo g.journal g.event = g.is_so in
     record { logs = behind; arrived = has_arrived t old new d behind x rest runs (is ∙ (λ i. arrived_snapshot_state (place i) d (same i))); sound = so.1 }
 
-effect_seen : (t : Turn Parts Event) (old new : Session) (d : Database) (s : Statement) (x : SnapshotState) (y : Sees t old new d s x) (r : Result Effect SqlError) → effect s (seen_on d x) x.state.db x.state.session ≡ r
+effect_seen : (t : Turn ServerState Event) (old new : Session) (d : Database) (s : Statement) (x : SnapshotState) (y : Sees t old new d s x) (r : Result Effect SqlError) → effect s (seen_on d x) x.state.db x.state.session ≡ r
     → effect s (base x.state (journal_of t old new (IsShared (next_who old) d) y.logs)) x.state.db x.state.session ≡ r
 effect_seen t old new d s x y r is = let a = y.arrived in ap (λ (z : Database). effect s z x.state.db x.state.session) (sym a.view) ∙ is
 
@@ -349,34 +349,34 @@ pub record MayKeep (x : SnapshotState) (ops : List RowOp) : Type 0 where
   pub may : MayAdd ops x
   pub room : full_table (apply ops (seen_on [] x)) ≡ None
 
-own_seen : (t : Turn Parts Event) (old new : Session) (d : Database) (s : Statement) (x : SnapshotState) (e : Effect) (y : Sees t old new d s x) → changes_rows s ≡ true → is_short_statement s ≡ true → effect s (seen_on d x) x.state.db x.state.session ≡ Ok e
+own_seen : (t : Turn ServerState Event) (old new : Session) (d : Database) (s : Statement) (x : SnapshotState) (e : Effect) (y : Sees t old new d s x) → changes_rows s ≡ true → is_short_statement s ≡ true → effect s (seen_on d x) x.state.db x.state.session ≡ Ok e
     → AreOwn e.operations (base x.state (journal_of t old new (IsShared (next_who old) d) y.logs))
 own_seen t old new d s x e y rows short is =
     let a = y.arrived in
     let made = y.sound in
     rows_are_own {o = made.0} s (journal_of t old new (IsShared (next_who old) d) y.logs) d x e made.1 a.fit rows short (effect_seen t old new d s x y (Ok e) is)
 
-pub may_keep : (t : Turn Parts Event) (old new : Session) (d : Database) (s : Statement) (x : SnapshotState) (e : Effect) → Sees t old new d s x → changes_rows s ≡ true → is_short_statement s ≡ true → effect s (seen_on d x) x.state.db x.state.session ≡ Ok e → MayKeep x e.operations
+pub may_keep : (t : Turn ServerState Event) (old new : Session) (d : Database) (s : Statement) (x : SnapshotState) (e : Effect) → Sees t old new d s x → changes_rows s ≡ true → is_short_statement s ≡ true → effect s (seen_on d x) x.state.db x.state.session ≡ Ok e → MayKeep x e.operations
 may_keep t old new d s x e y rows short is =
     let a = y.arrived in
     let J : Journal = journal_of t old new (IsShared (next_who old) d) y.logs in
     let own = own_seen t old new d s x e y rows short is in
     record { may = adds J x e.operations a.there a.fit own; room = added_room J x e.operations a.fit a.there own }
 
-pub kept_out : (t : Turn Parts Event) (old new : Session) (d : Database) (s : Statement) (x : SnapshotState) (e : Effect) {F : Type 0} (r : Result (List ℕ) F) → Sees t old new d s x → IsAtRest t old → changes_rows s ≡ true → is_short_statement s ≡ true
+pub kept_out : (t : Turn ServerState Event) (old new : Session) (d : Database) (s : Statement) (x : SnapshotState) (e : Effect) {F : Type 0} (r : Result (List ℕ) F) → Sees t old new d s x → IsAtRest t old → changes_rows s ≡ true → is_short_statement s ≡ true
     → effect s (seen_on d x) x.state.db x.state.session ≡ Ok e → OnOk r (new.state ≡ added e.operations x) → IfOk r (λ bytes. bytes ≡ packets (ok_reply new.state.state e.affected)) → IfOk r (λ bytes. GivesOut t old new bytes (rows_given (next_who old) old.state.state s))
 kept_out t old new d s x e (Err f) y rest rows short is state reply = tt
 kept_out t old new d s x e (Ok bytes) y rest rows short is state reply =
     added_gives t old new d s y.logs x e bytes rest rows y.arrived (effect_seen t old new d s x y (Ok e) is) (own_seen t old new d s x e y rows short is) state reply
 
 -- or it is refused
-pub refusal_fits : (t : Turn Parts Event) (old new : Session) (d : Database) (s : Statement) (x : SnapshotState) (e : SqlError) → Sees t old new d s x → is_short_statement s ≡ true → effect s (seen_on d x) x.state.db x.state.session ≡ Err e → FitsError e
+pub refusal_fits : (t : Turn ServerState Event) (old new : Session) (d : Database) (s : Statement) (x : SnapshotState) (e : SqlError) → Sees t old new d s x → is_short_statement s ≡ true → effect s (seen_on d x) x.state.db x.state.session ≡ Err e → FitsError e
 refusal_fits t old new d s x e y short is =
     let a = y.arrived in
     let made = y.sound in
     effect_refused {o = made.0} s (journal_of t old new (IsShared (next_who old) d) y.logs) d x e made.1 a.fit short (effect_seen t old new d s x y (Err e) is)
 
-pub refused_out : (t : Turn Parts Event) (old new : Session) (d : Database) (s : Statement) (x : SnapshotState) (e : SqlError) {F : Type 0} (r : Result (List ℕ) F) → Sees t old new d s x → IsAtRest t old → changes_rows s ≡ true
+pub refused_out : (t : Turn ServerState Event) (old new : Session) (d : Database) (s : Statement) (x : SnapshotState) (e : SqlError) {F : Type 0} (r : Result (List ℕ) F) → Sees t old new d s x → IsAtRest t old → changes_rows s ≡ true
     → effect s (seen_on d x) x.state.db x.state.session ≡ Err e → new.state ≡ x → IfOk r (λ bytes. bytes ≡ packets (refused e)) → IfOk r (λ bytes. GivesOut t old new bytes (rows_given (next_who old) old.state.state s))
 refused_out t old new d s x e r y rest rows is state reply =
     if_ok (λ (bytes : List ℕ). bytes ≡ packets (refused e)) (λ (bytes : List ℕ). GivesOut t old new bytes (rows_given (next_who old) old.state.state s))

@@ -10,7 +10,7 @@ use Rattle.qc_turn.specs.declared.turn.Turn.{Turn}
 use Rattle.qc_turn.specs.Seats.{view}
 use Rattle.qc_turn.specs.Words.{word_seats}
 use Rattle.qc_core.specs.contracts.server.ServerKept.TheImpl.{ghosts}
-use Rattle.qc_core.specs.declared.parts.Parts.{Parts}
+use Rattle.qc_core.specs.declared.server_state.ServerState.{ServerState}
 use Rattle.qc_serve.specs.declared.connecting.NotConnected.{NotConnected}
 use Rattle.qc_serve.specs.declared.connecting.NotConnected.TheVariants as refusal
 use Rattle.qc_serve.specs.declared.session.Session.{Session}
@@ -18,12 +18,12 @@ use Rattle.qc_serve.specs.Going.{IsAtRest, as_fixed, number_of, seen_by}
 use Rattle.qc_serve.specs.Leaving.{IsApart}
 
 -- the seat may be connected under these options: they are the server's
-pub record MayConnect (t : Turn Parts Event) (options : Options) (s : Seat Parts Event ghosts) : Type 0 where
+pub record MayConnect (t : Turn ServerState Event) (options : Options) (s : Seat ServerState Event ghosts) : Type 0 where
   pub apart : IsApart t s
   pub fixed : (view s).fixed ≡ as_fixed options
 
 -- the session of a seat has begun: it is in its first state, and has answered nothing
-pub record HasBegun (t : Turn Parts Event) (options : Options) (seat : Seat Parts Event ghosts) (s : Session) : Type 0 where
+pub record HasBegun (t : Turn ServerState Event) (options : Options) (seat : Seat ServerState Event ghosts) (s : Session) : Type 0 where
   pub rest : IsAtRest t s
   pub number : number_of s + 1 ≡ (view seat).number
   pub same_options : s.options ≡ options
@@ -37,11 +37,11 @@ pub record HasBegun (t : Turn Parts Event) (options : Options) (seat : Seat Part
   pub registry : (view s.seat).registry ≡ (view seat).registry
 
 -- this seat is handed back, with the error that says why, or without one
-abbrev pub GivesBack : Seat Parts Event ghosts → NotConnected → Type 0
+abbrev pub GivesBack : Seat ServerState Event ghosts → NotConnected → Type 0
 GivesBack seat (refusal.Memory s) = s ≡ seat
 GivesBack seat (refusal.Refused s e) = (s ≡ seat) × (e ≡ too_many_connections)
 
 -- the seat is handed back as it was; it is refused where its number is too large
-abbrev pub HandsBack : Turn Parts Event → Options → Seat Parts Event ghosts → NotConnected → Type 0
+abbrev pub HandsBack : Turn ServerState Event → Options → Seat ServerState Event ghosts → NotConnected → Type 0
 HandsBack t options seat (refusal.Memory s) = MayConnect t options s × (view s ≡ view seat)
 HandsBack t options seat (refusal.Refused s e) = MayConnect t options s × (view s ≡ view seat) × (word_seats < (view seat).number) × (e ≡ too_many_connections)

@@ -1,25 +1,28 @@
 -- What a command's decision under the turn says of its event, its reply and the session's next state, by the journal before the event.
-use Rattle.std.specs.Prelude.{◌≡◌, None}
+use Rattle.std.specs.Prelude.{◌≡◌, true, None}
 use Rattle.qc_types.specs.declared.options.Options.{Options}
 use Rattle.qc_sql.specs.declared.statements.Statement.{Statement}
 use Rattle.qc_sql.specs.declared.replies.Reply.{Reply}
 use Rattle.qc_sql.specs.Database.{Database}
 use Rattle.qc_sql.specs.Effects.{effect}
 use Rattle.qc_sql.specs.Errors.{table_full, write_conflict}
+use Rattle.qc_laws.specs.fits.Sound.{changes_tables}
+use Rattle.qc_laws.specs.sizes.Names.{is_short_statement}
 use Rattle.qc_laws.specs.sizes.Replies.{FitsError}
 use Rattle.qc_model.specs.declared.events.Event.{Event}
 use Rattle.qc_model.specs.declared.events.Who.{Who}
 use Rattle.qc_model.specs.Journal.{Journal}
 use Rattle.qc_model.specs.Machine.{Given, changed_form, changed_rows, ended_with, ok_reply, refused}
-use Rattle.qc_model.specs.Session.{State, base, with_transaction}
+use Rattle.qc_model.specs.Session.{State, base, snapshot_of, with_transaction}
 use Rattle.qc_trx.specs.SnapshotStates.{SnapshotState, after_end}
-use Rattle.qc_steps.specs.Sound.{IsSound}
-use Rattle.qc_serve.specs.declared.ends.Ended.{Ended}
-use Rattle.qc_serve.specs.declared.ends.Ended.TheVariants as ended
+use Rattle.qc_statements.specs.Sound.{IsFitState, IsPast, IsSound}
+use Rattle.qc_statements.specs.Statements.{changes_rows}
+use Rattle.qc_serve.specs.declared.transaction_end.Ended.{Ended}
+use Rattle.qc_serve.specs.declared.transaction_end.Ended.TheVariants as ended
 use Rattle.qc_serve.specs.declared.rows.RowsEnd.{RowsEnd}
 use Rattle.qc_serve.specs.declared.rows.RowsEnd.TheVariants as rows
-use Rattle.qc_serve.specs.declared.forms.FormsEnd.{FormsEnd}
-use Rattle.qc_serve.specs.declared.forms.FormsEnd.TheVariants as forms
+use Rattle.qc_serve.specs.declared.schema.FormsEnd.{FormsEnd}
+use Rattle.qc_serve.specs.declared.schema.FormsEnd.TheVariants as forms
 
 -- the journal is sound, and makes this database
 abbrev pub Makes : Journal → Database → Type 0
@@ -37,10 +40,24 @@ EndsAs who state journal e ended.Conflict = (next : State) → IsGiven (ended_wi
 EndsAs who state journal e (ended.Full t) = FitsError (table_full t) × ((next : State) → IsGiven (ended_with who state journal next) e (refused (table_full t)) (with_transaction state None))
 EndsAs who state journal e ended.Commits = (next : State) → IsGiven (ended_with who state journal next) e (ok_reply next 0) next
 
+-- what a statement on rows asks, of a session without a transaction
+pub record MayChangeRows (s : Statement) (x : SnapshotState) (seen : Journal) : Type 0 where
+  pub rows : changes_rows s ≡ true
+  pub short : is_short_statement s ≡ true
+  pub fit : IsFitState seen x
+  pub closed : x.state.transaction ≡ None
+
 -- what a statement on rows did outside of a transaction
 abbrev pub RowsAs : Who → State → Statement → Journal → Event → RowsEnd → Type 0
 RowsAs who state s journal e (rows.Refused x) = FitsError x × IsGiven (changed_rows who state (effect s (base state journal) state.db state.session)) e (refused x) state
 RowsAs who state s journal e (rows.Changes n) = IsGiven (changed_rows who state (effect s (base state journal) state.db state.session)) e (ok_reply state n) state
+
+-- what a statement asks that makes, empties or drops tables or databases
+pub record MayChangeSchema (s : Statement) (x : SnapshotState) (seen : Journal) : Type 0 where
+  pub forms : changes_tables s ≡ true
+  pub short : is_short_statement s ≡ true
+  pub fit : IsFitState seen x
+  pub past : IsPast seen (snapshot_of x.state)
 
 -- what a statement did that makes, empties or drops tables or databases
 abbrev pub FormsAs : Who → State → Statement → Journal → Event → FormsEnd → Type 0

@@ -11,14 +11,14 @@ use Rattle.qc_turn.specs.declared.seat.Seat.{Seat}
 use Rattle.qc_turn.specs.declared.view.View.{View}
 use Rattle.qc_turn.specs.Seats.{view}
 use Rattle.qc_core.specs.contracts.server.ServerKept.TheImpl.{ghosts}
-use Rattle.qc_core.specs.declared.parts.Parts.{Parts}
-use Rattle.qc_core.specs.Overtaken.{IsOvertaken}
+use Rattle.qc_core.specs.declared.server_state.ServerState.{ServerState}
+use Rattle.qc_core.specs.OvertakenFill.{IsOvertaken}
 use Rattle.qc_flow.specs.declared.fills.Fill.{Fill}
 use Rattle.qc_flow.specs.Fills.{IsFillOf}
 use Rattle.qc_flow.specs.Seats.{EndsIn, HasEnded}
 
 -- the seat fills the entry; what is stored are packets of its answer at its start, and these come behind them
-pub record IsGoing (serial : ℕ) (left : List (List ℕ)) (f : Fill) (s : Seat Parts Event ghosts) : Type 0 where
+pub record IsGoing (serial : ℕ) (left : List (List ℕ)) (f : Fill) (s : Seat ServerState Event ghosts) : Type 0 where
   pub serial_is : f.serial ≡ serial
   pub fills : IsFillOf f s
   pub start : IsStarted (view s).seen serial
@@ -31,11 +31,11 @@ abbrev pub IsGone : ℕ → Journal → Type 0
 IsGone serial seen = ((why : GoneWhy) × EndsIn (event.Gone serial why) seen) ⊎ ((by : ℕ) × IsOvertaken seen serial by)
 
 -- the fill has ended before its last packet
-pub record HasStopped (serial : ℕ) (v : View Parts Event) : Type 0 where
+pub record HasStopped (serial : ℕ) (v : View ServerState Event) : Type 0 where
   pub ended : HasEnded serial v
   pub gone : IsGone serial v.seen
 
 -- the fill goes on, or it has stopped
-abbrev pub Fills : ℕ → List (List ℕ) → Option Fill → Seat Parts Event ghosts → Type 0
+abbrev pub Fills : ℕ → List (List ℕ) → Option Fill → Seat ServerState Event ghosts → Type 0
 Fills serial left (Some f) s = IsGoing serial left f s
 Fills serial left None s = HasStopped serial (view s)

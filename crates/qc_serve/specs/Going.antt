@@ -24,11 +24,11 @@ use Rattle.qc_model.specs.Machine.{Given, changed_rows, ok_reply, refused, statu
 use Rattle.qc_model.specs.Session.{State, arrived, base, snapshot_of}
 use Rattle.qc_model.specs.Settings.{set_to}
 use Rattle.qc_laws.specs.runs.Runs.{Answers, Position, StartsWith, own, stand}
-use Rattle.qc_steps.specs.Sound.{IsFitState, IsPast}
+use Rattle.qc_statements.specs.Sound.{IsFitState, IsPast}
 use Rattle.qc_turn.specs.declared.turn.Turn.{Turn}
 use Rattle.qc_turn.specs.declared.view.MetSeat.{MetSeat}
 use Rattle.qc_turn.specs.Seats.{view}
-use Rattle.qc_core.specs.declared.parts.Parts.{Parts}
+use Rattle.qc_core.specs.declared.server_state.ServerState.{ServerState}
 use Rattle.qc_serve.specs.declared.session.Session.{Session}
 use Rattle.qc_serve.specs.Logs.{logged, logged_event, logged_line}
 use Rattle.qc_serve.specs.Seats.{Decides, GoesOn, RestsAgain, SeatRests, next_of}
@@ -56,7 +56,7 @@ abbrev pub as_fixed : Options → List ℕ
 as_fixed o = o.size ∷ o.limit ∷ o.unit ∷ o.kind ∷ []
 
 -- what holds between two commands
-pub record IsAtRest (t : Turn Parts Event) (s : Session) : Type 0 where
+pub record IsAtRest (t : Turn ServerState Event) (s : Session) : Type 0 where
   pub rests : SeatRests t (number_of s) s.seat
   pub fit : IsFitState (seen_by s) s.state
   pub past : IsPast (seen_by s) (snapshot_of s.state.state)
@@ -65,13 +65,13 @@ pub record IsAtRest (t : Turn Parts Event) (s : Session) : Type 0 where
   pub ranges : s.options.size ≤ 512 * s.seat.ranges.room
 
 -- and there is room for a line
-pub record MayAnswer (t : Turn Parts Event) (s : Session) : Type 0 where
+pub record MayAnswer (t : Turn ServerState Event) (s : Session) : Type 0 where
   pub rest : IsAtRest t s
   pub room : 0 < s.log.room
 
 -- Memory was wanting: the seat rests. At most one event of the session came, of which this is so by the journal before it, and which is no select's; the log has
 -- its line, and no other.
-pub record Stops (t : Turn Parts Event) (old new : Session) (IsSo : Journal → Event → Type 0) : Type 0 where
+pub record Stops (t : Turn ServerState Event) (old new : Session) (IsSo : Journal → Event → Type 0) : Type 0 where
   pub rests : RestsAgain t (number_of old) old.seat new.seat
   pub begins : StartsWith (seen_by new) (seen_by old)
   pub events : List (ℕ × Event)
@@ -84,7 +84,7 @@ pub record Stops (t : Turn Parts Event) (old new : Session) (IsSo : Journal → 
   pub end : new.end ≡ old.end
 
 -- it was wanting before an event came
-abbrev pub StopsWithout : Turn Parts Event → Session → Session → Type 0
+abbrev pub StopsWithout : Turn ServerState Event → Session → Session → Type 0
 StopsWithout t old new = Stops t old new (λ journal e. ⊥)
 
 -- the event is the one that is given by the journal before it
@@ -99,11 +99,11 @@ pub record IsEventOf (c : Command) (old : Session) (journal : Journal) (e : Even
   pub executes : whole_machine.executes old.options (next_who old) old.state.state c journal e reply next
 
 -- memory was wanting at a query of a text that means this statement
-abbrev pub StopsStatement : Turn Parts Event → Statement → Session → Session → Type 0
+abbrev pub StopsStatement : Turn ServerState Event → Statement → Session → Session → Type 0
 StopsStatement t s old new = (text : List ℕ) → meaning (trimmed text) old.state.state.ansi ≡ Ok s → Stops t old new (IsEventOf (command.Query text) old)
 
 -- the event of a command that is no SELECT came, behind what others did, with its line
-pub record Logs (t : Turn Parts Event) (old new : Session) (IsSo : Journal → Event → Type 0) : Type 0 where
+pub record Logs (t : Turn ServerState Event) (old new : Session) (IsSo : Journal → Event → Type 0) : Type 0 where
   pub decides : Decides (number_of old) (seen_by old) (seen_by new) IsSo
   pub rests : RestsAgain t (number_of old) old.seat new.seat
   pub place : new.place ≡ length (seen_by new)
@@ -112,7 +112,7 @@ pub record Logs (t : Turn Parts Event) (old new : Session) (IsSo : Journal → E
   pub end : new.end ≡ old.end
 
 -- the same, with the event, the reply and the next state that are given by the journal before it
-pub record GivesOut (t : Turn Parts Event) (old new : Session) (bytes : List ℕ) (given : Journal → Given) : Type 0 where
+pub record GivesOut (t : Turn ServerState Event) (old new : Session) (bytes : List ℕ) (given : Journal → Given) : Type 0 where
   pub journal : Journal
   pub goes_on : GoesOn (number_of old) (seen_by old) journal
   pub events : seen_by new ≡ journal ++ (given journal).event ∷ []
@@ -128,7 +128,7 @@ pub record GivesOut (t : Turn Parts Event) (old new : Session) (bytes : List ℕ
   pub rest : IsAtRest t new
 
 -- a reply without an event, and the session's next state
-pub record TellsOut (t : Turn Parts Event) (old new : Session) (bytes : List ℕ) (r : Reply) (next : State) : Type 0 where
+pub record TellsOut (t : Turn ServerState Event) (old new : Session) (bytes : List ℕ) (r : Reply) (next : State) : Type 0 where
   pub seen : seen_by new ≡ seen_by old
   pub place : new.place ≡ old.place
   pub lines : new.log.lines ≡ old.log.lines ++ logged old.place word.Local ∷ []
@@ -140,7 +140,7 @@ pub record TellsOut (t : Turn Parts Event) (old new : Session) (bytes : List ℕ
   pub rest : IsAtRest t new
 
 -- one command was answered, with these packets
-pub record DoesOne (t : Turn Parts Event) (c : Command) (old new : Session) (bytes : List ℕ) : Type 0 where
+pub record DoesOne (t : Turn ServerState Event) (c : Command) (old new : Session) (bytes : List ℕ) : Type 0 where
   pub answered : ReportLine
   pub answers : Answers whole_machine old.options (number_of old) (position_of old) c answered (position_of new)
   pub reply : answered.reply ≡ bytes
@@ -152,7 +152,7 @@ pub record DoesOne (t : Turn Parts Event) (c : Command) (old new : Session) (byt
   pub rest : IsAtRest t new
 
 -- a query of a text that means this statement was answered
-abbrev pub DoesStatement : Turn Parts Event → Statement → Session → Session → List ℕ → Type 0
+abbrev pub DoesStatement : Turn ServerState Event → Statement → Session → Session → List ℕ → Type 0
 DoesStatement t s old new reply = (text : List ℕ) → meaning (trimmed text) old.state.state.ansi ≡ Ok s → DoesOne t (command.Query text) old new reply
 
 -- SHOW STATUS, with these totals
@@ -172,5 +172,5 @@ abbrev pub runs_in_transaction : State → Bool
 runs_in_transaction state = is_some state.transaction || not state.autocommit
 
 -- a variable without event was set, or not
-abbrev pub SetsOther : Turn Parts Event → Setting → Session → Session → List ℕ → Type 0
+abbrev pub SetsOther : Turn ServerState Event → Setting → Session → Session → List ℕ → Type 0
 SetsOther t setting old new bytes = MatchResult (set_to old.state.state setting) (λ next. TellsOut t old new bytes (ok_reply next 0) next) (λ e. TellsOut t old new bytes (refused e) old.state.state)

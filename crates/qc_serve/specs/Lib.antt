@@ -1,6 +1,8 @@
 pub mod Seats
 pub mod Logs
 pub mod Stage
+pub mod Holding
+pub mod Notes
 pub mod Ends
 pub mod StatusReply
 pub mod Going

@@ -25,17 +25,18 @@ use Rattle.qc_turn.specs.declared.turn.Turn.{Turn}
 use Rattle.qc_turn.specs.Bytes.{bytes_of}
 use Rattle.qc_turn.specs.Seats.{view}
 use Rattle.qc_core.specs.contracts.server.ServerKept.TheImpl.{ghosts}
-use Rattle.qc_core.specs.declared.parts.Parts.{Parts}
+use Rattle.qc_core.specs.declared.server_state.ServerState.{ServerState}
 use Rattle.qc_flow.specs.Seats as flow
 use Rattle.qc_flow.specs.declared.streams.Stream.{Stream}
 use Rattle.qc_flow.specs.Streams.{IsStreamOf}
 use Rattle.qc_select.specs.declared.selected.Selected.{Selected}
 use Rattle.qc_select.specs.declared.selected.Selected.TheVariants as selected
 use Rattle.qc_select.specs.Selects.{place_of}
-use Rattle.qc_steps.specs.Selects.{arrived_at, is_asked_for}
-use Rattle.qc_serve.specs.declared.looks.Found.{Found}
+use Rattle.qc_statements.specs.Selects.{arrived_at, is_asked_for}
+use Rattle.qc_serve.specs.declared.lookup.Found.{Found}
 use Rattle.qc_serve.specs.declared.session.Session.{Session}
-use Rattle.qc_serve.specs.Asking.{BeginsFill, HasTask, LooksOn, Selects, StreamsHit}
+use Rattle.qc_serve.specs.Asking.{BeginsFill, LooksOn, Selects, StreamsHit}
+use Rattle.qc_serve.specs.Holding.{HasTask}
 use Rattle.qc_serve.specs.Going.{as_fixed, number_of}
 use Rattle.qc_serve.specs.Logs.{logged}
 use Rattle.qc_serve.specs.Seats.{GoesOn, SeatRests}
@@ -43,7 +44,7 @@ use Rattle.qc_serve.specs.Seats.{GoesOn, SeatRests}
 -- ---- a hit is looked for
 
 -- nothing was found: the session has only seen what others did
-pub record LooksAgain (t : Turn Parts Event) (old new : Session) : Type 0 where
+pub record LooksAgain (t : Turn ServerState Event) (old new : Session) : Type 0 where
   pub seat : LooksOn t (number_of old) old.seat new.seat
   pub same : new ≡ record old { seat = new.seat }
 
@@ -53,7 +54,7 @@ seen_with place None x = x
 seen_with place (Some d) x = after_sight place d x
 
 -- The cache is asked for the text, and has an entry under its key, in the state in which a select that names a table arrives at any place.
-pub record HasFound (t : Turn Parts Event) (text : List ℕ) (old new : Session) (found : Found) : Type 0 where
+pub record HasFound (t : Turn ServerState Event) (text : List ℕ) (old new : Session) (found : Found) : Type 0 where
   pub asked : is_asked_for old.options old.state.state text ≡ true
   pub key : List ℕ
   pub key_is : (place : ℕ) → key ≡ key_of_text (arrived_at place old.state.state) text
@@ -81,7 +82,7 @@ abbrev pub arrives_at : Select → ℕ → Database → SnapshotState → Snapsh
 arrives_at select place d x = sees_at select place d (arrives select x)
 
 -- its event came, with its line
-pub record HasDecided (t : Turn Parts Event) (text : List ℕ) (select : Select) (old new : Session) (x : Selected) : Type 0 where
+pub record HasDecided (t : Turn ServerState Event) (text : List ℕ) (select : Select) (old new : Session) (x : Selected) : Type 0 where
   pub key : List ℕ
   pub key_is : key ≡ key_of_text (arrives select old.state).state text
   pub keyed : CanBeKeyed (arrives select old.state).state
@@ -92,7 +93,7 @@ pub record HasDecided (t : Turn Parts Event) (text : List ℕ) (select : Select)
   pub same : new ≡ record old { seat = new.seat; state = new.state; log = new.log; place = place_of x }
 
 -- memory lacked: no event came
-pub record LacksMemory (t : Turn Parts Event) (old new : Session) : Type 0 where
+pub record LacksMemory (t : Turn ServerState Event) (old new : Session) : Type 0 where
   pub seat : LooksOn t (number_of old) old.seat new.seat
   pub session : number_of new ≡ number_of old
   pub same : new ≡ record old { seat = new.seat; state = new.state }
@@ -100,7 +101,7 @@ pub record LacksMemory (t : Turn Parts Event) (old new : Session) : Type 0 where
 -- ---- its reply goes out
 
 -- the seat has ended its stream, and knows what it knew
-pub record EndsStream (t : Turn Parts Event) (session : ℕ) (old new : Seat Parts Event ghosts) : Type 0 where
+pub record EndsStream (t : Turn ServerState Event) (session : ℕ) (old new : Seat ServerState Event ghosts) : Type 0 where
   pub rests : SeatRests t session new
   pub seen : (view new).seen ≡ (view old).seen
   pub fixed : (view new).fixed ≡ (view old).fixed
@@ -108,7 +109,7 @@ pub record EndsStream (t : Turn Parts Event) (session : ℕ) (old new : Seat Par
   pub room : new.ranges.room ≡ old.ranges.room
 
 -- the seat has ended its fill, and may have seen more
-pub record EndsFill (t : Turn Parts Event) (session : ℕ) (old new : Seat Parts Event ghosts) : Type 0 where
+pub record EndsFill (t : Turn ServerState Event) (session : ℕ) (old new : Seat ServerState Event ghosts) : Type 0 where
   pub rests : SeatRests t session new
   pub goes_on : flow.GoesOn (view old) (view new)
   pub room : new.ranges.room ≡ old.ranges.room
@@ -123,7 +124,7 @@ abbrev pub plan_packets : PlanView → ℕ → List (List ℕ)
 plan_packets p status = packet_list (reply.Rows p.columns (map (map text_of) p.rows) status)
 
 -- the seat begins to fill an entry whose answer these packets are
-pub record FillsWith (t : Turn Parts Event) (session serial : ℕ) (packets : List (List ℕ)) (s : Seat Parts Event ghosts) : Type 0 where
+pub record FillsWith (t : Turn ServerState Event) (session serial : ℕ) (packets : List (List ℕ)) (s : Seat ServerState Event ghosts) : Type 0 where
   pub has : HasTask t session (task.Fill serial) s
   pub begins : BeginsFill serial s
   pub start : IsStarted (view s).seen serial
@@ -143,14 +144,14 @@ bytes_for s (selected.Plain why place (Ok plan)) = concat (plan_packets plan (st
 bytes_for s (selected.Plain why place (Err e)) = packets (refused e)
 
 -- the seat streams the hit, or fills the entry with the plan's packets, or rests
-abbrev pub MaySend : Turn Parts Event → Session → Selected → Type 0
+abbrev pub MaySend : Turn ServerState Event → Session → Selected → Type 0
 MaySend t s (selected.Hit hit) = HasTask t (number_of s) (task.Stream hit.serial) s.seat × ((x : Stream) → x.serial ≡ hit.serial → x.bytes ≡ hit.bytes → IsStreamOf x (view s.seat))
 MaySend t s (selected.Start serial place plan) = FillsWith t (number_of s) serial (plan_packets plan (status_of (flags_of s.state.state))) s.seat × IsPlanned plan × ((view s.seat).fixed ≡ as_fixed s.options)
 MaySend t s (selected.Plain why place (Ok plan)) = SeatRests t (number_of s) s.seat × IsPlanned plan
 MaySend t s (selected.Plain why place (Err e)) = SeatRests t (number_of s) s.seat × FitsError e
 
 -- the seat rests, and may have seen more, but no events of its own
-pub record EndsWith (t : Turn Parts Event) (session : ℕ) (old new : Seat Parts Event ghosts) : Type 0 where
+pub record EndsWith (t : Turn ServerState Event) (session : ℕ) (old new : Seat ServerState Event ghosts) : Type 0 where
   pub rests : SeatRests t session new
   pub goes_on : GoesOn session (view old).seen (view new).seen
   pub fixed : (view new).fixed ≡ (view old).fixed
@@ -158,6 +159,6 @@ pub record EndsWith (t : Turn Parts Event) (session : ℕ) (old new : Seat Parts
   pub room : new.ranges.room ≡ old.ranges.room
 
 -- a fill that was begun has ended
-abbrev pub HasEndedFill : Seat Parts Event ghosts → Selected → Type 0
+abbrev pub HasEndedFill : Seat ServerState Event ghosts → Selected → Type 0
 HasEndedFill s (selected.Start serial place plan) = flow.HasEnded serial (view s)
 HasEndedFill s x = Unit {0}

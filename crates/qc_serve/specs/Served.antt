@@ -14,7 +14,7 @@ use Rattle.qc_model.specs.Agrees.{commands_of, whole_machine}
 use Rattle.qc_laws.specs.runs.Cuts.{Takes}
 use Rattle.qc_laws.specs.runs.Runs.{Runs}
 use Rattle.qc_turn.specs.declared.turn.Turn.{Turn}
-use Rattle.qc_core.specs.declared.parts.Parts.{Parts}
+use Rattle.qc_core.specs.declared.server_state.ServerState.{ServerState}
 use Rattle.qc_serve.specs.declared.ending.End.{End}
 use Rattle.qc_serve.specs.declared.ending.End.TheVariants as end
 use Rattle.qc_serve.specs.declared.session.Session.{Session}
@@ -47,7 +47,7 @@ TakesOf (Some input) cs (Some left) = Takes input cs left
 -- ---- while it goes on
 
 -- the session has served some commands of the input, and rests
-pub record IsServing (t : Turn Parts Event) (old new : Session) (input left : Option (List ℕ)) (held out : Option (List Piece)) : Type 0 where
+pub record IsServing (t : Turn ServerState Event) (old new : Session) (input left : Option (List ℕ)) (held out : Option (List Piece)) : Type 0 where
   pub commands : List Command
   pub answered : List ReportLine
   pub served : HasServed old new commands answered held out
@@ -85,11 +85,11 @@ pub record ServesAll (old new : Session) (input : Option (List ℕ)) (held out :
   pub all : IfSome input (λ bytes. commands_of bytes ≡ (commands, ending))
 
 -- it ended at the next command
-abbrev pub EndsAt : Turn Parts Event → Session → Session → Option (List ℕ) → Option (List Piece) → Option (List Piece) → End → Type 0
+abbrev pub EndsAt : Turn ServerState Event → Session → Session → Option (List ℕ) → Option (List Piece) → Option (List Piece) → End → Type 0
 EndsAt t old new left held out e = (c : Command) × IfSome left (λ bytes. (rest : List ℕ) × Takes bytes (c ∷ []) rest) × HasEnded t c old new held out e
 
 -- Some commands of the input were answered; then the session ended while it read the next one, or at that one.
-pub record ServesSome (t : Turn Parts Event) (old new : Session) (input : Option (List ℕ)) (held out : Option (List Piece)) (e : End) : Type 0 where
+pub record ServesSome (t : Turn ServerState Event) (old new : Session) (input : Option (List ℕ)) (held out : Option (List Piece)) (e : End) : Type 0 where
   pub middle : Session
   pub left : Option (List ℕ)
   pub between : Option (List Piece)
@@ -97,7 +97,7 @@ pub record ServesSome (t : Turn Parts Event) (old new : Session) (input : Option
   pub ended : (Leaves t middle new e × (out ≡ between)) ⊎ EndsAt t middle new left between out e
 
 -- A session has ended: all commands of its input were answered, or some where a read or a put failed or memory lacked.
-pub record IsServed (t : Turn Parts Event) (old new : Session) (input : Option (List ℕ)) (held out : Option (List Piece)) (e : End) : Type 0 where
+pub record IsServed (t : Turn ServerState Event) (old new : Session) (input : Option (List ℕ)) (held out : Option (List Piece)) (e : End) : Type 0 where
   pub end : new.end ≡ Some e
   pub left : HasLeft t (number_of old) new.seat
   pub standing : standing_of new ≡ standing_of old

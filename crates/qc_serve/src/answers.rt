@@ -2,26 +2,27 @@
 
 ghost use Rattle.std.specs.Prelude.{◌≡◌, ◌+◌, ◌<◌, ◌∷◌, [], ◌++◌, IfOk, OnOk, OnErr};
 ghost use Rattle.qc_laws.specs.sizes.Replies.{FitsError};
-ghost use Rattle.qc_model.specs.declared.events.Event.TheVariants as event;
-ghost use Rattle.qc_model.specs.declared.events.How.TheVariants as how;
 ghost use Rattle.qc_model.specs.declared.reports.Word.TheVariants as word;
 ghost use Rattle.qc_model.specs.Machine as machine;
 ghost use Rattle.qc_model.specs.Machine.{other};
 ghost use Rattle.qc_serve.specs.Logs.{logged};
 
+use crate::desk::Desk;
+use crate::holding::hold;
 use crate::log::Logged;
-use crate::noting::note_other;
+use crate::notes::Note;
 use crate::session::Session;
 use qc_core::Server;
 use qc_model::reports::Word;
-use qc_replies::{error_reply, ok_reply};
+use qc_statements::{error_reply, ok_reply};
 use qc_turn::Turn;
 use qc_types::{NoMemory, SqlError, Text};
 use std::alloc::Global;
 use std::sync::Wait;
 
 impl Session {
-    ghost use Rattle.qc_serve.specs.Going.{GivesOut, IsAtRest, Logs, MayAnswer, StopsWithout, TellsOut, next_who};
+    ghost use Rattle.qc_serve.specs.Going.{GivesOut, IsAtRest, Logs, MayAnswer, StopsWithout, TellsOut, event_given, next_who};
+    ghost use Rattle.qc_serve.specs.Notes.{noted};
 
     /// A line of the log.
     pub(crate) fn put_line(&mut self, place: u64, how: Word)
@@ -34,14 +35,22 @@ impl Session {
     }
 
     /// The event of a command that changes no data, with its line.
-    pub(crate) fn log_other<R: Wait>(&mut self, rt: &R, turn: &Turn<Server>) -> Result<(), NoMemory>
+    pub(crate) fn log_note<R: Wait>(
+        &mut self,
+        rt: &R,
+        alloc: Global,
+        turn: &Turn<Server>,
+        note: Note,
+    ) -> Result<(), NoMemory>
         requires { MayAnswer turn.now self.old }
-        ensures logs { OnOk result (Logs turn.now self.old self.new (λ journal e. e ≡ event.Run (next_who self.old) how.Other)) }
+        ensures logs { OnOk result (Logs turn.now self.old self.new (λ journal e. e ≡ noted note (next_who self.old))) }
         ensures state { self.new.state ≡ self.old.state }
         ensures stops { OnErr result (StopsWithout turn.now self.old self.new) }
     {
         let session = self.state.session();
-        let place = note_other(rt, turn, &mut self.seat, session)?;
+        let desk = Desk { rt, alloc, turn };
+        let mut note = note;
+        let place = hold(desk, &mut self.seat, session, &mut note)?;
         self.put_line(place, Word::Other);
         Ok(())
     }
@@ -52,13 +61,14 @@ impl Session {
         rt: &R,
         alloc: Global,
         turn: &Turn<Server>,
+        note: Note,
     ) -> Result<Text, NoMemory>
         requires { MayAnswer turn.now self.old }
-        ensures gives { IfOk result (λ reply. GivesOut turn.now self.old self.new reply (λ journal. other (next_who self.old) self.old.state.state (machine.ok_reply self.old.state.state 0))) }
+        ensures gives { IfOk result (λ reply. GivesOut turn.now self.old self.new reply (λ journal. event_given (noted note (next_who self.old)) self.old.state.state)) }
         ensures stops { OnErr result (StopsWithout turn.now self.old self.new) }
     {
         let reply = ok_reply(alloc, 0, self.state.status())?;
-        self.log_other(rt, turn)?;
+        self.log_note(rt, alloc, turn, note)?;
         Ok(reply)
     }
 
@@ -76,7 +86,7 @@ impl Session {
         ensures stops { OnErr result (StopsWithout turn.now self.old self.new) }
     {
         let reply = error_reply(alloc, error)?;
-        self.log_other(rt, turn)?;
+        self.log_note(rt, alloc, turn, Note::Other)?;
         Ok(reply)
     }
 

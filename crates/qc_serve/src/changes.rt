@@ -8,19 +8,20 @@ ghost use Rattle.qc_laws.specs.sizes.Names.{is_short_statement};
 ghost use Rattle.qc_model.specs.Machine as machine;
 ghost use Rattle.qc_model.specs.Machine.{changed_form, full_table};
 ghost use Rattle.qc_trx.specs.SnapshotStates.{MayAdd, added, seen_on};
-ghost use Rattle.qc_steps.specs.Statements.{changes_rows};
+ghost use Rattle.qc_statements.specs.Statements.{changes_rows};
 ghost use Rattle.qc_serve.specs.Ends as ends;
 ghost use Rattle.qc_serve.specs.Ends.{FormsFit, RowsFit};
 
-use crate::forms::{FormsEnd, change_forms_now};
-use crate::rows::{RowsEnd, change_rows_now};
+use crate::desk::Desk;
+use crate::holding::hold;
+use crate::rows::{ChangeRows, RowsEnd};
+use crate::schema::{ChangeSchema, FormsEnd};
 use crate::session::Session;
 use qc_core::Server;
 use qc_model::reports::Word;
-use qc_replies::{error_reply, ok_reply};
 use qc_sql::errors::{table_full, write_conflict};
 use qc_sql::statements::Statement;
-use qc_steps::{add, arrive, effect_on_view};
+use qc_statements::{add, arrive, effect_on_view, error_reply, ok_reply};
 use qc_turn::Turn;
 use qc_types::{NoMemory, Or, Steps, Text};
 use qc_write::Effect;
@@ -71,7 +72,7 @@ impl Session {
         ensures gives { IfOk result (λ reply. GivesOut turn.now self.old self.new reply (rows_given (next_who self.old) self.old.state.state statement.now)) }
         ensures stops { OnErr result (Stops turn.now self.old self.new (IsGivenBy (rows_given (next_who self.old) self.old.state.state statement.now))) }
     {
-        let database = self.log_sharing(rt, turn)?;
+        let database = self.log_sharing(rt, alloc, turn)?;
         arrive(&mut self.state, &database, self.place)?;
         match effect_on_view(alloc, statement, &self.state, &database, steps) {
             Ok(effect) => self.keep(alloc, effect),
@@ -112,15 +113,16 @@ impl Session {
         ensures stops { OnErr result (Stops turn.now self.old self.new (IsGivenBy (rows_given (next_who self.old) self.old.state.state statement.now))) }
     {
         let session = self.state.session();
-        let (place, end) = change_rows_now(
-            rt,
-            alloc,
-            turn,
+        let (place, end) = hold(
+            Desk { rt, alloc, turn },
             &mut self.seat,
             session,
-            statement,
-            &self.state,
-            steps,
+            &mut ChangeRows {
+                alloc,
+                statement,
+                state: &self.state,
+                steps,
+            },
         )?;
         self.put_line(place, Word::Other);
         self.rows_reply(alloc, &end)
@@ -153,15 +155,16 @@ impl Session {
         ensures stops { OnErr result (Stops turn.now self.old self.new (IsGivenBy (λ journal. changed_form (next_who self.old) self.old.state.state journal statement.now))) }
     {
         let session = self.state.session();
-        let (place, end) = change_forms_now(
-            rt,
-            alloc,
-            turn,
+        let (place, end) = hold(
+            Desk { rt, alloc, turn },
             &mut self.seat,
             session,
-            statement,
-            &mut self.state,
-            steps,
+            &mut ChangeSchema {
+                alloc,
+                statement,
+                state: &mut self.state,
+                steps,
+            },
         )?;
         self.put_line(place, Word::Other);
         self.forms_reply(alloc, &end)

@@ -3,12 +3,13 @@
 ghost use Rattle.std.specs.Prelude.{IfOk, OnErr};
 ghost use Rattle.qc_model.specs.Machine.{used};
 
-use crate::noting::note_sharing;
+use crate::desk::Desk;
+use crate::holding::hold;
+use crate::notes::SharingNote;
 use crate::session::Session;
 use qc_core::Server;
 use qc_model::reports::Word;
-use qc_replies::{error_reply, ok_reply};
-use qc_steps::use_db;
+use qc_statements::{error_reply, ok_reply, use_db};
 use qc_table::Database;
 use qc_turn::Turn;
 use qc_types::{NoMemory, Or, Text};
@@ -34,7 +35,7 @@ impl Session {
         ensures gives { IfOk result (λ reply. GivesOut turn.now self.old self.new reply (λ journal. used (next_who self.old) self.old.state.state journal name.now)) }
         ensures stops { OnErr result (Stops turn.now self.old self.new (IsGivenBy (λ journal. used (next_who self.old) self.old.state.state journal name.now))) }
     {
-        let database = self.log_sharing(rt, turn)?;
+        let database = self.log_sharing(rt, alloc, turn)?;
         match use_db(alloc, name, &mut self.state, &database) {
             Ok(()) => ok_reply(alloc, 0, self.state.status()),
             Err(Or::Other(error)) => error_reply(alloc, &error),
@@ -46,6 +47,7 @@ impl Session {
     pub(crate) fn log_sharing<R: Wait>(
         &mut self,
         rt: &R,
+        alloc: Global,
         turn: &Turn<Server>,
     ) -> Result<Database, NoMemory>
         requires { MayAnswer turn.now self.old }
@@ -54,7 +56,8 @@ impl Session {
         ensures stops { OnErr result (StopsWithout turn.now self.old self.new) }
     {
         let session = self.state.session();
-        let (place, database) = note_sharing(rt, turn, &mut self.seat, session)?;
+        let desk = Desk { rt, alloc, turn };
+        let (place, database) = hold(desk, &mut self.seat, session, &mut SharingNote)?;
         self.put_line(place, Word::Other);
         Ok(database)
     }

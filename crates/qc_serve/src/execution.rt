@@ -34,7 +34,7 @@ pub enum Executed {
 /// outside of it. The reply goes
 /// out in pieces, of a packet each, or of 512 bytes where the cache has it. The session ends at COM_QUIT, and where a put fails or memory lacks; its
 /// connection ends with it. Then no event of the session came and nothing went out; or the command's own event came, as it is at its place, the log has its
-/// line, and a front of the command's reply went out, which may be empty.
+/// line, and a front of the command's reply went out, which may be empty; that of a hit went out while the seat streamed it.
 /// Costs what the command's statement costs; where the cache has the reply, no stored row is read.
 pub fn execute<R: Wait, K: ReplySink, G: Gate, L: Ledger>(
     rt: &R,

@@ -5,8 +5,8 @@ ghost use Rattle.qc_turn.specs.declared.task.Task.TheVariants as task;
 ghost use Rattle.qc_turn.specs.Seats.{IsSeatOf, view};
 ghost use Rattle.qc_flow.specs.Streams.{IsStreamOf, left};
 ghost use Rattle.qc_serve.specs.Executed.{MayFail};
-ghost use Rattle.qc_serve.specs.Sent.{SendsFrontOf};
-ghost use Rattle.qc_serve.specs.SentAt.{SendsAt};
+ghost use Rattle.qc_serve.specs.Sent.{Adds, AreCut, NoneIsEmpty, hit_size};
+ghost use Rattle.qc_serve.specs.SentAt.{SendsAt, SendsFrontAt};
 
 use crate::ending::End;
 use crate::pieces::put_piece;
@@ -33,7 +33,9 @@ pub(crate) fn send_stream<K: ReplySink, G: Gate>(
     ensures seated { IsSeatOf turn.now seat.new × (view seat.new ≡ view seat.old) × (seat.new.ranges ≡ seat.old.ranges) }
     ensures same { (stream.new.serial ≡ stream.old.serial) × (stream.new.bytes ≡ stream.old.bytes) }
     ensures sends { OnOk result (SendsAt (task.Stream stream.old.serial) (K.held sink.old) (K.held sink.new) (left stream.old (view seat.old))) }
-    ensures front { OnErr result (SendsFrontOf (K.held sink.old) (K.held sink.new) (left stream.old (view seat.old))) }
+    ensures front { OnErr result (SendsFrontAt (task.Stream stream.old.serial) (K.held sink.old) (K.held sink.new) (left stream.old (view seat.old))) }
+    ensures cut { Adds (K.held sink.old) (K.held sink.new) (AreCut hit_size) }
+    ensures some { OnOk result (Adds (K.held sink.old) (K.held sink.new) NoneIsEmpty) }
     ensures cause { IfErr result (MayFail (K.faults sink.old) (K.faults sink.new)) }
     ensures later { K.faults sink.old ≤ K.faults sink.new }
 {

@@ -3,7 +3,7 @@
 ghost use Rattle.std.specs.Prelude.{◌≡◌, ◌+◌, ◌≤◌, true, false};
 ghost use Rattle.qc_turn.specs.Seats.{IsSeatOf, holder, view};
 ghost use Rattle.qc_turn.specs.Words.{StartsWith, word_seats};
-ghost use Rattle.qc_core.specs.Connects.{is_connected};
+ghost use Rattle.qc_core.specs.Connection.{is_connected};
 ghost use Rattle.qc_serve.specs.Leaving.{HasLeft, HasLetGo, IsApart, IsStranger, MayLetGo};
 ghost use Rattle.qc_serve.specs.Seats.{GoesOn, IsIdle, IsSameSeat, SeatRests};
 

@@ -3,7 +3,7 @@
 ghost use Rattle.std.specs.Prelude.{◌≡◌, ◌≤◌, [], ◌∷◌, IfErr, OnOk, OnErr};
 ghost use Rattle.qc_turn.specs.Seats.{view};
 ghost use Rattle.qc_serve.specs.Executed.{MayFail};
-ghost use Rattle.qc_serve.specs.Sent.{Adds, SendsFrontOf, piece as put_at};
+ghost use Rattle.qc_serve.specs.Sent.{Adds, IsPartOf, piece as put_at};
 
 use crate::ending::End;
 use crate::sinks::ReplySink;
@@ -18,7 +18,7 @@ pub(crate) fn put_piece<K: ReplySink>(
     sink: &mut K,
 ) -> Result<(), End>
     ensures puts { OnOk result (Adds (K.held sink.old) (K.held sink.new) (λ more. more ≡ put_at piece.now (view seat.now).task ∷ [])) }
-    ensures front { OnErr result (SendsFrontOf (K.held sink.old) (K.held sink.new) piece.now) }
+    ensures part { OnErr result (Adds (K.held sink.old) (K.held sink.new) (IsPartOf piece.now (view seat.now).task)) }
     ensures cause { IfErr result (MayFail (K.faults sink.old) (K.faults sink.new)) }
     ensures later { K.faults sink.old ≤ K.faults sink.new }
 {

@@ -6,8 +6,10 @@ ghost use Rattle.qc_sql.specs.Packets.{most_payload};
 ghost use Rattle.qc_model.specs.declared.reports.Word.TheVariants as word;
 ghost use Rattle.qc_serve.specs.Executed.{IsReplied, MayFail, MustEnd};
 
+use crate::desk::Desk;
 use crate::ending::End;
-use crate::looks::{Found, look_now};
+use crate::holding::hold;
+use crate::lookup::{Found, Lookup};
 use crate::session::Session;
 use crate::sinks::{Gate, ReplySink};
 use qc_core::Server;
@@ -15,9 +17,8 @@ use qc_lex::trimmed;
 use qc_model::reports::Word;
 use qc_parse::{ParseRefusal, parse};
 use qc_parsed::{ParsedSelect, ParsedSelects};
-use qc_replies::fault_error;
 use qc_sql::statements::{Select, Statement};
-use qc_steps::{asks_cache, key};
+use qc_statements::{asks_cache, fault_error, key};
 use qc_table::Database;
 use qc_turn::Turn;
 use qc_types::{NoMemory, Or, Steps, Text};
@@ -32,7 +33,7 @@ impl Session {
     ghost use Rattle.qc_laws.specs.sizes.Names.{is_short_select, is_short_statement};
     ghost use Rattle.qc_model.specs.Machine as machine;
     ghost use Rattle.qc_parse.specs.Refusals.{as_meant};
-    ghost use Rattle.qc_replies.specs.Told.{IsTold};
+    ghost use Rattle.qc_statements.specs.Told.{IsTold};
     ghost use Rattle.qc_trx.specs.SnapshotStates.{after_arrival};
     ghost use Rattle.qc_serve.specs.Going.{DoesStatement, MayAnswer, Stops, TellsOut};
     ghost use Rattle.qc_serve.specs.Querying.{HasFound, LooksAgain, seen_with};
@@ -81,7 +82,16 @@ impl Session {
             return Ok(None);
         }
         let key = key(alloc, &self.state, text)?;
-        look_now(rt, turn, &mut self.seat, key.bytes(), &self.state)
+        let session = self.state.session();
+        hold(
+            Desk { rt, alloc, turn },
+            &mut self.seat,
+            session,
+            &mut Lookup {
+                key: key.bytes(),
+                state: &self.state,
+            },
+        )
     }
 
     /// Answers a query by a hit, which the seat streams.

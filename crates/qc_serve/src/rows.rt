@@ -3,27 +3,24 @@
 ghost use Rattle.std.specs.Prelude.{◌≡◌, length, true, None, Ok, IfOk, OnErr};
 ghost use Rattle.qc_sql.specs.Effects as meant;
 ghost use Rattle.qc_laws.specs.sizes.Names.{is_short_statement};
-ghost use Rattle.qc_laws.specs.sizes.Replies.{FitsError};
-ghost use Rattle.qc_model.specs.Session.{base, snapshot_of};
-ghost use Rattle.qc_turn.specs.Seats.{holder, view};
+ghost use Rattle.qc_model.specs.Session.{base};
 ghost use Rattle.qc_types.specs.Answers.{Gives};
-ghost use Rattle.qc_steps.specs.Sound.{IsFitState, IsPast};
-ghost use Rattle.qc_steps.specs.Statements.{changes_rows};
+ghost use Rattle.qc_statements.specs.Sound.{IsFitState};
+ghost use Rattle.qc_statements.specs.Statements.{changes_rows};
 ghost use Rattle.qc_serve.specs.Ends.{RowsAs};
-ghost use Rattle.qc_serve.specs.Seats.{Decides, GoesOn, IsIdle, IsReady, IsSameSeat, MayRest, PushesNone, PushesOne, RestsAgain, SeatRests, next_of};
+ghost use Rattle.qc_serve.specs.Seats.{IsReady, IsSameSeat, PushesNone, PushesOne};
 
-use crate::pushes::{push_commit, push_run};
-use crate::seats::{give_back, prepare};
+use crate::events::{push_commit, push_run};
+use crate::request::Request;
 use qc_core::Server;
 use qc_model::events::{How, Who};
 use qc_sql::statements::Statement;
-use qc_steps::effect_on_view;
+use qc_statements::effect_on_view;
 use qc_trx::SessionState;
-use qc_turn::{Held, Seat, Turn};
+use qc_turn::{Held, Task};
 use qc_types::{NoMemory, Or, SqlError, Steps};
 use qc_write::Effect;
 use std::alloc::Global;
-use std::sync::Wait;
 use std::sync::ledger::Ledger;
 
 /// What a statement on rows did.
@@ -35,55 +32,42 @@ pub(crate) enum RowsEnd {
     Changes(u64),
 }
 
-/// Carries an INSERT, UPDATE or DELETE out, of a session without a transaction, and answers the number of its event. The one error is want of memory, and
-/// then no event comes.
-pub(crate) fn change_rows_now<R: Wait, L: Ledger>(
-    rt: &R,
-    alloc: Global,
-    turn: &Turn<Server>,
-    seat: &mut Seat<Server>,
-    session: u8,
-    statement: &Statement,
-    state: &SessionState,
-    steps: &mut Steps<L>,
-) -> Result<(u64, RowsEnd), NoMemory>
-    requires rests { SeatRests turn.now session seat.old }
-    requires rows { changes_rows statement.now ≡ true }
-    requires short { is_short_statement statement.now ≡ true }
-    requires fit { IsFitState (view seat.old).seen state.now }
-    requires closed { state.now.state.transaction ≡ None }
-    ensures rests { RestsAgain turn.now session seat.old seat.new }
-    ensures place { IfOk result (λ r. r.0 ≡ length (view seat.new).seen) }
-    ensures decides { IfOk result (λ r. Decides session (view seat.old).seen (view seat.new).seen (λ journal e. RowsAs (next_of session (view seat.old).seen) state.now.state statement.now journal e r.1)) }
-    ensures none { OnErr result (GoesOn session (view seat.old).seen (view seat.new).seen) }
-{
-    let mut held = turn.take(rt, seat);
-    let changed = change_rows_held(&mut held, alloc, session, statement, state, steps);
-    give_back(held);
-    changed
+/// Carries an INSERT, UPDATE or DELETE out, of a session without a transaction. It is answered the number of its event, and what the statement did.
+#[derive(Drop)]
+pub(crate) struct ChangeRows<'a, L: Ledger> {
+    pub(crate) alloc: Global,
+    pub(crate) statement: &'a Statement,
+    pub(crate) state: &'a SessionState,
+    pub(crate) steps: &'a mut Steps<L>,
 }
 
-/// The same under the turn.
-fn change_rows_held<L: Ledger>(
-    held: &mut Held<'_, Server>,
-    alloc: Global,
-    session: u8,
-    statement: &Statement,
-    state: &SessionState,
-    steps: &mut Steps<L>,
-) -> Result<(u64, RowsEnd), NoMemory>
-    requires idle { IsIdle session held.old }
-    requires rows { changes_rows statement.now ≡ true }
-    requires short { is_short_statement statement.now ≡ true }
-    requires fit { IsFitState (holder held.old).seen state.now }
-    requires closed { state.now.state.transaction ≡ None }
-    ensures rest { MayRest held.new × IsSameSeat held.old held.new }
-    ensures place { IfOk result (λ r. r.0 ≡ length held.new.value.journal.events) }
-    ensures decides { IfOk result (λ r. Decides session (holder held.old).seen held.new.value.journal.events (λ journal e. RowsAs (next_of session (holder held.old).seen) state.now.state statement.now journal e r.1)) }
-    ensures none { OnErr result (GoesOn session (holder held.old).seen held.new.value.journal.events) }
-{
-    let who = prepare(held, session)?;
-    commit_rows(held, alloc, who, statement, state, steps)
+impl<L: Ledger> Request for ChangeRows<'_, L> {
+    ghost use Rattle.qc_serve.specs.Holding.{HasOne, next_in};
+    ghost use Rattle.qc_serve.specs.Ends.{MayChangeRows};
+
+    type Answer = (u64, RowsEnd);
+
+    ghost asks = { λ q s. MayChangeRows q.statement.now q.state.now s.seen };
+
+    ghost gives = { λ q s r now. HasOne s r.0 now (λ journal e. RowsAs (next_in s) q.state.now.state q.statement.now journal e r.1) };
+
+    fn decide(
+        &mut self,
+        held: &mut Held<'_, Server>,
+        who: Who,
+    ) -> Result<((u64, RowsEnd), Task), NoMemory> {
+        let changed = commit_rows(
+            held,
+            self.alloc,
+            who,
+            self.statement,
+            self.state,
+            self.steps,
+        )?;
+        Ok((changed, Task::Rest))
+    }
+
+    ghost same = { λ q. tt };
 }
 
 /// What the statement does on the database that the journal makes, as a commit where it changes something.

@@ -1,15 +1,15 @@
 //! The rows of a SELECT go out packet by packet, and into the fill of an entry where one was begun.
 
-ghost use Rattle.std.specs.Prelude.{◌≡◌, ℕ, ◌≤◌, true, [], ◌∷◌, List, IfErr, IfOk, IfSome, None, OnOk, OnErr};
-ghost use Rattle.std.specs.List.{concat};
+ghost use Rattle.std.specs.Prelude.{◌≡◌, ℕ, ◌≤◌, true, [], ◌∷◌, ◌++◌, List, IfErr, IfOk, IfSome, None, OnOk, OnErr};
+ghost use Rattle.std.specs.List.{AllByRecursion, concat};
 ghost use Rattle.qc_turn.specs.declared.task.Task.TheVariants as task;
 ghost use Rattle.qc_turn.specs.Seats.{IsSeatOf, view};
 ghost use Rattle.qc_flow.specs.Seats.{GoesOn, HasEnded, IsAtRest};
 ghost use Rattle.qc_serve.specs.Executed.{MayFail};
 ghost use Rattle.qc_serve.specs.Filling.{Fills, IsGone};
 ghost use Rattle.qc_serve.specs.Querying.{IsPlanned, plan_packets};
-ghost use Rattle.qc_serve.specs.Sent.{Sends, SendsFrontOf};
-ghost use Rattle.qc_serve.specs.SentAt.{SendsAt};
+ghost use Rattle.qc_serve.specs.Sent.{Adds, AreCut, IsPacket, NoneIsEmpty, Sends, SendsFrontOf, packet_size};
+ghost use Rattle.qc_serve.specs.SentAt.{IsStored, SendsAt};
 
 use crate::ending::End;
 use crate::pieces::put_piece;
@@ -17,7 +17,7 @@ use crate::sinks::{Gate, Moment, ReplySink};
 use qc_core::Server;
 use qc_eval::Plan;
 use qc_flow::{Fill, FillStep};
-use qc_replies::RowPackets;
+use qc_statements::RowPackets;
 use qc_turn::{Seat, Turn};
 use qc_types::{NoMemory, Steps, Text};
 use std::alloc::Global;
@@ -52,6 +52,8 @@ pub(crate) fn send_rows<K: ReplySink, G: Gate, L: Ledger>(
 ) -> Result<(), End>
     ensures sends { OnOk result (Sends (K.held sink.old) (K.held sink.new) (concat packets.old)) }
     ensures front { OnErr result (SendsFrontOf (K.held sink.old) (K.held sink.new) (concat packets.old)) }
+    ensures cut { AllByRecursion IsPacket packets.old → Adds (K.held sink.old) (K.held sink.new) (AreCut packet_size) }
+    ensures some { AllByRecursion IsPacket packets.old → OnOk result (Adds (K.held sink.old) (K.held sink.new) NoneIsEmpty) }
     ensures cause { IfErr result (MayFail (K.faults sink.old) (K.faults sink.new)) }
     ensures later { K.faults sink.old ≤ K.faults sink.new }
 {
@@ -90,7 +92,10 @@ pub(crate) fn fill_plan<R: Wait, K: ReplySink, G: Gate, L: Ledger>(
     ensures fills { (serial : ℕ) → Fills serial (plan_packets plan status) fill.old seat.old → (left : List (List ℕ)) × Fills serial left fill.new seat.new × OnOk result (left ≡ []) }
     ensures sends { OnOk result (Sends (K.held sink.old) (K.held sink.new) (concat (plan_packets plan status))) }
     ensures at { (serial : ℕ) → Fills serial (plan_packets plan status) fill.old seat.old → OnOk result (IfSome fill.new (λ f. SendsAt (task.Fill serial) (K.held sink.old) (K.held sink.new) (concat (plan_packets plan status)))) }
+    ensures stored { IsStored fill.new (view seat.old) (view seat.new) (K.held sink.old) (K.held sink.new) }
     ensures front { OnErr result (SendsFrontOf (K.held sink.old) (K.held sink.new) (concat (plan_packets plan status))) }
+    ensures cut { Adds (K.held sink.old) (K.held sink.new) (AreCut packet_size) }
+    ensures some { OnOk result (Adds (K.held sink.old) (K.held sink.new) NoneIsEmpty) }
     ensures cause { IfErr result (MayFail (K.faults sink.old) (K.faults sink.new)) }
     ensures later { K.faults sink.old ≤ K.faults sink.new }
 {
@@ -133,7 +138,10 @@ pub(crate) fn fill_rows<R: Wait, K: ReplySink, G: Gate, L: Ledger>(
     ensures all { OnOk result (packets.new ≡ []) }
     ensures sends { OnOk result (Sends (K.held sink.old) (K.held sink.new) (concat packets.old)) }
     ensures at { (serial : ℕ) → Fills serial packets.old fill.old seat.old → OnOk result (IfSome fill.new (λ f. SendsAt (task.Fill serial) (K.held sink.old) (K.held sink.new) (concat packets.old))) }
+    ensures stored { IsStored fill.new (view seat.old) (view seat.new) (K.held sink.old) (K.held sink.new) }
     ensures front { OnErr result (SendsFrontOf (K.held sink.old) (K.held sink.new) (concat packets.old)) }
+    ensures cut { AllByRecursion IsPacket packets.old → Adds (K.held sink.old) (K.held sink.new) (AreCut packet_size) }
+    ensures some { AllByRecursion IsPacket packets.old → OnOk result (Adds (K.held sink.old) (K.held sink.new) NoneIsEmpty) }
     ensures cause { IfErr result (MayFail (K.faults sink.old) (K.faults sink.new)) }
     ensures later { K.faults sink.old ≤ K.faults sink.new }
 {
@@ -165,6 +173,7 @@ fn store<R: Wait>(
     ensures goes_on { GoesOn (view seat.old) (view seat.new) }
     ensures fills { (serial : ℕ) (later : List (List ℕ)) → Fills serial (packet.now ∷ later) fill.old seat.old → Fills serial later fill.new seat.new }
     ensures none { fill.old ≡ None → fill.new ≡ None }
+    ensures stored { IfSome fill.new (λ f. (view seat.new).content ≡ (view seat.old).content ++ packet.now) }
 {
     let Some(mut going) = fill.take() else {
         return;

@@ -5,13 +5,15 @@ ghost use Rattle.qc_sql.specs.declared.commands.Command.TheVariants as sent;
 ghost use Rattle.qc_sql.specs.Packets.{most_payload};
 ghost use Rattle.qc_model.specs.declared.reports.Word.TheVariants as word;
 ghost use Rattle.qc_select.specs.Selects.{place_of};
-ghost use Rattle.qc_serve.specs.Executed.{IsReplied, MayFail, MustEnd};
+ghost use Rattle.qc_serve.specs.Executed.{IsReplied, MayFail, MustEnd, size_by};
 ghost use Rattle.qc_serve.specs.Querying.{IsPlanned, plan_packets, word_of_selected};
 
+use crate::decision::{Decide, Decision};
+use crate::desk::Desk;
 use crate::ending::End;
 use crate::hits_sent::send_stream;
+use crate::holding::hold;
 use crate::rows_sent::{end_fill, fill_plan, loaded, send_rows};
-use crate::selections::{Decision, select_now};
 use crate::session::Session;
 use crate::sinks::{Gate, ReplySink};
 use qc_core::{Hit, Server};
@@ -20,10 +22,10 @@ use qc_flow::{Fill, Stream};
 use qc_key::key_bytes;
 use qc_lex::{head, trimmed};
 use qc_model::reports::Word;
-use qc_replies::error_reply;
 use qc_rules::asks;
 use qc_select::Selected;
 use qc_sql::statements::Select;
+use qc_statements::error_reply;
 use qc_table::Database;
 use qc_turn::Turn;
 use qc_types::{NoMemory, SqlError, Steps};
@@ -46,11 +48,11 @@ impl Session {
     ghost use Rattle.qc_turn.specs.declared.task.Task.TheVariants as task;
     ghost use Rattle.qc_flow.specs.Seats.{HasEnded};
     ghost use Rattle.qc_flow.specs.Streams.{IsStreamOf};
-    ghost use Rattle.qc_serve.specs.Asking.{HasTask};
+    ghost use Rattle.qc_serve.specs.Holding.{HasTask};
     ghost use Rattle.qc_serve.specs.Going.{MayAnswer, as_fixed, number_of};
     ghost use Rattle.qc_serve.specs.Querying.{EndsFill, EndsStream, EndsWith, FillsWith, HasDecided, HasEndedFill, LacksMemory, MaySend, arrives, bytes_for, is_hit, sees_at};
-    ghost use Rattle.qc_serve.specs.Sent.{Sends, SendsFrontOf};
-    ghost use Rattle.qc_serve.specs.SentAt.{FillsAt, SendsAs, SendsAt};
+    ghost use Rattle.qc_serve.specs.Sent.{Adds, AreCut, NoneIsEmpty, Sends, SendsFrontOf, hit_size, packet_size};
+    ghost use Rattle.qc_serve.specs.SentAt.{FillsAt, SendsAs, SendsAt, SendsFrontAs, SendsFrontAt};
 
     /// Answers a SELECT, and sends its reply.
     pub(crate) fn answer_select<R: Wait, K: ReplySink, G: Gate, L: Ledger>(
@@ -97,15 +99,18 @@ impl Session {
         self.arrive_for(select);
         let asked = asks(head(trimmed(text)), self.state.kind());
         let key = key_bytes(alloc, &self.state.flags(), self.state.db(), trimmed(text))?;
-        let Decision { selected, database } = select_now(
-            rt,
-            alloc,
-            turn,
+        let session = self.state.session();
+        let Decision { selected, database } = hold(
+            Desk { rt, alloc, turn },
             &mut self.seat,
-            key,
-            select,
-            asked,
-            &self.state,
+            session,
+            &mut Decide {
+                alloc,
+                key,
+                select,
+                asked,
+                state: &self.state,
+            },
         )?;
         let (place, word) = line_of(&selected);
         self.see_for(select, place, database);
@@ -148,8 +153,10 @@ impl Session {
         ensures same { self.new ≡ record self.old { seat = self.new.seat } }
         ensures sends { OnOk result (Sends (K.held sink.old) (K.held sink.new) (bytes_for self.old selected)) }
         ensures at { OnOk result (SendsAs selected (view self.new.seat).seen (K.held sink.old) (K.held sink.new) (bytes_for self.old selected)) }
-        ensures front { OnErr result (SendsFrontOf (K.held sink.old) (K.held sink.new) (bytes_for self.old selected)) }
+        ensures front { OnErr result (SendsFrontAs selected (K.held sink.old) (K.held sink.new) (bytes_for self.old selected)) }
         ensures ended { OnOk result (HasEndedFill self.new.seat selected) }
+        ensures cut { Adds (K.held sink.old) (K.held sink.new) (AreCut (size_by (word_of_selected selected))) }
+        ensures some { OnOk result (Adds (K.held sink.old) (K.held sink.new) NoneIsEmpty) }
         ensures cause { IfErr result (MayFail (K.faults sink.old) (K.faults sink.new)) }
         ensures later { K.faults sink.old ≤ K.faults sink.new }
         ensures hits_read_no_row { is_hit selected ≡ true → steps.new ≡ steps.old }
@@ -180,7 +187,9 @@ impl Session {
         ensures seat { EndsStream turn.now (number_of self.old) self.old.seat self.new.seat }
         ensures same { self.new ≡ record self.old { seat = self.new.seat } }
         ensures sends { OnOk result (SendsAt (task.Stream hit.serial) (K.held sink.old) (K.held sink.new) (take hit.bytes (bytes_of (view self.old.seat).content))) }
-        ensures front { OnErr result (SendsFrontOf (K.held sink.old) (K.held sink.new) (take hit.bytes (bytes_of (view self.old.seat).content))) }
+        ensures front { OnErr result (SendsFrontAt (task.Stream hit.serial) (K.held sink.old) (K.held sink.new) (take hit.bytes (bytes_of (view self.old.seat).content))) }
+        ensures cut { Adds (K.held sink.old) (K.held sink.new) (AreCut hit_size) }
+        ensures some { OnOk result (Adds (K.held sink.old) (K.held sink.new) NoneIsEmpty) }
         ensures cause { IfErr result (MayFail (K.faults sink.old) (K.faults sink.new)) }
         ensures later { K.faults sink.old ≤ K.faults sink.new }
     {
@@ -221,6 +230,8 @@ impl Session {
         ensures at { OnOk result (FillsAt serial (view self.new.seat).seen (K.held sink.old) (K.held sink.new) (concat (plan_packets plan (status_of (flags_of self.old.state.state))))) }
         ensures front { OnErr result (SendsFrontOf (K.held sink.old) (K.held sink.new) (concat (plan_packets plan (status_of (flags_of self.old.state.state))))) }
         ensures ended { OnOk result (HasEnded serial (view self.new.seat)) }
+        ensures cut { Adds (K.held sink.old) (K.held sink.new) (AreCut packet_size) }
+        ensures some { OnOk result (Adds (K.held sink.old) (K.held sink.new) NoneIsEmpty) }
         ensures cause { IfErr result (MayFail (K.faults sink.old) (K.faults sink.new)) }
         ensures later { K.faults sink.old ≤ K.faults sink.new }
     {
@@ -258,6 +269,8 @@ impl Session {
         requires { IsPlanned plan }
         ensures sends { OnOk result (Sends (K.held sink.old) (K.held sink.new) (concat (plan_packets plan (status_of (flags_of self.now.state.state))))) }
         ensures front { OnErr result (SendsFrontOf (K.held sink.old) (K.held sink.new) (concat (plan_packets plan (status_of (flags_of self.now.state.state))))) }
+        ensures cut { Adds (K.held sink.old) (K.held sink.new) (AreCut packet_size) }
+        ensures some { OnOk result (Adds (K.held sink.old) (K.held sink.new) NoneIsEmpty) }
         ensures cause { IfErr result (MayFail (K.faults sink.old) (K.faults sink.new)) }
         ensures later { K.faults sink.old ≤ K.faults sink.new }
     {
@@ -287,6 +300,8 @@ impl Session {
         requires { FitsError error.now }
         ensures sends { OnOk result (Sends (K.held sink.old) (K.held sink.new) (packets (machine.refused error.now))) }
         ensures front { OnErr result (SendsFrontOf (K.held sink.old) (K.held sink.new) (packets (machine.refused error.now))) }
+        ensures cut { Adds (K.held sink.old) (K.held sink.new) (AreCut packet_size) }
+        ensures some { OnOk result (Adds (K.held sink.old) (K.held sink.new) NoneIsEmpty) }
         ensures cause { IfErr result (MayFail (K.faults sink.old) (K.faults sink.new)) }
         ensures later { K.faults sink.old ≤ K.faults sink.new }
     {

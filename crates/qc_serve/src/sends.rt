@@ -1,7 +1,7 @@
 //! A reply goes out, packet by packet.
 
-ghost use Rattle.std.specs.Prelude.{◌≡◌, ◌<◌, ◌≤◌, length, IfErr, OnOk, OnErr};
-ghost use Rattle.qc_serve.specs.Sent.{Sends, SendsFrontOf};
+ghost use Rattle.std.specs.Prelude.{◌≡◌, ◌<◌, ◌≤◌, length, min, IfErr, OnOk, OnErr};
+ghost use Rattle.qc_serve.specs.Sent.{Adds, AreCut, NoneIsEmpty, Sends, SendsFrontOf, packet_size};
 ghost use Rattle.qc_serve.specs.Executed.{MayFail};
 
 use crate::ending::End;
@@ -26,6 +26,8 @@ impl Session {
         ensures sends { OnOk result (Sends (K.held sink.old) (K.held sink.new) reply.now) }
         ensures same { OnOk result (self.new ≡ self.old) }
         ensures front { OnErr result (SendsFrontOf (K.held sink.old) (K.held sink.new) reply.now) }
+        ensures cut { Adds (K.held sink.old) (K.held sink.new) (AreCut packet_size) }
+        ensures some { OnOk result (Adds (K.held sink.old) (K.held sink.new) NoneIsEmpty) }
         ensures log { OnErr result (DropsLocal self.old.log.lines self.new.log.lines × (self.new ≡ record self.old { log = self.new.log })) }
         ensures later { K.faults sink.old ≤ K.faults sink.new }
         ensures cause { IfErr result (MayFail (K.faults sink.old) (K.faults sink.new)) }
@@ -47,6 +49,8 @@ impl Session {
     ) -> Result<(), End>
         ensures sends { OnOk result (Sends (K.held sink.old) (K.held sink.new) reply.now) }
         ensures front { OnErr result (SendsFrontOf (K.held sink.old) (K.held sink.new) reply.now) }
+        ensures cut { Adds (K.held sink.old) (K.held sink.new) (AreCut packet_size) }
+        ensures some { OnOk result (Adds (K.held sink.old) (K.held sink.new) NoneIsEmpty) }
         ensures later { K.faults sink.old ≤ K.faults sink.new }
         ensures cause { IfErr result (MayFail (K.faults sink.old) (K.faults sink.new)) }
     {
@@ -66,7 +70,7 @@ impl Session {
 /// The length of the packet in front, or all where no whole packet is.
 fn packet_length(bytes: &[u8]) -> usize
     requires { 0 < length bytes.now }
-    ensures { (0 < result) × (result ≤ length bytes.now) }
+    ensures { (0 < result) × (result ≡ min (length bytes.now) (packet_size bytes.now)) }
 {
     if bytes.len() < HEADER_LENGTH {
         return bytes.len();

@@ -8,12 +8,12 @@ ghost use Rattle.qc_model.specs.Machine.{ended_with};
 ghost use Rattle.qc_model.specs.Session.{with_transaction};
 ghost use Rattle.qc_model.specs.Settings.{is_autocommit, set_to};
 
-use crate::ends::Ended;
+use crate::notes::Note;
 use crate::session::Session;
+use crate::transaction_end::Ended;
 use qc_core::Server;
-use qc_replies::ok_reply;
 use qc_sql::statements::Setting;
-use qc_steps::{is_autocommit, put, switches_on};
+use qc_statements::{is_autocommit, ok_reply, put, switches_on};
 use qc_turn::Turn;
 use qc_types::{NoMemory, Or, Text};
 use std::alloc::Global;
@@ -60,7 +60,7 @@ impl Session {
             return self.turn_on(rt, alloc, turn, setting);
         }
         match self.state.set(alloc, setting) {
-            Ok(()) => self.log_ok(rt, alloc, turn),
+            Ok(()) => self.log_ok(rt, alloc, turn, Note::Other),
             Err(Or::Other(error)) => self.log_error(rt, alloc, turn, &error),
             Err(Or::Memory) => Err(NoMemory),
         }

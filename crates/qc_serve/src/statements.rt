@@ -6,14 +6,17 @@ ghost use Rattle.qc_laws.specs.sizes.Names.{is_short_statement};
 ghost use Rattle.qc_model.specs.declared.events.Event.TheVariants as event;
 ghost use Rattle.qc_serve.specs.Stage.{is_select};
 
+use crate::desk::Desk;
+use crate::holding::hold;
+use crate::notes::Note;
 use crate::session::Session;
+use crate::status::ShowStatus;
 use crate::status_reply::status_reply;
-use crate::statuses::{flush_now, reset_now, status_now};
 use qc_core::Server;
 use qc_model::reports::Word;
-use qc_replies::ok_reply;
 use qc_sql::errors::unknown_command;
 use qc_sql::statements::Statement;
+use qc_statements::ok_reply;
 use qc_turn::Turn;
 use qc_types::{NoMemory, Steps, Text};
 use std::alloc::Global;
@@ -62,9 +65,9 @@ impl Session {
             Statement::Rollback => self.rollback(rt, alloc, turn),
             Statement::Set(setting) => self.set(rt, alloc, turn, setting),
             Statement::ShowStatus => self.show_status(rt, alloc, turn),
-            Statement::FlushCache => self.flush_cache(rt, alloc, turn),
-            Statement::FlushTables => self.reset_cache(rt, alloc, turn),
-            Statement::ResetCache => self.reset_cache(rt, alloc, turn),
+            Statement::FlushCache => self.log_ok(rt, alloc, turn, Note::Flush),
+            Statement::FlushTables => self.log_ok(rt, alloc, turn, Note::Reset),
+            Statement::ResetCache => self.log_ok(rt, alloc, turn, Note::Reset),
             Statement::Insert(_) | Statement::Update(_) | Statement::Delete(_) => {
                 self.change_rows(rt, alloc, turn, statement, steps)
             }
@@ -84,44 +87,9 @@ impl Session {
         ensures stops { OnErr result (Stops turn.now self.old self.new (λ journal e. (t : Totals) × IsGivenBy (status_given (next_who self.old) self.old.state.state t) journal e)) }
     {
         let session = self.state.session();
-        let told = status_now(rt, turn, &mut self.seat, session)?;
+        let desk = Desk { rt, alloc, turn };
+        let told = hold(desk, &mut self.seat, session, &mut ShowStatus)?;
         self.put_line(told.place, Word::Other);
         status_reply(alloc, &self.state, &told.counters, &told.totals)
-    }
-
-    /// FLUSH QUERY CACHE.
-    fn flush_cache<R: Wait>(
-        &mut self,
-        rt: &R,
-        alloc: Global,
-        turn: &Turn<Server>,
-    ) -> Result<Text, NoMemory>
-        requires { MayAnswer turn.now self.old }
-        ensures gives { IfOk result (λ reply. GivesOut turn.now self.old self.new reply (λ journal. event_given (event.Flush (next_who self.old)) self.old.state.state)) }
-        ensures stops { OnErr result (StopsWithout turn.now self.old self.new) }
-    {
-        let reply = ok_reply(alloc, 0, self.state.status())?;
-        let session = self.state.session();
-        let place = flush_now(rt, turn, &mut self.seat, session)?;
-        self.put_line(place, Word::Other);
-        Ok(reply)
-    }
-
-    /// RESET QUERY CACHE, and FLUSH TABLES.
-    fn reset_cache<R: Wait>(
-        &mut self,
-        rt: &R,
-        alloc: Global,
-        turn: &Turn<Server>,
-    ) -> Result<Text, NoMemory>
-        requires { MayAnswer turn.now self.old }
-        ensures gives { IfOk result (λ reply. GivesOut turn.now self.old self.new reply (λ journal. event_given (event.Reset (next_who self.old)) self.old.state.state)) }
-        ensures stops { OnErr result (StopsWithout turn.now self.old self.new) }
-    {
-        let reply = ok_reply(alloc, 0, self.state.status())?;
-        let session = self.state.session();
-        let place = reset_now(rt, turn, &mut self.seat, session)?;
-        self.put_line(place, Word::Other);
-        Ok(reply)
     }
 }

@@ -4,7 +4,7 @@ ghost use Rattle.std.specs.Prelude.{◌≡◌, ◌+◌, ◌<◌, ◌≤◌, [], 
 ghost use Rattle.qc_sql.specs.Packets.{column_payload, packets, row_payload};
 ghost use Rattle.qc_model.specs.Machine as machine;
 ghost use Rattle.qc_model.specs.Machine.{status_column, status_row};
-ghost use Rattle.qc_replies.specs.Answers.{Appends};
+ghost use Rattle.qc_statements.specs.Answers.{Appends};
 ghost use Rattle.qc_serve.specs.StatusReply.{head_of, rows_of};
 
 use qc_model::events::Counters;

@@ -8,12 +8,15 @@ ghost use Rattle.qc_sql.specs.Packets.{packets};
 ghost use Rattle.qc_serve.specs.Ends as ends;
 ghost use Rattle.qc_serve.specs.Ends.{EndsAs, HasFittingError};
 
-use crate::ends::{Ended, end_now};
+use crate::desk::Desk;
+use crate::holding::hold;
+use crate::notes::Note;
 use crate::session::Session;
+use crate::transaction_end::{EndTransaction, Ended};
 use qc_core::Server;
 use qc_model::reports::Word;
-use qc_replies::{error_reply, ok_reply};
 use qc_sql::errors::{table_full, write_conflict};
+use qc_statements::{error_reply, ok_reply};
 use qc_turn::Turn;
 use qc_types::{NoMemory, Text};
 use std::alloc::Global;
@@ -35,7 +38,7 @@ impl Session {
         ensures stops { OnErr result (StopsWithout turn.now self.old self.new) }
     {
         self.state.clear();
-        self.log_ok(rt, alloc, turn)
+        self.log_ok(rt, alloc, turn, Note::Other)
     }
 
     /// COMMIT.
@@ -86,7 +89,15 @@ impl Session {
         ensures stops { OnErr result (StopsWithout turn.now self.old self.new) }
     {
         let session = self.state.session();
-        let (place, ended) = end_now(rt, alloc, turn, &mut self.seat, session, &mut self.state)?;
+        let (place, ended) = hold(
+            Desk { rt, alloc, turn },
+            &mut self.seat,
+            session,
+            &mut EndTransaction {
+                alloc,
+                state: &mut self.state,
+            },
+        )?;
         self.put_line(place, Word::Other);
         Ok(ended)
     }

@@ -1,4 +1,4 @@
-use Rattle.qc_core.specs.Strikes.{rested}
+use Rattle.qc_core.specs.TaskEnd.{rested}
 use Rattle.qc_turn.specs.Seats.{holder}
 use Rattle.qc_serve.proofs.Parting.{left, left_connected, left_events}
 use Rattle.qc_serve.proofs.leaving.leave_held.Goals as goal

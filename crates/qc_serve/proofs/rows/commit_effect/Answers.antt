@@ -3,8 +3,8 @@ use Rattle.std.specs.Prelude.{◌==◌}
 use Rattle.qc_sql.specs.declared.tables.RowOp.{RowOp}
 use Rattle.qc_sql.specs.Database.{apply}
 use Rattle.qc_sql.specs.Effects.{Effect}
-use Rattle.qc_steps.specs.Sound.{MayFollow}
-use Rattle.qc_steps.proofs.Fitting.{never_refused}
+use Rattle.qc_statements.specs.Sound.{MayFollow}
+use Rattle.qc_statements.proofs.Fitting.{never_refused}
 use Rattle.qc_serve.proofs.Changing.{rows_may}
 use Rattle.qc_serve.proofs.Endings.{some_are}
 use Rattle.qc_serve.proofs.rows.commit_effect.Goals as goal

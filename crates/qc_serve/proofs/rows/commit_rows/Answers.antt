@@ -1,6 +1,6 @@
 use Rattle.std.proofs.Common.{◌≡◌, ℕ, sym, subst}
-use Rattle.qc_core.specs.declared.parts.Parts.{Parts}
-use Rattle.qc_steps.specs.Sound.{IsFitState}
+use Rattle.qc_core.specs.declared.server_state.ServerState.{ServerState}
+use Rattle.qc_statements.specs.Sound.{IsFitState}
 use Rattle.qc_sql.specs.Effects.{effect}
 use Rattle.qc_model.specs.Session.{base}
 use Rattle.std.proofs.Common.{Ok, Err}
@@ -15,12 +15,12 @@ use Rattle.qc_serve.proofs.Endings.{none_pushed}
 use Rattle.qc_serve.proofs.rows.commit_rows.Goals as goal
 
 pub commit_effect-requires-clause-fit : goal.commit_effect-requires-clause-fit
-commit_effect-requires-clause-fit g c = subst (λ (p : Parts). IsFitState p.journal.events c.args.state.now) (sym c.effect_now.ensures.ready.2) c.requires.fit
+commit_effect-requires-clause-fit g c = subst (λ (p : ServerState). IsFitState p.journal.events c.args.state.now) (sym c.effect_now.ensures.ready.2) c.requires.fit
 
 pub commit_effect-requires-clause-effect : goal.commit_effect-requires-clause-effect
 commit_effect-requires-clause-effect g c =
     let x = c.args.state.now.state in
-    subst (λ (p : Parts). effect c.args.statement.now (base x p.journal.events) x.db x.session ≡ Ok c.in-Ok.effect) (sym c.effect_now.ensures.ready.2) c.in-Ok.ensures.gives
+    subst (λ (p : ServerState). effect c.args.statement.now (base x p.journal.events) x.db x.session ≡ Ok c.in-Ok.effect) (sym c.effect_now.ensures.ready.2) c.in-Ok.ensures.gives
 
 pub returns-in-Ok-clause-pushes : goal.returns-in-Ok-clause-pushes
 returns-in-Ok-clause-pushes g c =

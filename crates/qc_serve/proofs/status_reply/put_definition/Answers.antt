@@ -1,6 +1,6 @@
 use Rattle.qc_sql.specs.Packets.{column_payload}
 use Rattle.qc_model.specs.Machine.{status_column}
-use Rattle.qc_replies.proofs.Calls.{on_ok}
+use Rattle.qc_statements.proofs.Calls.{on_ok}
 use Rattle.qc_serve.proofs.StatusPackets.{definition_fits, one_put}
 use Rattle.qc_serve.proofs.status_reply.put_definition.Goals as goal
 

@@ -1,4 +1,4 @@
-use Rattle.qc_replies.proofs.Calls.{on_ok}
+use Rattle.qc_statements.proofs.Calls.{on_ok}
 use Rattle.qc_serve.proofs.StatusPackets.{head_put}
 use Rattle.qc_serve.proofs.status_reply.put_head.Goals as goal
 

@@ -20,7 +20,7 @@ returns-clause-replied g c = λ text old may f.
     let sent = c.stream_hit in
     let put : HasPut held mid found = has_put held c.arrive_at.new.self mid found c.arrive_at.ensures c.put_line.ensures.same in
     hit_replies c.args.turn.now text old held mid sent.new.self found sent.result (g.K.ReplySink.held c.args.sink.now) (g.K.ReplySink.held sent.new.sink) may.rest f
-    (streamed c.args.turn.now text old held mid sent.new.self found may.rest f put (c.put_line.ensures.lines ∙ ap (λ (s : Session). s.log.lines ++ logged found.hit.place word.Hit ∷ []) c.arrive_at.ensures) sent.ensures.seat sent.ensures.same) (ap (λ (s : Session). s.seat) put) sent.ensures.sends
+    (streamed c.args.turn.now text old held mid sent.new.self found may.rest f put (c.put_line.ensures.lines ∙ ap (λ (s : Session). s.log.lines ++ logged found.hit.place word.Hit ∷ []) c.arrive_at.ensures) sent.ensures.seat sent.ensures.same) (ap (λ (s : Session). s.seat) put) sent.ensures.sends sent.ensures.cut sent.ensures.some
 
 pub returns-clause-ends : goal.returns-clause-ends
 returns-clause-ends g c = λ text old may f.
@@ -30,4 +30,4 @@ returns-clause-ends g c = λ text old may f.
     let sent = c.stream_hit in
     let put : HasPut held mid found = has_put held c.arrive_at.new.self mid found c.arrive_at.ensures c.put_line.ensures.same in
     hit_breaks c.args.turn.now text old held mid sent.new.self found sent.result (g.K.ReplySink.held c.args.sink.now) (g.K.ReplySink.held sent.new.sink) may.rest f
-    (streamed c.args.turn.now text old held mid sent.new.self found may.rest f put (c.put_line.ensures.lines ∙ ap (λ (s : Session). s.log.lines ++ logged found.hit.place word.Hit ∷ []) c.arrive_at.ensures) sent.ensures.seat sent.ensures.same) (ap (λ (s : Session). s.seat) put) sent.ensures.front
+    (streamed c.args.turn.now text old held mid sent.new.self found may.rest f put (c.put_line.ensures.lines ∙ ap (λ (s : Session). s.log.lines ++ logged found.hit.place word.Hit ∷ []) c.arrive_at.ensures) sent.ensures.seat sent.ensures.same) (ap (λ (s : Session). s.seat) put) sent.ensures.front sent.ensures.cut

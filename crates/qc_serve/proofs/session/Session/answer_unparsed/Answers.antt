@@ -2,7 +2,7 @@ use Rattle.std.proofs.Common.{arith, refl}
 use Rattle.qc_sql.specs.declared.commands.Command.TheVariants as sent
 use Rattle.qc_laws.proofs.sizes.Parsed.{parsed_names_are_short}
 use Rattle.qc_parse.specs.Refusals.{as_meant}
-use Rattle.qc_replies.proofs.Told.{is_told}
+use Rattle.qc_statements.proofs.Told.{is_told}
 use Rattle.qc_serve.proofs.Parsing.{ends_same, trimmed_below}
 use Rattle.qc_serve.proofs.session.Session.answer_unparsed.Goals as goal
 

@@ -1,26 +1,27 @@
 use Rattle.std.proofs.Common.{refl, ap, ◌∙◌}
 use Rattle.qc_serve.specs.declared.session.Session.{Session}
+use Rattle.qc_model.specs.declared.events.Who.{Who}
 use Rattle.qc_serve.specs.Ends.{FormsAs}
 use Rattle.qc_serve.specs.Going.{next_who}
 use Rattle.qc_serve.proofs.Meeting.{forms_fits, forms_out, forms_stop}
-use Rattle.qc_serve.proofs.Resting.{none_stops, or_err, seat_logs}
+use Rattle.qc_serve.proofs.Resting.{request_stops, or_err, request_logs}
 use Rattle.qc_serve.proofs.session.Session.change_forms.Goals as goal
 
 pub returns-in_err-place-clause-stops : goal.returns-in_err-place-clause-stops
 returns-in_err-place-clause-stops g c =
     let old = c.args.self.now in
-    let n = c.change_forms_now in
-    or_err _ (none_stops c.args.turn.now old (record old { seat = n.new.seat; state = n.new.state }) (rw c.session-session.ensures at n.ensures.rests) (rw c.session-session.ensures at c.in_err-place.ensures.none) refl n.ensures.session refl)
+    let n = c.hold in
+    or_err _ (request_stops c.args.turn.now old (record old { seat = n.new.seat; state = _ }) c.session-session.result n.result c.session-session.ensures n.ensures.turns c.in_err-place.ensures.none refl c.in_err-place.ensures.fails.1 refl)
 
 pub forms_reply-requires : goal.forms_reply-requires
 forms_reply-requires g c =
     let t = c.args.turn.now in
     let old = c.args.self.now in
     let s = c.args.statement.now in
-    let n = c.change_forms_now in
+    let n = c.hold in
     let ok = c.in_ok-place in
     let m = c.put_line in
-    let logs = seat_logs t old m.new.self n.new.state n.new.seat ok.place (λ journal e. FormsAs (next_who old) old.state.state s journal e ok.end) (rw c.session-session.ensures at n.ensures.rests) ok.ensures.place (rw c.session-session.ensures at ok.ensures.decides) m.ensures.same m.ensures.lines in
+    let logs = request_logs t old m.new.self _ n.new.seat c.session-session.result ok.place n.result (λ (w : Who) journal e. FormsAs w old.state.state s journal e ok.end) c.session-session.ensures n.ensures.turns ok.ensures.gives m.ensures.same m.ensures.lines in
     forms_fits t old m.new.self s ok.end logs
 
 pub returns-clause-gives : goal.returns-clause-gives
@@ -28,19 +29,19 @@ returns-clause-gives g c =
     let t = c.args.turn.now in
     let old = c.args.self.now in
     let s = c.args.statement.now in
-    let n = c.change_forms_now in
+    let n = c.hold in
     let ok = c.in_ok-place in
     let m = c.put_line in
-    let logs = seat_logs t old m.new.self n.new.state n.new.seat ok.place (λ journal e. FormsAs (next_who old) old.state.state s journal e ok.end) (rw c.session-session.ensures at n.ensures.rests) ok.ensures.place (rw c.session-session.ensures at ok.ensures.decides) m.ensures.same m.ensures.lines in
-    forms_out t old m.new.self s ok.end c.forms_reply.result logs c.requires.rest.rest (ap (λ (y : Session). y.state) m.ensures.same ∙ ok.ensures.state) c.forms_reply.ensures
+    let logs = request_logs t old m.new.self _ n.new.seat c.session-session.result ok.place n.result (λ (w : Who) journal e. FormsAs w old.state.state s journal e ok.end) c.session-session.ensures n.ensures.turns ok.ensures.gives m.ensures.same m.ensures.lines in
+    forms_out t old m.new.self s ok.end c.forms_reply.result logs c.requires.rest.rest (ap (λ (y : Session). y.state) m.ensures.same ∙ ok.ensures.becomes.1) c.forms_reply.ensures
 
 pub returns-clause-stops : goal.returns-clause-stops
 returns-clause-stops g c =
     let t = c.args.turn.now in
     let old = c.args.self.now in
     let s = c.args.statement.now in
-    let n = c.change_forms_now in
+    let n = c.hold in
     let ok = c.in_ok-place in
     let m = c.put_line in
-    let logs = seat_logs t old m.new.self n.new.state n.new.seat ok.place (λ journal e. FormsAs (next_who old) old.state.state s journal e ok.end) (rw c.session-session.ensures at n.ensures.rests) ok.ensures.place (rw c.session-session.ensures at ok.ensures.decides) m.ensures.same m.ensures.lines in
-    or_err c.forms_reply.result (forms_stop t old m.new.self s ok.end logs (ap (λ (y : Session). y.state) m.ensures.same ∙ ok.ensures.state))
+    let logs = request_logs t old m.new.self _ n.new.seat c.session-session.result ok.place n.result (λ (w : Who) journal e. FormsAs w old.state.state s journal e ok.end) c.session-session.ensures n.ensures.turns ok.ensures.gives m.ensures.same m.ensures.lines in
+    or_err c.forms_reply.result (forms_stop t old m.new.self s ok.end logs (ap (λ (y : Session). y.state) m.ensures.same ∙ ok.ensures.becomes.1))

@@ -3,7 +3,7 @@ use Rattle.qc_model.specs.Machine.{ended_with}
 use Rattle.qc_model.specs.Session.{with_transaction}
 use Rattle.qc_sql.specs.Packets.{packets}
 use Rattle.qc_trx.specs.SnapshotStates.{SnapshotState}
-use Rattle.qc_replies.proofs.Calls.{if_ok}
+use Rattle.qc_statements.proofs.Calls.{if_ok}
 use Rattle.qc_serve.specs.Ends.{ended_reply}
 use Rattle.qc_serve.specs.Going.{GivesOut, IsGivenBy, next_who}
 use Rattle.qc_serve.proofs.Meeting.{ends_fit}

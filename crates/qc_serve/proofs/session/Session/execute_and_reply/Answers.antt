@@ -3,8 +3,8 @@ use Rattle.qc_sql.specs.declared.commands.Command.TheVariants as sent
 use Rattle.qc_serve.specs.Going.{DoesStatement}
 use Rattle.qc_serve.specs.declared.session.Session.{Session}
 use Rattle.qc_serve.proofs.Breaking.{on_errs, put_failed, stopped}
-use Rattle.qc_serve.proofs.Parsing.{by_result, does_replies, dropped_other, means_other, on_oks, replied_other, stopped_other}
-use Rattle.qc_serve.proofs.PiecesPut.{put_text}
+use Rattle.qc_serve.proofs.Parsing.{by_result, does_replies, dropped_other, means_other, on_all, replied_other, stopped_other}
+use Rattle.qc_serve.proofs.PiecesPut.{put_text, size_text}
 use Rattle.qc_serve.proofs.Resting.{or_err}
 use Rattle.qc_serve.proofs.session.Session.execute_and_reply.Goals as goal
 
@@ -21,9 +21,10 @@ returns-clause-replied g c = λ text means.
     let mid = c.execute_statement.new.self in
     let n = c.send_reply in
     let does : DoesStatement t c.args.statement.now old mid c.bytes.result.now = subst (λ (b : List ℕ). DoesStatement t c.args.statement.now old mid b) (sym c.bytes.ensures) c.in_ok-reply.ensures.does in
-    on_oks n.result
-    (λ same sends. does_replies t (sent.Query text) old mid n.new.self c.bytes.result.now (g.K.ReplySink.held c.args.sink.now) (g.K.ReplySink.held n.new.sink) (does text means)
-    (put_text t text old mid c.bytes.result.now (does text means) (means_other text old.state.state.ansi c.args.statement.now means c.requires.other)) same sends) n.ensures.same n.ensures.sends
+    on_all n.result
+    (λ same sends some. does_replies t (sent.Query text) old mid n.new.self c.bytes.result.now (g.K.ReplySink.held c.args.sink.now) (g.K.ReplySink.held n.new.sink) (does text means)
+    (put_text t text old mid c.bytes.result.now (does text means) (means_other text old.state.state.ansi c.args.statement.now means c.requires.other))
+    (size_text t text old mid c.bytes.result.now (does text means) (means_other text old.state.state.ansi c.args.statement.now means c.requires.other)) n.ensures.cut same sends some) n.ensures.same n.ensures.sends n.ensures.some
 
 pub returns-clause-ends : goal.returns-clause-ends
 returns-clause-ends g c = λ text means.
@@ -32,7 +33,9 @@ returns-clause-ends g c = λ text means.
     let mid = c.execute_statement.new.self in
     let n = c.send_reply in
     let does : DoesStatement t c.args.statement.now old mid c.bytes.result.now = subst (λ (b : List ℕ). DoesStatement t c.args.statement.now old mid b) (sym c.bytes.ensures) c.in_ok-reply.ensures.does in
-    on_errs n.result (λ log front. put_failed t (sent.Query text) old mid n.new.self c.bytes.result.now (g.K.ReplySink.held c.args.sink.now) (g.K.ReplySink.held n.new.sink) (does text means) log front) n.ensures.log n.ensures.front
+    on_errs n.result (λ log front. put_failed t (sent.Query text) old mid n.new.self c.bytes.result.now (g.K.ReplySink.held c.args.sink.now) (g.K.ReplySink.held n.new.sink) (does text means)
+    (put_text t text old mid c.bytes.result.now (does text means) (means_other text old.state.state.ansi c.args.statement.now means c.requires.other))
+    (size_text t text old mid c.bytes.result.now (does text means) (means_other text old.state.state.ansi c.args.statement.now means c.requires.other)) log front n.ensures.cut) n.ensures.log n.ensures.front
 
 pub returns-clause-no_hit : goal.returns-clause-no_hit
 returns-clause-no_hit g c = λ text l means lines how_is.

@@ -1,11 +1,11 @@
 use Rattle.std.proofs.Common.{◌≡◌, List, ℕ, None, true, rules}
-use Rattle.qc_steps.specs.Statements.{changes_rows}
+use Rattle.qc_statements.specs.Statements.{changes_rows}
 use Rattle.qc_sql.specs.declared.statements.Statement.TheVariants as statement
 use Rattle.qc_types.specs.declared.totals.Totals.{Totals}
 use Rattle.qc_model.specs.declared.events.Event.TheVariants as event
 use Rattle.qc_model.specs.Machine.{begun, changed_form, ended_with, ok_reply, other, used}
 use Rattle.qc_model.specs.Session.{with_transaction}
-use Rattle.qc_replies.proofs.Calls.{if_ok}
+use Rattle.qc_statements.proofs.Calls.{if_ok}
 use Rattle.qc_serve.specs.Going.{DoesStatement, GivesOut, event_given, next_who, rows_given, status_given}
 use Rattle.qc_serve.proofs.Executing.{begin_does, begin_stops, commit_does, commit_stops, flush_does, forms_does, forms_stops, left_changes_tables, reset_does, rollback_does, rows_does, rows_stops, status_does, status_stops, tables_does, use_db_stops, use_does, without_stops}
 use Rattle.qc_serve.proofs.Resting.{on_err}
@@ -43,21 +43,21 @@ pub returns-in-FlushCache-clause-does : goal.returns-in-FlushCache-clause-does
 returns-in-FlushCache-clause-does g c =
     let t = c.args.turn.now in
     let old = c.args.self.now in
-    let n = c.flush_cache in
+    let n = c.log_ok in
     rw c.in-FlushCache.is (if_ok (λ (bytes : List ℕ). GivesOut t old n.new.self bytes (λ journal. event_given (event.Flush (next_who old)) old.state.state)) (DoesStatement t (statement.FlushCache) old n.new.self) (flush_does t old n.new.self) n.result n.ensures.gives)
 
 pub returns-in-FlushTables-clause-does : goal.returns-in-FlushTables-clause-does
 returns-in-FlushTables-clause-does g c =
     let t = c.args.turn.now in
     let old = c.args.self.now in
-    let n = c.reset_cache in
+    let n = c.log_ok-in-FlushTables in
     rw c.in-FlushTables.is (if_ok (λ (bytes : List ℕ). GivesOut t old n.new.self bytes (λ journal. event_given (event.Reset (next_who old)) old.state.state)) (DoesStatement t (statement.FlushTables) old n.new.self) (tables_does t old n.new.self) n.result n.ensures.gives)
 
 pub returns-in-ResetCache-clause-does : goal.returns-in-ResetCache-clause-does
 returns-in-ResetCache-clause-does g c =
     let t = c.args.turn.now in
     let old = c.args.self.now in
-    let n = c.reset_cache-in-ResetCache in
+    let n = c.log_ok-in-ResetCache in
     rw c.in-ResetCache.is (if_ok (λ (bytes : List ℕ). GivesOut t old n.new.self bytes (λ journal. event_given (event.Reset (next_who old)) old.state.state)) (DoesStatement t (statement.ResetCache) old n.new.self) (reset_does t old n.new.self) n.result n.ensures.gives)
 
 pub returns-in-ShowStatus-clause-does : goal.returns-in-ShowStatus-clause-does
@@ -139,21 +139,21 @@ pub returns-in-FlushCache-clause-stops : goal.returns-in-FlushCache-clause-stops
 returns-in-FlushCache-clause-stops g c =
     let t = c.args.turn.now in
     let old = c.args.self.now in
-    let n = c.flush_cache in
+    let n = c.log_ok in
     rw c.in-FlushCache.is (on_err n.result (without_stops t statement.FlushCache old n.new.self) n.ensures.stops)
 
 pub returns-in-FlushTables-clause-stops : goal.returns-in-FlushTables-clause-stops
 returns-in-FlushTables-clause-stops g c =
     let t = c.args.turn.now in
     let old = c.args.self.now in
-    let n = c.reset_cache in
+    let n = c.log_ok-in-FlushTables in
     rw c.in-FlushTables.is (on_err n.result (without_stops t statement.FlushTables old n.new.self) n.ensures.stops)
 
 pub returns-in-ResetCache-clause-stops : goal.returns-in-ResetCache-clause-stops
 returns-in-ResetCache-clause-stops g c =
     let t = c.args.turn.now in
     let old = c.args.self.now in
-    let n = c.reset_cache-in-ResetCache in
+    let n = c.log_ok-in-ResetCache in
     rw c.in-ResetCache.is (on_err n.result (without_stops t statement.ResetCache old n.new.self) n.ensures.stops)
 
 pub returns-in_default-clause-stops : goal.returns-in_default-clause-stops

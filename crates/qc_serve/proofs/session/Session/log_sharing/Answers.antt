@@ -1,18 +1,18 @@
 use Rattle.std.proofs.Common.{refl}
-use Rattle.qc_serve.specs.Going.{next_who}
-use Rattle.qc_serve.proofs.Resting.{none_stops, or_err, seat_logs}
+use Rattle.qc_model.specs.declared.events.Who.{Who}
+use Rattle.qc_serve.proofs.Resting.{or_err, request_logs, request_stops}
 use Rattle.qc_serve.proofs.Using.{IsShared}
 use Rattle.qc_serve.proofs.session.Session.log_sharing.Goals as goal
 
 pub returns-clause-logs : goal.returns-clause-logs
 returns-clause-logs g c =
     let old = c.args.self.now in
-    let n = c.note_sharing in
+    let n = c.hold in
     let ok = c.in_ok-place in
-    seat_logs c.args.turn.now old c.put_line.new.self old.state n.new.seat ok.place (IsShared (next_who old) ok.database) (rw c.session-session.ensures at n.ensures.rests) ok.ensures.place (rw c.session-session.ensures at ok.ensures.decides) c.put_line.ensures.same c.put_line.ensures.lines
+    request_logs c.args.turn.now old c.put_line.new.self old.state n.new.seat c.session-session.result ok.place n.result (λ (w : Who). IsShared w ok.database) c.session-session.ensures n.ensures.turns ok.ensures.gives c.put_line.ensures.same c.put_line.ensures.lines
 
 pub returns-in_err-place-clause-stops : goal.returns-in_err-place-clause-stops
 returns-in_err-place-clause-stops g c =
     let old = c.args.self.now in
-    let n = c.note_sharing in
-    or_err _ (none_stops c.args.turn.now old (record old { seat = n.new.seat }) (rw c.session-session.ensures at n.ensures.rests) (rw c.session-session.ensures at c.in_err-place.ensures.none) refl refl refl)
+    let n = c.hold in
+    or_err _ (request_stops c.args.turn.now old (record old { seat = n.new.seat }) c.session-session.result n.result c.session-session.ensures n.ensures.turns c.in_err-place.ensures.none refl refl refl)

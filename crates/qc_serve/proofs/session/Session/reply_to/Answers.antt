@@ -1,6 +1,6 @@
 use Rattle.std.proofs.Common.{sym, subst}
 use Rattle.qc_model.specs.Machine.{ok_reply, refused, used}
-use Rattle.qc_replies.proofs.Calls.{if_ok}
+use Rattle.qc_statements.proofs.Calls.{if_ok}
 use Rattle.qc_sql.specs.declared.commands.Command.{Command}
 use Rattle.qc_sql.specs.Errors.{unknown_command}
 use Rattle.qc_serve.specs.Going.{DoesOne, GivesOut, IsEventOf, Stops, TellsOut, next_who}

@@ -2,7 +2,7 @@ use Rattle.std.proofs.Common.{List, ℕ, None, refl, ap}
 use Rattle.qc_model.specs.Machine.{ok_reply, other}
 use Rattle.qc_model.specs.Session.{with_transaction}
 use Rattle.qc_trx.specs.SnapshotStates.{SnapshotState}
-use Rattle.qc_replies.proofs.Calls.{if_ok}
+use Rattle.qc_statements.proofs.Calls.{if_ok}
 use Rattle.qc_serve.specs.Going.{GivesOut, next_who}
 use Rattle.qc_serve.proofs.Resting.{moved_stops, on_err}
 use Rattle.qc_serve.proofs.Transacting.{rollback_gives, rollback_may}

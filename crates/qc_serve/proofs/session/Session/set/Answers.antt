@@ -2,7 +2,7 @@ use Rattle.std.proofs.Common.{List, ℕ, sym, ◌∙◌}
 use Rattle.qc_sql.specs.declared.statements.Statement.TheVariants as statement
 use Rattle.qc_model.specs.Machine.{set_autocommit}
 use Rattle.qc_model.specs.Settings.{set_to}
-use Rattle.qc_replies.proofs.Calls.{if_ok}
+use Rattle.qc_statements.proofs.Calls.{if_ok}
 use Rattle.qc_serve.specs.Going.{DoesStatement, GivesOut, SetsOther, next_who}
 use Rattle.qc_serve.proofs.Executing.{autocommit_does, autocommit_stops, set_does, without_stops}
 use Rattle.qc_serve.proofs.Resting.{on_err}

@@ -3,9 +3,9 @@ use Rattle.std.specs.Prelude.{◌&&◌, not, unwrap_or}
 use Rattle.qc_sql.specs.declared.session.Flags.{Flags}
 use Rattle.qc_model.specs.Machine.{ok_reply, other, refused, set_autocommit}
 use Rattle.qc_model.specs.Settings.{set_to}
-use Rattle.qc_steps.specs.Statements.{switched}
+use Rattle.qc_statements.specs.Statements.{switched}
 use Rattle.qc_trx.specs.SnapshotStates.{SnapshotState}
-use Rattle.qc_replies.proofs.Calls.{if_ok}
+use Rattle.qc_statements.proofs.Calls.{if_ok}
 use Rattle.qc_serve.specs.Going.{GivesOut, IsGivenBy, StopsWithout, next_who}
 use Rattle.qc_serve.proofs.Autocommit.{off_left, off_right, on_sets}
 use Rattle.qc_serve.proofs.Resting.{moved_stops, on_err, stops_without}

@@ -1,6 +1,6 @@
 use Rattle.std.proofs.Common.{List, ℕ}
 use Rattle.qc_model.specs.Machine.{ok_reply, refused}
-use Rattle.qc_replies.proofs.Calls.{if_ok}
+use Rattle.qc_statements.proofs.Calls.{if_ok}
 use Rattle.qc_serve.specs.Going.{SetsOther, TellsOut}
 use Rattle.qc_serve.proofs.Transacting.{set_may, set_tells, unset_tells}
 use Rattle.qc_serve.proofs.session.Session.set_other.Goals as goal
