@@ -8,23 +8,23 @@ use Rattle.qc_turn.specs.declared.view.MetSeat.{MetSeat}
 use Rattle.qc_turn.specs.Seats.{IsSeatOf, view}
 use Rattle.qc_turn.specs.Views.{AllMet}
 use Rattle.qc_core.specs.contracts.server.ServerKept.TheImpl.{ghosts}
-use Rattle.qc_core.specs.declared.parts.Parts.{Parts}
+use Rattle.qc_core.specs.declared.server_state.ServerState.{ServerState}
 use Rattle.qc_serve.specs.declared.session.Session.{Session}
 use Rattle.qc_serve.specs.Going.{IsAtRest, as_fixed}
 use Rattle.qc_serve.specs.Leaving.{IsApart}
 
 -- the first seat
-pub record IsFirst (t : Turn Parts Event) (o : Options) (s : Seat Parts Event ghosts) : Type 0 where
+pub record IsFirst (t : Turn ServerState Event) (o : Options) (s : Seat ServerState Event ghosts) : Type 0 where
   pub seated : IsSeatOf t s
   pub number : (view s).number ≡ 1
   pub fixed : (view s).fixed ≡ as_fixed o
 
 -- a session that goes on, or a seat that was refused one
-abbrev pub IsOther : Turn Parts Event → Result Session (Seat Parts Event ghosts) → Type 0
+abbrev pub IsOther : Turn ServerState Event → Result Session (Seat ServerState Event ghosts) → Type 0
 IsOther t r = MatchResult r (λ s. IsAtRest t s × (s.end ≡ None)) (λ seat. IsApart t seat)
 
 -- the number of its seat
-abbrev pub other_number : Result Session (Seat Parts Event ghosts) → ℕ
+abbrev pub other_number : Result Session (Seat ServerState Event ghosts) → ℕ
 other_number (Ok s) = (view s.seat).number
 other_number (Err seat) = (view seat).number
 

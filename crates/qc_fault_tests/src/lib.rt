@@ -4,6 +4,8 @@
 #[cfg(test)]
 mod answers;
 #[cfg(test)]
+mod counted;
+#[cfg(test)]
 mod crowd;
 #[cfg(test)]
 mod cuts;
